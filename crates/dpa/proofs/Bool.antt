@@ -1,0 +1,76 @@
+-- Laws of tests and of choices by a test.
+use mathlib.Core.Path.{_≡_, refl, sym}
+use mathlib.Core.Bool.{Bool, true, false, cond, _&&_, Bool·beq}
+use Prim.Native.Nat.{ℕ, zero, suc, _+_, _<_}
+use native.Mathlib.Omega.{arith}
+use native.Mathlib.Numerals.{add-one}
+use lib.Dec.{eqb}
+use borrow.Author.Tests.{eqb-true, eqb-false}
+use Rattle.dpa.specs.Lists.{allBelow}
+
+pub and-left : (a b : Bool) → (a && b) ≡ true → a ≡ true
+and-left true b e = refl
+and-left false b e = e
+
+pub and-right : (a b : Bool) → (a && b) ≡ true → b ≡ true
+and-right true b e = e
+and-right false b e = cc
+
+pub both : {a b : Bool} → a ≡ true → b ≡ true → (a && b) ≡ true
+both p q = rw (p, q)
+
+pub not-both : (a b : Bool) → b ≡ false → (a && b) ≡ false
+not-both true b e = e
+not-both false b e = refl
+
+-- not true is false
+pub is-false : (b : Bool) → (b ≡ true → ⊥) → b ≡ false
+is-false true h = absurd (h refl)
+is-false false h = refl
+
+pub beq-eq : (a b : Bool) → Bool·beq a b ≡ true → a ≡ b
+beq-eq true true e = refl
+beq-eq true false e = sym e
+beq-eq false true e = e
+beq-eq false false e = refl
+
+-- what holds of x where the test passes and of y where it fails holds of `cond b x y`
+pub by-cond : {A : Type 0} (P : A → Type 0) (b : Bool) (x y : A) → (b ≡ true → P x) → (b ≡ false → P y) → P (cond b x y)
+by-cond P true x y f g = f refl
+by-cond P false x y f g = g refl
+
+pub by-test : {R : Type 0} (b : Bool) → (b ≡ true → R) → (b ≡ false → R) → R
+by-test true f g = f refl
+by-test false f g = g refl
+
+-- a choice that came out as no k is the other side
+pub second-taken : (b : Bool) (k m n : ℕ) → (k ≡ n → ⊥) → cond b k m ≡ n → (b ≡ false) × (m ≡ n)
+second-taken true k m n h e = absurd (h e)
+second-taken false k m n h e = (refl, e)
+
+pub first-taken : (b : Bool) (k m n : ℕ) → (m ≡ n → ⊥) → cond b k m ≡ n → (b ≡ true) × (k ≡ n)
+first-taken true k m n h e = (refl, e)
+first-taken false k m n h e = absurd (h e)
+
+-- `allBelow`
+
+pub all-step : (i : ℕ) (f : ℕ → Bool) → allBelow i f ≡ true → f i ≡ true → allBelow (i + 1) f ≡ true
+unfolding allBelow
+all-step i f p q = rw add-one (both p q)
+
+pub all-intro : (n : ℕ) (f : ℕ → Bool) → ((k : ℕ) → k < n → f k ≡ true) → allBelow n f ≡ true
+unfolding allBelow
+all-intro zero f h = refl
+all-intro (suc n) f h = both (all-intro n f (λ k l. h k (omega arith))) (h n (omega arith))
+
+last-or : (n k : ℕ) (f : ℕ → Bool) (b : Bool) → eqb k n ≡ b → k < suc n → f n ≡ true → (k < n → f k ≡ true) → f k ≡ true
+last-or n k f true e l p h = rw (eqb-true k n e) p
+last-or n k f false e l p h = h (omega (arith, eqb-false k n e))
+
+pub all-elim : (n : ℕ) (f : ℕ → Bool) → allBelow n f ≡ true → (k : ℕ) → k < n → f k ≡ true
+unfolding allBelow
+all-elim zero f h k l = absurd (omega arith)
+all-elim (suc n) f h k l = last-or n k f (eqb k n) refl l (and-right (allBelow n f) _ h) (all-elim n f (and-left _ _ h) k)
+
+pub all-fails : (n : ℕ) (f : ℕ → Bool) (k : ℕ) → k < n → f k ≡ false → allBelow n f ≡ false
+all-fails n f k l e = is-false (allBelow n f) (λ p. let q : f k ≡ true = all-elim n f p k l in let z : _≡_ {A = ℕ} 0 1 = cc in omega arith)

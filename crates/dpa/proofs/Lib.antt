@@ -1,0 +1,6 @@
+pub mod Bool
+pub mod Lists
+pub mod Numbers
+pub mod Ranges
+pub mod Headers
+pub mod Serving

@@ -1,0 +1,48 @@
+-- Laws of lists of bytes: fronts of buffers, and rear parts lent on.
+use mathlib.Core.Path.{_≡_, refl, sym, ap, _∙_}
+use mathlib.Core.List.{List, [], _∷_, _++_, append-nil, append-assoc}
+use Prim.Native.Nat.{ℕ, _+_, _-_, _≤_, _<_}
+use native.Mathlib.Omega.{arith}
+use lib.ListN.{length, take, drop, set, length-append, length-drop, take-append-drop, drop-of-length-le}
+use lib.Seq.{sets, sets-eq, take-all, drop-at, drop-drop, drop-set-lt, length-take-le}
+use borrow.Rule.Slice.PartMut.{midOf, postOf, putMid}
+use Rattle.dpa.specs.Lists.{over}
+
+-- a part up to the end
+pub to-end : {A : Type 0} (a : ℕ) (s : List A) → take (length s - a) (drop a s) ≡ drop a s
+to-end a s = take-all (length s - a) (drop a s) (simp length-drop (omega arith))
+
+-- stores at the front of a buffer
+pub front : (vs l : List ℕ) → length vs ≤ length l → sets l 0 vs ≡ over vs l
+front vs l h = rw (sets-eq vs l 0 (omega arith), zero-add)
+  where
+    zero-add : (n : ℕ) → 0 + n ≡ n
+    zero-add n = omega arith
+
+pub set-first : (xs : List ℕ) (v : ℕ) → 0 < length xs → set xs 0 v ≡ over (v ∷ []) xs
+set-first [] v h = absurd (omega arith)
+set-first (x ∷ xs) v h = refl
+
+-- a store in front of what is kept
+pub kept-more : (out old : List ℕ) (k r : ℕ) → drop k out ≡ drop k old → drop (k + 1) (set out k r) ≡ drop (k + 1) old
+kept-more out old k r e =
+    let u : k < k + 1 = omega arith in
+    drop-set-lt (k + 1) out k r u ∙ sym (drop-drop 1 k out) ∙ ap (drop 1) e ∙ drop-drop 1 k old
+
+-- a buffer whose first k bytes are xs and whose later ones stayed
+pub over-done : (xs out old : List ℕ) (k : ℕ) → k ≤ length out → xs ≡ take k out → drop k out ≡ drop k old → out ≡ over xs old
+over-done xs out old k h e d = rw (e, length-take-le k out h, ← d) (sym (take-append-drop k out))
+
+-- the rear part of a buffer as it is lent on, and as it comes back
+pub rear-lent : (a : ℕ) (xs : List ℕ) → midOf a (length xs - a) xs ≡ drop a xs
+rear-lent a xs = to-end a xs
+
+pub rear-back : (a : ℕ) (xs ys : List ℕ) → a ≤ length xs → drop a (putMid a (length xs - a) xs ys) ≡ ys
+rear-back a xs ys h =
+    let j : length (drop a xs) ≤ length xs - a = rw length-drop (omega arith) in
+    drop-at (take a xs) (ys ++ postOf a (length xs - a) xs) a (length-take-le a xs h)
+    ∙ ap (λ (z : List ℕ). ys ++ z) (drop-of-length-le (drop a xs) j) ∙ append-nil ys
+
+-- a header in front of data that was written into the rear part
+pub header-over : (h d o : List ℕ) → over (h ++ d) o ≡ h ++ over d (drop (length h) o)
+header-over h d o = rw (append-assoc, length-append, drop-drop)

@@ -1,0 +1,19 @@
+-- Laws of two-byte numbers.
+use mathlib.Core.Path.{_≡_}
+use Prim.Native.Nat.{ℕ, _<_}
+use native.Mathlib.Omega.{arith}
+use Rattle.dpa.specs.Number.{low, high, word}
+
+-- a number's two bytes make it again
+pub word-split : (x : ℕ) → word (low x) (high x) ≡ x
+word-split x = omega arith
+
+-- the two bytes of a number made of two bytes
+pub low-word : (a b : ℕ) → a < 256 → low (word a b) ≡ a
+low-word a b h = omega arith
+
+pub high-word : (a b : ℕ) → a < 256 → high (word a b) ≡ b
+high-word a b h = omega arith
+
+pub word-max : (a b : ℕ) → a < 256 → b < 256 → word a b < 65536
+word-max a b h k = omega arith

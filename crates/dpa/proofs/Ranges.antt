@@ -1,0 +1,54 @@
+-- Laws of the settings' ranges.
+use mathlib.Core.Path.{_≡_, refl, sym, _∙_}
+use mathlib.Core.Bool.{Bool, true, not, _&&_, Bool·beq}
+use Prim.Native.Nat.{ℕ, _%_, _≤_, _<_}
+use native.Mathlib.Omega.{arith}
+use lib.Dec.{leb, eqb}
+use borrow.Author.Tests.{leb-true, le-leb, eqb-true, eqb-false, not-true}
+use Rattle.dpa.specs.declared.settings.Settings.{Settings}
+use Rattle.dpa.specs.Lists.{allBelow}
+use Rattle.dpa.specs.Settings.{stepOk, settingsOk, SettingsRule}
+use Rattle.dpa.proofs.Bool.{and-left, and-right, both, beq-eq, all-elim}
+
+sameStep : ℕ → Bool
+sameStep s = Bool·beq (stepOk s) (not (eqb s 0) && eqb (100 % s) 0)
+
+-- the dimming steps are the divisors of 100, by a test of every byte
+pub step-divides : (s : ℕ) → s < 256 → stepOk s ≡ (not (eqb s 0) && eqb (100 % s) 0)
+unfolding sameStep stepOk allBelow
+step-divides s l = beq-eq _ _ (all-elim 256 sameStep refl s l)
+
+pub step-pos : (s : ℕ) → s < 256 → stepOk s ≡ true → 1 ≤ s
+step-pos s l e = omega (arith, eqb-false s 0 (not-true (eqb s 0) (and-left (not (eqb s 0)) (eqb (100 % s) 0) (sym (step-divides s l) ∙ e))))
+
+pub step-rem : (s : ℕ) → s < 256 → stepOk s ≡ true → 100 % s ≡ 0
+step-rem s l e = eqb-true _ _ (and-right (not (eqb s 0)) _ (sym (step-divides s l) ∙ e))
+
+module _ (s : Settings) (e : settingsOk s ≡ true) where
+  first-four : (leb 1 (s .address) && leb (s .address) 239 && leb 1 (s .«lamp_count») && leb (s .«lamp_count») 32) ≡ true
+  unfolding settingsOk
+  first-four = and-left _ (stepOk (s .step)) e
+
+  first-three : (leb 1 (s .address) && leb (s .address) 239 && leb 1 (s .«lamp_count»)) ≡ true
+  first-three = and-left _ (leb (s .«lamp_count») 32) first-four
+
+  first-two : (leb 1 (s .address) && leb (s .address) 239) ≡ true
+  first-two = and-left _ (leb 1 (s .«lamp_count»)) first-three
+
+  pub settings-facts : SettingsRule s
+  unfolding settingsOk
+  settings-facts =
+      record {
+        address-min = leb-true _ _ (and-left _ (leb (s .address) 239) first-two);
+        address-max = leb-true _ _ (and-right (leb 1 (s .address)) _ first-two);
+        count-min = leb-true _ _ (and-right (leb 1 (s .address) && leb (s .address) 239) _ first-three);
+        count-max = leb-true _ _ (and-right (leb 1 (s .address) && leb (s .address) 239 && leb 1 (s .«lamp_count»)) _ first-four);
+        step-valid =
+            and-right (leb 1 (s .address) && leb (s .address) 239 && leb 1 (s .«lamp_count») && leb (s .«lamp_count») 32) _ e;
+      }
+
+pub settings-test : (s : Settings) → SettingsRule s → settingsOk s ≡ true
+unfolding settingsOk
+settings-test s r =
+    both (both (both (both (le-leb _ _ (r .address-min)) (le-leb _ _ (r .address-max))) (le-leb _ _ (r .count-min))) (le-leb _ _ (r .count-max)))
+    (r .step-valid)

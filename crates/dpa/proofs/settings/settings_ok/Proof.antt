@@ -1,0 +1,42 @@
+use borrow.Author.Needs.{needs}
+use borrow.Author.Tests.{le-leb, lt-leb}
+use Rattle.dpa.specs.Settings.{settingsOk}
+use Rattle.dpa.proofs.settings.settings_ok.Statement.{statement}
+use Rattle.dpa.proofs.settings.settings_ok.Tie as tie
+use Rattle.dpa.proofs.settings.settings_ok.Reads as reads
+use Rattle.dpa.proofs.settings.settings_ok.Lts as lts
+use Rattle.dpa.proofs.settings.step_ok.Reads as step-ok-reads
+
+returns : tie.Need-returns
+unfolding settingsOk
+returns c = simp (lt-leb _ _ (c .if1 .taken))
+
+returns-2 : tie.Need-returns-2
+unfolding settingsOk
+returns-2 c = simp (le-leb _ _ (c .before .before .if1 .left), lt-leb _ _ (c .if2 .taken))
+
+returns-3 : tie.Need-returns-3
+unfolding settingsOk
+returns-3 c = simp (le-leb _ _ (c .before .before .before .before .if1 .left), le-leb _ _ (c .before .before .if2 .left), lt-leb _ _ (c .if3 .taken))
+
+returns-4 : tie.Need-returns-4
+unfolding settingsOk
+returns-4 c = simp (le-leb _ _ (c .before .before .before .before .before .before .if1 .left), le-leb _ _ (c .before .before .before .before .if2 .left), le-leb _ _ (c .before .before .if3 .left), lt-leb _ _ (c .if4 .taken))
+
+step-ok-requires : tie.Need-step-ok-requires
+step-ok-requires c κs = search needs
+
+returns-5 : tie.Need-returns-5
+unfolding settingsOk
+returns-5 c =
+    simp (
+      le-leb _ _ (c .before .before .before .before .before .before .before .if1 .left),
+      le-leb _ _ (c .before .before .before .before .before .if2 .left),
+      le-leb _ _ (c .before .before .before .if3 .left),
+      le-leb _ _ (c .before .if4 .left),
+    )
+    (c .step-ok .ensures)
+
+pub settings-ok-spec : {M : Type 1} → statement M
+settings-ok-spec =
+    tie.close (tie.spec returns returns-2 returns-3 returns-4 step-ok-requires returns-5)

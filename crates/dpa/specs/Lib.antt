@@ -1,0 +1,5 @@
+pub mod Number
+pub mod Lists
+pub mod Settings
+pub mod Frame
+pub mod Served

@@ -1,0 +1,22 @@
+-- Lists of bytes, and tests over an index.
+use Prim.Native.Nat.{ℕ, zero, suc, _<_}
+use mathlib.Core.List.{List, _++_}
+use mathlib.Core.Bool.{Bool, true, _&&_}
+use lib.ListN.{length, take, drop, getD}
+
+-- xs at the front of ys; the later bytes of ys stay
+abbrev pub over : List ℕ → List ℕ → List ℕ
+over xs ys = xs ++ drop (length xs) ys
+
+-- n bytes of a list from a start
+abbrev pub part : List ℕ → ℕ → ℕ → List ℕ
+part xs start n = take n (drop start xs)
+
+-- every element is a byte
+abbrev pub Bytes : List ℕ → Type 0
+Bytes s = (i : ℕ) → getD s i 0 < 256
+
+-- the test holds at every number below n
+unfoldable pub allBelow : ℕ → (ℕ → Bool) → Bool
+allBelow zero f = true
+allBelow (suc n) f = allBelow n f && f n

@@ -1,0 +1,23 @@
+-- Document 01, "Node and lamps": the settings and their ranges.
+use Prim.Native.Nat.{ℕ, _≤_}
+use mathlib.Core.Path.{_≡_}
+use mathlib.Core.Bool.{Bool, true, _&&_, _||_}
+use lib.Dec.{leb, eqb}
+use Rattle.dpa.specs.declared.settings.Settings.{Settings}
+
+-- the dimming steps
+unfoldable pub stepOk : ℕ → Bool
+stepOk s = eqb s 1 || eqb s 2 || eqb s 4 || eqb s 5 || eqb s 10 || eqb s 20 || eqb s 25 || eqb s 50 || eqb s 100
+
+-- address 1 to 239, lamp count 1 to 32, a dimming step; HWPID and DpaValue are any
+unfoldable pub settingsOk : Settings → Bool
+settingsOk s =
+    leb 1 (s .address) && leb (s .address) 239 && leb 1 (s .«lamp_count») && leb (s .«lamp_count») 32 && stepOk (s .step)
+
+-- the same ranges as facts (proofs/Ranges: `settings-facts`, `settings-test`)
+pub record SettingsRule (s : Settings) : Type 0 where
+  pub address-min : 1 ≤ s .address
+  pub address-max : s .address ≤ 239
+  pub count-min : 1 ≤ s .«lamp_count»
+  pub count-max : s .«lamp_count» ≤ 32
+  pub step-valid : stepOk (s .step) ≡ true

@@ -1,0 +1,84 @@
+// A frame's fixed fields; PData follows them. Requests and responses share the first six bytes.
+use crate::number::word_of;
+use crate::settings::Settings;
+ghost use mathlib.Core.Path.{_≡_};
+ghost use mathlib.Core.List.{_++_};
+ghost use Prim.Native.Nat.{_≤_};
+ghost use lib.ListN.{length, drop};
+ghost use Rattle.dpa.specs.Frame.{headerSize, responseHeaderSize, frame, headerBytes, headerOf, frameFits, responseHeader};
+
+pub struct Frame {
+    pub nadr: u16,
+    pub pnum: u8,
+    pub pcmd: u8,
+    pub hwpid: u16,
+}
+
+impl Frame {
+    pub const HEADER: usize = 6;
+
+    pub const PDATA_MAX: usize = 56;
+
+    pub const LONGEST: usize = Frame::HEADER + Frame::PDATA_MAX;
+
+    pub const RESPONSE_HEADER: usize = 8;
+
+    pub const RESPONSE_LONGEST: usize = Frame::RESPONSE_HEADER + Frame::PDATA_MAX;
+
+    pub const BROADCAST: u16 = 0x00FF;
+
+    pub const ANY_HWPID: u16 = 0xFFFF;
+
+    // The header's bytes.
+    pub fn header(nadr: u16, pnum: u8, pcmd: u8, hwpid: u16) -> [u8; Frame::HEADER]
+        ensures { λ r. ⌜ r ≡ headerBytes (frame nadr pnum pcmd hwpid) ⌝ }
+    {
+        [
+            (nadr % 256) as u8,
+            (nadr / 256) as u8,
+            pnum,
+            pcmd,
+            (hwpid % 256) as u8,
+            (hwpid / 256) as u8,
+        ]
+    }
+
+    // The header that a list of bytes starts with.
+    pub fn read(s: &[u8]) -> Frame
+        requires { ⌜ headerSize ≤ length (now s) ⌝ }
+        ensures { λ r. ⌜ r ≡ headerOf (now (s .entry)) ⌝ }
+    {
+        Frame {
+            nadr: word_of(s[0], s[1]),
+            pnum: s[2],
+            pcmd: s[3],
+            hwpid: word_of(s[4], s[5]),
+        }
+    }
+
+    // Whether a frame of n bytes is neither too short nor too long.
+    pub fn fits(n: usize) -> bool
+        ensures { λ r. ⌜ r ≡ frameFits n ⌝ }
+    {
+        if n < Self::HEADER {
+            return false;
+        }
+        n <= Self::LONGEST
+    }
+}
+
+// The eight header bytes of a response, at the front of its buffer.
+pub fn write_header(response: &mut [u8], settings: Settings, pnum: u8, pcmd: u8, error: u8)
+    requires { ⌜ responseHeaderSize ≤ length (now response) ⌝ }
+    ensures { λ _. ⌜ now (response .exit) ≡ responseHeader settings pnum pcmd error ++ drop responseHeaderSize (now (response .entry)) ⌝ }
+{
+    let h = Frame::header(settings.address, pnum, pcmd % 128 + 128, settings.hwpid);
+    response[0] = h[0];
+    response[1] = h[1];
+    response[2] = h[2];
+    response[3] = h[3];
+    response[4] = h[4];
+    response[5] = h[5];
+    response[6] = error;
+    response[7] = settings.dpa_value;
+}

@@ -1,0 +1,40 @@
+// What a node is started with.
+ghost use mathlib.Core.Path.{_≡_};
+ghost use Rattle.dpa.specs.Settings.{stepOk, settingsOk};
+
+#[repr(C)]
+pub struct Settings {
+    pub address: u16,
+    pub hwpid: u16,
+    pub dpa_value: u8,
+    pub lamp_count: u8,
+    pub step: u8,
+}
+
+// The dimming steps are the divisors of 100.
+pub fn step_ok(step: u8) -> bool
+    ensures { λ r. ⌜ r ≡ stepOk step ⌝ }
+{
+    if step == 0 {
+        return false;
+    }
+    100 % step == 0
+}
+
+pub fn settings_ok(settings: Settings) -> bool
+    ensures { λ r. ⌜ r ≡ settingsOk settings ⌝ }
+{
+    if settings.address < 1 {
+        return false;
+    }
+    if 239 < settings.address {
+        return false;
+    }
+    if settings.lamp_count < 1 {
+        return false;
+    }
+    if 32 < settings.lamp_count {
+        return false;
+    }
+    step_ok(settings.step)
+}
