@@ -1,0 +1,33 @@
+-- Worked examples of document 01 for the checksum, of the definitions.
+use mathlib.Core.Path.{_≡_, refl}
+use mathlib.Core.List.{List, [], _∷_, _++_}
+use mathlib.Core.Bool.{true, false}
+use Prim.Native.Nat.{ℕ}
+use lib.ListN.{replicate}
+use Rattle.dpa.specs.Served.{served, refused}
+use Rattle.checksum.specs.Sums.{around, addByte, sums, start, checksum}
+use Rattle.checksum.specs.Check.{unitOf, firstOf, imageError, imageMatches, codeCheck}
+
+abbrev from : ℕ → List ℕ → ℕ
+from first bytes = checksum (sums (start first) bytes)
+
+pub record Examples : Type 0 where
+  pub zero : from 1 (0x00 ∷ []) ≡ 0x0101
+  pub ff : from 1 (0xFF ∷ []) ≡ 0x0101
+  pub fe : from 1 (0xFE ∷ []) ≡ 0xFFFF
+  pub zeros-64 : from 1 (replicate 64 0) ≡ 0x4001
+  pub zeros-20 : from 3 (replicate 20 0) ≡ 0x3C03
+
+pub examples : Examples
+unfolding around addByte sums
+examples = record { zero = refl; ff = refl; fe = refl; zeros-64 = refl; zeros-20 = refl }
+
+-- 64 zeros at the front of external memory, checked with the load flag, without it, and against another checksum
+pub record Checks (rest : List ℕ) : Type 0 where
+  pub load : codeCheck (replicate 64 0 ++ rest) (1 ∷ 0 ∷ 0 ∷ 64 ∷ 0 ∷ 0x01 ∷ 0x40 ∷ []) ≡ served true 0 (1 ∷ [])
+  pub check : codeCheck (replicate 64 0 ++ rest) (0 ∷ 0 ∷ 0 ∷ 64 ∷ 0 ∷ 0x01 ∷ 0x40 ∷ []) ≡ served false 0 (1 ∷ [])
+  pub other : codeCheck (replicate 64 0 ++ rest) (1 ∷ 0 ∷ 0 ∷ 64 ∷ 0 ∷ 0x02 ∷ 0x40 ∷ []) ≡ served false 0 (0 ∷ [])
+
+pub checks : (rest : List ℕ) → Checks rest
+unfolding around addByte sums unitOf firstOf imageError imageMatches codeCheck
+checks rest = record { load = refl; check = refl; other = refl }

@@ -1,0 +1,74 @@
+-- Laws of the two sums.
+use mathlib.Core.Path.{_≡_, refl, sym, ap, _∙_}
+use mathlib.Core.List.{List, [], _∷_, _++_}
+use Prim.Native.Nat.{ℕ, suc, _+_, _-_, _%_, _^_, _≤_, _<_}
+use native.Mathlib.Numerals.{add-one}
+use native.Mathlib.Omega.{arith}
+use lib.Dec.{ltb}
+use lib.ListN.{length, take, drop, getD, take-append-drop, drop-of-length-le}
+use lib.Seq.{drop-cons, drop-drop}
+use borrow.Author.Tests.{lt-ltb, le-ltb, ltb-true, ltb-false}
+use Rattle.dpa.specs.Lists.{Bytes}
+use Rattle.dpa.proofs.Bool.{by-cond}
+use Rattle.checksum.specs.declared.sums.Sums.{Sums}
+use Rattle.checksum.specs.Sums.{around, addByte, sums}
+
+-- a wrapped sum below its first term has passed 255
+pub carried : (a b s : ℕ) → a < 256 → b < 256 → s ≡ (a + b) % 2 ^ 8 → s < a → (s + 1) % 2 ^ 8 ≡ around a b
+unfolding around
+carried a b s ha hb e h = let k : 255 < a + b = omega arith in simp (lt-ltb 255 (a + b) k) (omega arith)
+
+pub plain : (a b s : ℕ) → a < 256 → b < 256 → s ≡ (a + b) % 2 ^ 8 → a ≤ s → s ≡ around a b
+unfolding around
+plain a b s ha hb e h = let k : a + b ≤ 255 = omega arith in simp (le-ltb 255 (a + b) k) (omega arith)
+
+-- the sums over two lists in a row
+pub sums-append : (s : Sums) (xs ys : List ℕ) → sums s (xs ++ ys) ≡ sums (sums s xs) ys
+unfolding sums
+sums-append s [] ys = refl
+sums-append s (x ∷ xs) ys = sums-append (addByte s x) xs ys
+
+-- what is left of a block, from one byte to the next
+pub byte-more : (block : List ℕ) (s : Sums) (i : ℕ) → i < length block
+    → sums s (drop i block) ≡ sums (addByte s (getD block i 0)) (drop (i + 1) block)
+unfolding sums
+byte-more block s i h = rw (add-one, drop-cons block i 0)
+
+-- what is left of an image, from one block to the next
+pub block-more : (image : List ℕ) (s r : Sums) (at end : ℕ) → at ≤ end → r ≡ sums s (take (end - at) (drop at image))
+    → sums s (drop at image) ≡ sums r (drop end image)
+block-more image s r at end h e =
+    let k : at + (end - at) ≡ end = omega arith in
+    ap (sums s) (sym (take-append-drop (end - at) (drop at image)))
+    ∙ sums-append s (take (end - at) (drop at image)) (drop (end - at) (drop at image))
+    ∙ rw (← e, drop-drop, k)
+
+-- nothing is left
+pub sums-done : (block : List ℕ) (s : Sums) (i : ℕ) → length block ≤ i → sums s (drop i block) ≡ s
+unfolding sums
+sums-done block s i h = rw (drop-of-length-le block {i = i} h)
+
+-- a byte sum is a byte
+pub around-byte : (a b : ℕ) → a < 256 → b < 256 → around a b < 256
+unfolding around
+around-byte a b ha hb = by-cond (λ (n : ℕ). n < 256) (ltb 255 (a + b)) _ _ (λ q. omega arith) (λ q. let k : a + b ≤ 255 = ltb-false 255 (a + b) q in omega arith)
+
+-- and so is each of the sums
+pub sums-bytes : (s : Sums) (bs : List ℕ) → s .low < 256 → s .high < 256 → Bytes bs → (sums s bs .low < 256) × (sums s bs .high < 256)
+unfolding sums addByte
+sums-bytes s [] l h f = (l, h)
+sums-bytes s (b ∷ bs) l h f =
+    let k : around (s .low) b < 256 = around-byte (s .low) b l (f 0) in
+    sums-bytes (addByte s b) bs k (around-byte (s .high) (around (s .low) b) h k) (λ i. f (suc i))
+
+-- a byte sum has the remainder by 255 of the plain sum, but it is 0 only where both terms are
+pub around-remainder : (a b : ℕ) → a < 256 → b < 256 → around a b % 255 ≡ (a + b) % 255
+unfolding around
+around-remainder a b ha hb =
+    by-cond (λ (n : ℕ). n % 255 ≡ (a + b) % 255) (ltb 255 (a + b)) _ _
+    (λ q. let k : 255 < a + b = ltb-true 255 (a + b) q in omega arith)
+    (λ q. refl)
+
+pub around-zero : (a b : ℕ) → around a b ≡ 0 → a + b ≡ 0
+unfolding around
+around-zero a b = by-cond (λ (n : ℕ). n ≡ 0 → a + b ≡ 0) (ltb 255 (a + b)) _ _ (λ q e. absurd (omega arith)) (λ q e. e)

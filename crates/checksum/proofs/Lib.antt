@@ -1,0 +1,3 @@
+pub mod Fletcher
+pub mod Checks
+pub mod Examples

@@ -1,0 +1,64 @@
+use Prim.Native.Nat.{_≤_, _-_}
+use mathlib.Core.Path.{_≡_, refl, sym, _∙_}
+use native.Mathlib.Omega.{arith}
+use lib.ListN.{length, drop}
+use Rattle.checksum.specs.Sums.{sums}
+use Rattle.checksum.proofs.Fletcher.{byte-more, sums-done}
+use borrow.Author.Needs.{needs}
+use Rattle.checksum.proofs.sums.Sums.add_block.Statement.{statement}
+use Rattle.checksum.proofs.sums.Sums.add_block.Tie as tie
+use Rattle.checksum.proofs.sums.Sums.add_block.Reads as reads
+use Rattle.checksum.proofs.sums.Sums.add_block.Lts as lts
+use Rattle.checksum.proofs.sums.Sums.add_byte.Reads as add-byte-reads
+
+abbrev Inv-loop : tie.InvT-loop
+Inv-loop block s₀ i₀ s i = (i ≤ length block) × (sums s (drop i block) ≡ sums s₀ block)
+
+abbrev μ-loop : tie.MeasureT-loop
+μ-loop block s₀ i₀ s i = length block - i
+
+-- src/sums.rt:46:9
+loop-holds : tie.Need-loop-holds Inv-loop μ-loop
+loop-holds c = (omega arith, refl)
+
+-- src/sums.rt:47:28
+shared-slice-read-add-byte : tie.Need-shared-slice-read-add-byte Inv-loop μ-loop
+shared-slice-read-add-byte c = omega arith
+
+-- src/sums.rt:47:13
+add-byte-requires : tie.Need-add-byte-requires Inv-loop μ-loop
+add-byte-requires c κs = tt
+
+-- src/sums.rt:48:13
+add-i : tie.Need-add-i Inv-loop μ-loop
+add-i c = omega arith
+
+-- src/sums.rt:46:9
+loop-less : tie.Need-loop-less Inv-loop μ-loop
+loop-less c = omega arith
+
+-- src/sums.rt:46:9
+loop-again : tie.Need-loop-again Inv-loop μ-loop
+loop-again c =
+    let l = c .before .before .before in
+    (omega arith, rw (c .add-byte .ensures) (sym (byte-more (l .before .before .args .block .now) (l .loop .s) (l .loop .i) (c .before .before .loop-test .taken)) ∙ l .loop .inv .1))
+
+-- src/sums.rt:41:5
+returns : tie.Need-returns Inv-loop μ-loop
+returns c =
+    let l = c .before in
+    sym (sums-done (l .before .before .args .block .now) (l .loop .s) (l .loop .i) (c .loop-test .left)) ∙ l .loop .inv .1
+
+pub add-block-spec : {M : Type 1} → statement M
+add-block-spec =
+    tie.close
+    (tie.spec
+    Inv-loop
+    μ-loop
+    loop-holds
+    shared-slice-read-add-byte
+    add-byte-requires
+    add-i
+    loop-less
+    loop-again
+    returns)

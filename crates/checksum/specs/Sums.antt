@@ -1,0 +1,27 @@
+-- Document 01, "OS 02", code check: the checksum.
+use Prim.Native.Nat.{ℕ, _+_, _-_}
+use mathlib.Core.List.{List, [], _∷_}
+use mathlib.Core.Bool.{cond}
+use lib.Dec.{ltb}
+use Rattle.dpa.specs.Number.{word}
+use Rattle.checksum.specs.declared.sums.Sums.{Sums}
+
+-- a byte sum, and where it passed 255 one is added: a + b less 256, plus 1
+unfoldable pub around : ℕ → ℕ → ℕ
+around a b = cond (ltb 255 (a + b)) (a + b - 256 + 1) (a + b)
+
+-- for a byte: low plus byte, then high plus low
+unfoldable pub addByte : Sums → ℕ → Sums
+addByte s b = record { low = around (s .low) b; high = around (s .high) (around (s .low) b) }
+
+unfoldable pub sums : Sums → List ℕ → Sums
+sums s [] = s
+sums s (b ∷ bs) = sums (addByte s b) bs
+
+-- the low sum starts at a first value, the high sum at 0
+abbrev pub start : ℕ → Sums
+start first = record { low = first; high = 0 }
+
+-- the checksum as a two-byte number
+abbrev pub checksum : Sums → ℕ
+checksum s = word (s .low) (s .high)

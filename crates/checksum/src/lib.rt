@@ -1,0 +1,3 @@
+// The checksum of a code image in external memory, and the request that checks one.
+pub mod check;
+pub mod sums;
