@@ -1,0 +1,64 @@
+-- Laws of blocks: which lie in a memory, and what a copy leaves.
+use mathlib.Core.Path.{_≡_}
+use mathlib.Core.List.{List, [], _++_, append-nil, append-assoc}
+use Prim.Native.Nat.{ℕ, _+_, _-_, _≤_, _<_}
+use native.Mathlib.Omega.{arith}
+use lib.Dec.{leb, ltb}
+use lib.ListN.{length, take, drop, length-drop, drop-of-length-le}
+use lib.Seq.{take-length, drop-drop, length-take-le}
+use borrow.Author.Tests.{ltb-false, leb-false, le-ltb, lt-leb}
+use Rattle.dpa.specs.Lists.{part}
+use Rattle.dpa.proofs.Bool.{second-taken}
+use Rattle.dpa.proofs.Lists.{to-end}
+use Rattle.memory.specs.declared.block.Memory.{Memory}
+use Rattle.memory.specs.declared.block.Memory.the-variants.{Eeprom, Ram, External}
+use Rattle.memory.specs.Block.{longestOf, blockFault, put}
+
+-- a block that can be had
+pub record Fits (size longest start n : ℕ) : Type 0 where
+  pub short : n ≤ longest
+  pub starts : start < size
+  pub ends : start + n ≤ size
+
+module _ (size longest start n tooLong outside : ℕ) where
+  -- the rule finds no fault exactly in a block that can be had
+  pub block-fits : (tooLong ≡ 0 → ⊥) → (outside ≡ 0 → ⊥) → blockFault size longest start n tooLong outside ≡ 0 → Fits size longest start n
+  unfolding blockFault
+  block-fits t o e =
+      let a = second-taken (ltb longest n) tooLong _ 0 t e in
+      let b = second-taken (leb size start) outside _ 0 o (a .1) in
+      let d = second-taken (ltb size (start + n)) outside 0 0 o (b .1) in
+      record { short = ltb-false _ _ (a .0); starts = leb-false _ _ (b .0); ends = ltb-false _ _ (d .0) }
+
+  pub fits-block : Fits size longest start n → blockFault size longest start n tooLong outside ≡ 0
+  unfolding blockFault
+  fits-block f = simp (le-ltb longest n (f .short), lt-leb size start (f .starts), le-ltb size (start + n) (f .ends))
+
+-- no longest block is over 55
+pub longest-max : (m : Memory) → longestOf m ≤ 55
+longest-max Memory.Eeprom = omega arith
+longest-max Memory.Ram = omega arith
+longest-max Memory.External = omega arith
+
+-- the count of a part from a start
+pub counted : (a n : ℕ) → a + n - a ≡ n
+counted a n = omega arith
+
+-- a part that lies in a memory has its length
+pub part-length : (mem : List ℕ) (start n : ℕ) → start + n ≤ length mem → length (part mem start n) ≡ n
+part-length mem start n h = length-take-le n (drop start mem) (simp length-drop (omega arith))
+
+-- a copy of a part
+pub copied-out : (mem out : List ℕ) (start n : ℕ) → start + n ≤ length mem
+    → take (length (part mem start (start + n - start))) (part mem start (start + n - start))
+    ++ drop (length (part mem start (start + n - start))) out ≡ part mem start n ++ drop n out
+copied-out mem out start n h = rw (counted, take-length, part-length mem start n h)
+
+past-end : (a : ℕ) (s : List ℕ) → drop (length s - a) (drop a s) ≡ []
+past-end a s = drop-of-length-le (drop a s) {i = length s - a} (simp length-drop (omega arith))
+
+-- a copy into a part, once the part is back
+pub copied-in : (mem d l : List ℕ) (start : ℕ)
+    → l ≡ take (length d) d ++ drop (length d) (take (length mem - start) (drop start mem))
+    → take start mem ++ (l ++ drop (length mem - start) (drop start mem)) ≡ put mem start d
+copied-in mem d l start e = simp (e, take-length, to-end, past-end, append-nil, append-assoc, drop-drop)

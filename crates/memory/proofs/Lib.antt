@@ -1,0 +1,5 @@
+pub mod Blocks
+pub mod Puts
+pub mod Requests
+pub mod Views
+pub mod Examples

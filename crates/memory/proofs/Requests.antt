@@ -1,0 +1,160 @@
+-- Laws of read and write requests.
+use mathlib.Core.Path.{_≡_, refl, ap, _∙_}
+use mathlib.Core.List.{List, [], _∷_, _++_}
+use mathlib.Core.Bool.{false}
+use Prim.Native.Nat.{ℕ, _+_, _-_, _≤_, _<_}
+use native.Mathlib.Omega.{arith}
+use lib.Dec.{eqb, leb}
+use lib.ListN.{length, take, drop, getD, length-take, length-drop}
+use borrow.Author.Tests.{eqb-true, leb-false, eq-eqb, ne-eqb, lt-leb}
+use Rattle.dpa.specs.Lists.{part}
+use Rattle.dpa.specs.Served.{Harmless, Served, served, refused, laid, layOut}
+use Rattle.dpa.proofs.Bool.{by-cond, first-taken, second-taken}
+use Rattle.dpa.proofs.Lists.{to-end}
+use Rattle.memory.specs.declared.block.Memory.{Memory}
+use Rattle.memory.specs.declared.block.Memory.the-variants.{Eeprom, Ram, External}
+use Rattle.memory.specs.Block.{sizeOf, longestOf, addressBytes, readCommand, writeCommand, put}
+use Rattle.memory.specs.Request.{addressOf, startOf, lengthOf, dataOf, blockError, readError, writeError, readRequest, writeRequest, memoryRequest}
+use Rattle.memory.proofs.Blocks.{Fits, block-fits, fits-block, longest-max, part-length}
+use Rattle.memory.proofs.Puts.{put-length}
+
+module _ (m : Memory) (p : List ℕ) where
+  abbrev pub ReadFits : Type 0
+  ReadFits = (length p ≡ addressBytes m + 1) × Fits (sizeOf m) (longestOf m) (startOf m p) (lengthOf m p)
+
+  abbrev pub WriteFits : Type 0
+  WriteFits = (addressBytes m < length p) × Fits (sizeOf m) (longestOf m) (startOf m p) (length p - addressBytes m)
+
+  pub read-fits : readError m p ≡ 0 → ReadFits
+  unfolding readError
+  read-fits e =
+      let a = first-taken (eqb (length p) (addressBytes m + 1)) _ 5 0 (λ q. omega arith) e in
+      (eqb-true _ _ (a .0), block-fits (sizeOf m) (longestOf m) (startOf m p) (lengthOf m p) 5 4 (λ q. omega arith) (λ q. omega arith) (a .1))
+
+  pub write-fits : writeError m p ≡ 0 → WriteFits
+  unfolding writeError
+  write-fits e =
+      let a = second-taken (leb (length p) (addressBytes m)) 5 _ 0 (λ q. omega arith) e in
+      (leb-false _ _ (a .0), block-fits (sizeOf m) (longestOf m) (startOf m p) (length p - addressBytes m) 5 4 (λ q. omega arith) (λ q. omega arith) (a .1))
+
+  -- what the tests of the code have found is the error
+  pub read-checked : (w r a n : ℕ) → w ≡ addressBytes m → length p ≡ w + 1 → a ≡ addressOf w p → n ≡ getD p w 0
+      → r ≡ blockError m a n → r ≡ readError m p
+  unfolding readError
+  read-checked w r a n ew l ea en er = simp (← ew, eq-eqb (length p) (w + 1) l, ← ea, ← en) er
+
+  pub write-checked : (w r a : ℕ) → w ≡ addressBytes m → w < length p → a ≡ addressOf w p
+      → r ≡ blockError m a (length p - w) → r ≡ writeError m p
+  unfolding writeError
+  write-checked w r a ew l ea er = simp (← ew, lt-leb (length p) w l, ← ea) er
+
+  module _ (mem : List ℕ) where
+    -- an error: nothing written
+    pub read-refused : (out : List ℕ) (e : ℕ) → e ≡ readError m p → (e ≡ 0 → ⊥) → laid mem e 0 out ≡ layOut (readRequest m p mem) out
+    unfolding readRequest
+    read-refused out e q h = simp (← q, ne-eqb e 0 h)
+
+    pub write-refused : (out : List ℕ) (e : ℕ) → e ≡ writeError m p → (e ≡ 0 → ⊥) → laid mem e 0 out ≡ layOut (writeRequest m p mem) out
+    unfolding writeRequest
+    write-refused out e q h = simp (← q, ne-eqb e 0 h)
+
+    module _ (w a n : ℕ) (size : length mem ≡ sizeOf m) (z : readError m p ≡ 0) (ew : w ≡ addressBytes m) (ea : a ≡ addressOf w p) (en : n ≡ getD p w 0) where
+      pub read-place : (a + n ≤ length mem) × (n ≤ 55)
+      read-place =
+          let f = read-fits z .1 in
+          let s : a ≡ startOf m p = ea ∙ ap (λ (k : ℕ). addressOf k p) ew in
+          let l : n ≡ lengthOf m p = en ∙ ap (λ (k : ℕ). getD p k 0) ew in
+          (omega (arith, f .ends), omega (arith, f .short, longest-max m))
+
+      pub read-served : (out last : List ℕ) → last ≡ part mem a n ++ drop n out → laid mem 0 n last ≡ layOut (readRequest m p mem) out
+      unfolding readRequest
+      read-served out last el = rw (z, ← ew, ← ea, ← en, part-length mem a n (read-place .0), el)
+
+    module _ (w a : ℕ) (z : writeError m p ≡ 0) (ew : w ≡ addressBytes m) (ea : a ≡ addressOf w p) where
+      pub write-place : length mem ≡ sizeOf m → a + (length p - w) ≤ length mem
+      write-place size =
+          let f = write-fits z .1 in
+          let s : a ≡ startOf m p = ea ∙ ap (λ (k : ℕ). addressOf k p) ew in
+          omega (arith, f .ends)
+
+      pub write-served : (out last : List ℕ) → last ≡ put mem a (take (length p - w) (drop w p)) → laid last 0 0 out ≡ layOut (writeRequest m p mem) out
+      unfolding writeRequest
+      write-served out last el = rw (z, ← ew, ← ea, el, to-end w p)
+
+-- a read and a write have different PCMDs
+pub commands-differ : (m : Memory) → eqb (writeCommand m) (readCommand m) ≡ false
+commands-differ Memory.Eeprom = refl
+commands-differ Memory.Ram = refl
+commands-differ Memory.External = refl
+
+module _ (m : Memory) (p mem : List ℕ) where
+  -- what a request without a fault does
+  pub read-accepted : ReadFits m p → memoryRequest m (readCommand m) p mem ≡ served mem 0 (part mem (startOf m p) (lengthOf m p))
+  unfolding memoryRequest readRequest readError
+  read-accepted f =
+      simp (
+        eq-eqb (readCommand m) (readCommand m) refl,
+        eq-eqb _ _ (f .0),
+        fits-block (sizeOf m) (longestOf m) (startOf m p) (lengthOf m p) 5 4 (f .1),
+      )
+
+  pub write-accepted : WriteFits m p → memoryRequest m (writeCommand m) p mem ≡ served (put mem (startOf m p) (dataOf m p)) 0 []
+  unfolding memoryRequest writeRequest writeError
+  write-accepted f =
+      simp (
+        commands-differ m,
+        eq-eqb (writeCommand m) (writeCommand m) refl,
+        lt-leb _ _ (f .0),
+        fits-block (sizeOf m) (longestOf m) (startOf m p) (length p - addressBytes m) 5 4 (f .1),
+      )
+
+  module _ (pcmd : ℕ) where
+    -- what holds of a read, of a write and of every error holds of a request
+    pub request-cases : (P : Served (List ℕ) → Type 0)
+        → (readError m p ≡ 0 → P (served mem 0 (part mem (startOf m p) (lengthOf m p))))
+        → (writeError m p ≡ 0 → P (served (put mem (startOf m p) (dataOf m p)) 0 []))
+        → ((e : ℕ) → P (refused mem e))
+        → P (memoryRequest m pcmd p mem)
+    unfolding memoryRequest readRequest writeRequest
+    request-cases P reads writes errors =
+        by-cond P (eqb pcmd (readCommand m)) _ _
+        (λ q. by-cond P (eqb (readError m p) 0) _ _ (λ z. reads (eqb-true _ _ z)) (λ z. errors _))
+        (λ q. by-cond P (eqb pcmd (writeCommand m)) _ _
+        (λ r. by-cond P (eqb (writeError m p) 0) _ _ (λ z. writes (eqb-true _ _ z)) (λ z. errors _))
+        (λ r. errors 2))
+
+    -- a request with an error leaves the memory and answers no data
+    pub request-harmless : Harmless mem (memoryRequest m pcmd p mem)
+    request-harmless = request-cases (λ (x : Served (List ℕ)). Harmless mem x) (λ z h. absurd (h refl)) (λ z h. absurd (h refl)) (λ e h. (refl, refl))
+
+    -- a memory keeps its length
+    pub request-length : length mem ≡ sizeOf m → length (memoryRequest m pcmd p mem .after) ≡ length mem
+    request-length size =
+        request-cases (λ (x : Served (List ℕ)). length (x .after) ≡ length mem)
+        (λ z. refl)
+        (λ z. put-length mem (startOf m p) (dataOf m p) (rw length-drop (omega (arith, write-fits m p z .1 .ends))))
+        (λ e. refl)
+
+    -- an answer is no longer than the memory's longest block
+    pub request-longest : length (memoryRequest m pcmd p mem .bytes) ≤ longestOf m
+    request-longest =
+        request-cases (λ (x : Served (List ℕ)). length (x .bytes) ≤ longestOf m)
+        (λ z. rw length-take (omega (arith, read-fits m p z .1 .short)))
+        (λ z. omega arith)
+        (λ e. omega arith)
+
+    -- so that it fits a response
+    pub request-max : length (memoryRequest m pcmd p mem .bytes) ≤ 56
+    request-max = omega (arith, request-longest, longest-max m)
+
+-- a write at an address of one byte
+pub write-short : (m : Memory) (mem : List ℕ) (a : ℕ) (d : List ℕ) → addressBytes m ≡ 1 → 0 < length d
+    → Fits (sizeOf m) (longestOf m) a (length d)
+    → memoryRequest m (writeCommand m) (a ∷ d) mem ≡ served (put mem a d) 0 []
+unfolding addressOf
+write-short m mem a d one some f =
+    let s : startOf m (a ∷ d) ≡ a = ap (λ (w : ℕ). addressOf w (a ∷ d)) one in
+    let t : dataOf m (a ∷ d) ≡ d = ap (λ (w : ℕ). drop w (a ∷ d)) one in
+    let l : length (a ∷ d) - addressBytes m ≡ length d = omega arith in
+    let k : addressBytes m < length (a ∷ d) = omega arith in
+    write-accepted m (a ∷ d) mem (k, rw (s, l) f) ∙ rw (s, t)

@@ -1,0 +1,61 @@
+-- Document 01, "Memories": read and write requests.
+use Prim.Native.Nat.{ℕ, _+_, _-_}
+use mathlib.Core.List.{List, []}
+use mathlib.Core.Bool.{cond}
+use lib.ListN.{length, drop, getD}
+use lib.Dec.{eqb, leb}
+use Rattle.dpa.specs.Number.{wordAt}
+use Rattle.dpa.specs.Lists.{part}
+use Rattle.dpa.specs.Served.{Served, served, refused}
+use Rattle.memory.specs.declared.block.Memory.{Memory}
+use Rattle.memory.specs.Block.{sizeOf, longestOf, addressBytes, readCommand, writeCommand, blockFault, put}
+
+-- the address in front of PData, of one byte or of two, low byte first
+unfoldable pub addressOf : ℕ → List ℕ → ℕ
+addressOf width pdata = cond (eqb width 1) (getD pdata 0 0) (wordAt pdata 0)
+
+-- the block's start, and behind it a read's length or a write's data
+abbrev pub startOf : Memory → List ℕ → ℕ
+startOf m pdata = addressOf (addressBytes m) pdata
+
+abbrev pub lengthOf : Memory → List ℕ → ℕ
+lengthOf m pdata = getD pdata (addressBytes m) 0
+
+abbrev pub dataOf : Memory → List ℕ → List ℕ
+dataOf m pdata = drop (addressBytes m) pdata
+
+-- the block rule: 5, then 4
+abbrev pub blockError : Memory → ℕ → ℕ → ℕ
+blockError m start n = blockFault (sizeOf m) (longestOf m) start n 5 4
+
+-- a read's PData has exactly its fields
+unfoldable pub readError : Memory → List ℕ → ℕ
+readError m pdata =
+    cond (eqb (length pdata) (addressBytes m + 1))
+    (blockError m (startOf m pdata) (lengthOf m pdata))
+    5
+
+-- a write has at least one byte of data
+unfoldable pub writeError : Memory → List ℕ → ℕ
+writeError m pdata =
+    cond (leb (length pdata) (addressBytes m)) 5
+    (blockError m (startOf m pdata) (length pdata - addressBytes m))
+
+-- an answer, unless there is an error
+abbrev pub unless : {S : Type 0} → ℕ → S → Served S → Served S
+unless error s answer = cond (eqb error 0) answer (refused s error)
+
+unfoldable pub readRequest : Memory → List ℕ → List ℕ → Served (List ℕ)
+readRequest m pdata mem =
+    unless (readError m pdata) mem (served mem 0 (part mem (startOf m pdata) (lengthOf m pdata)))
+
+unfoldable pub writeRequest : Memory → List ℕ → List ℕ → Served (List ℕ)
+writeRequest m pdata mem =
+    unless (writeError m pdata) mem (served (put mem (startOf m pdata) (dataOf m pdata)) 0 [])
+
+-- a PCMD that is neither: 2
+unfoldable pub memoryRequest : Memory → ℕ → List ℕ → List ℕ → Served (List ℕ)
+memoryRequest m pcmd pdata mem =
+    cond (eqb pcmd (readCommand m)) (readRequest m pdata mem)
+    (cond (eqb pcmd (writeCommand m)) (writeRequest m pdata mem)
+    (refused mem 2))

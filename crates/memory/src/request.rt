@@ -1,0 +1,120 @@
+// Read and write requests. PData starts with the address; a read's length or a write's data follows.
+use crate::block::Memory;
+use crate::block::address_bytes;
+use crate::block::block_fault;
+use crate::block::copy_in;
+use crate::block::copy_out;
+use crate::block::read_command;
+use crate::block::write_command;
+use dpa::number::wide;
+use dpa::number::wide_word;
+use dpa::number::word_of;
+use dpa::reply::Reply;
+ghost use mathlib.Core.Path.{_≡_};
+ghost use mathlib.Core.List.{List};
+ghost use Prim.Native.Nat.{ℕ, _≤_};
+ghost use lib.ListN.{length};
+ghost use Rattle.dpa.specs.Served.{laid, layOut};
+ghost use Rattle.memory.specs.Block.{sizeOf};
+ghost use Rattle.memory.specs.Request.{blockError, addressOf, readError, writeError, readRequest, writeRequest, memoryRequest};
+
+// The address at the front of PData, of one byte or of two.
+fn address(width: usize, pdata: &[u8]) -> usize
+    requires { ⌜ (1 ≤ width) × (width ≤ length (now pdata)) ⌝ }
+    ensures { λ r. ⌜ r ≡ addressOf width (now (pdata .entry)) ⌝ }
+{
+    if width == 1 {
+        return wide(pdata[0]);
+    }
+    wide_word(word_of(pdata[0], pdata[1]))
+}
+
+// The block rule with the numbers of a request.
+fn block_error(memory: Memory, start: usize, count: usize) -> u8
+    ensures { λ r. ⌜ r ≡ blockError memory start count ⌝ }
+{
+    block_fault(memory, start, count, dpa::error::DATA_LEN, dpa::error::ADDR)
+}
+
+// Why a read is refused, or 0.
+fn read_error(memory: Memory, pdata: &[u8]) -> u8
+    ensures { λ r. ⌜ r ≡ readError memory (now (pdata .entry)) ⌝ }
+{
+    let width = address_bytes(memory);
+    if pdata.len() != width + 1 {
+        return dpa::error::DATA_LEN;
+    }
+    let count = wide(pdata[width]);
+    let start = address(width, pdata);
+    block_error(memory, start, count)
+}
+
+// Why a write is refused, or 0.
+fn write_error(memory: Memory, pdata: &[u8]) -> u8
+    ensures { λ r. ⌜ r ≡ writeError memory (now (pdata .entry)) ⌝ }
+{
+    let width = address_bytes(memory);
+    if pdata.len() <= width {
+        return dpa::error::DATA_LEN;
+    }
+    let start = address(width, pdata);
+    block_error(memory, start, pdata.len() - width)
+}
+
+// A read. The bytes of the block go to the front of out.
+fn read(memory: Memory, mem: &[u8], pdata: &[u8], out: &mut [u8]) -> Reply
+    requires { ⌜ (length (now mem) ≡ sizeOf memory) × (56 ≤ length (now out)) ⌝ }
+    ensures { λ r. ⌜ laid (now (mem .entry)) (r .error) (r .length) (now (out .exit))
+        ≡ layOut (readRequest memory (now (pdata .entry)) (now (mem .entry))) (now (out .entry)) ⌝ }
+{
+    let error = read_error(memory, pdata);
+    if error != 0 {
+        return Reply { error, length: 0 };
+    }
+    let width = address_bytes(memory);
+    let start = address(width, pdata);
+    let count = wide(pdata[width]);
+    copy_out(mem, start, count, out);
+    Reply {
+        error: 0,
+        length: count,
+    }
+}
+
+// A write answers no data: only ErrN.
+fn write(memory: Memory, mem: &mut [u8], pdata: &[u8]) -> u8
+    requires { ⌜ length (now mem) ≡ sizeOf memory ⌝ }
+    ensures { λ r. ⌜ ((o : List ℕ) → laid (now (mem .exit)) r 0 o
+        ≡ layOut (writeRequest memory (now (pdata .entry)) (now (mem .entry))) o) ⌝ }
+{
+    let error = write_error(memory, pdata);
+    if error != 0 {
+        return error;
+    }
+    let width = address_bytes(memory);
+    let start = address(width, pdata);
+    copy_in(mem, start, &pdata[width..]);
+    0
+}
+
+// A request on a memory. The answer's data goes to the front of out; an error writes nothing.
+pub fn request(memory: Memory, mem: &mut [u8], pcmd: u8, pdata: &[u8], out: &mut [u8]) -> Reply
+    requires { ⌜ (length (now mem) ≡ sizeOf memory) × (56 ≤ length (now out)) ⌝ }
+    ensures { λ r. ⌜ laid (now (mem .exit)) (r .error) (r .length) (now (out .exit))
+        ≡ layOut (memoryRequest memory pcmd (now (pdata .entry)) (now (mem .entry))) (now (out .entry)) ⌝ }
+{
+    if pcmd == read_command(memory) {
+        return read(memory, mem, pdata, out);
+    }
+    if pcmd == write_command(memory) {
+        let written = write(memory, mem, pdata);
+        return Reply {
+            error: written,
+            length: 0,
+        };
+    }
+    Reply {
+        error: dpa::error::PCMD,
+        length: 0,
+    }
+}

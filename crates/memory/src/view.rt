@@ -1,0 +1,58 @@
+// The read view: a part of EEPROM or external memory, without a frame and without a copy.
+use crate::block::Memory;
+use crate::block::block_fault;
+use crate::block::size_of;
+ghost use mathlib.Core.Path.{_≡_};
+ghost use Rattle.memory.specs.View.{blockRefusal, viewStatus, viewPart};
+
+// The block rule with the numbers of the view.
+fn block_refusal(memory: Memory, start: usize, length: usize) -> u8
+    ensures { λ r. ⌜ r ≡ blockRefusal memory start length ⌝ }
+{
+    block_fault(
+        memory,
+        start,
+        length,
+        dpa::refusal::BLOCK,
+        dpa::refusal::RANGE,
+    )
+}
+
+// Why the view is refused, or 0.
+pub fn view_status(eeprom: &[u8], external: &[u8], pnum: u8, start: usize, length: usize) -> u8
+    ensures { λ r. ⌜ r ≡ viewStatus (now (eeprom .entry)) (now (external .entry)) pnum start length ⌝ }
+{
+    if eeprom.len() != size_of(Memory::Eeprom) {
+        return dpa::refusal::MEMORY;
+    }
+    if external.len() != size_of(Memory::External) {
+        return dpa::refusal::MEMORY;
+    }
+    if pnum == dpa::pnum::EEPROM {
+        return block_refusal(Memory::Eeprom, start, length);
+    }
+    if pnum == dpa::pnum::EXTERNAL {
+        return block_refusal(Memory::External, start, length);
+    }
+    dpa::refusal::VIEW
+}
+
+// The part that the view names; empty where it is refused.
+pub fn view<'a>(
+    eeprom: &'a [u8],
+    external: &'a [u8],
+    pnum: u8,
+    start: usize,
+    length: usize,
+) -> &'a [u8]
+    ensures { λ r. ⌜ now r ≡ viewPart (now (eeprom .entry)) (now (external .entry)) pnum start length ⌝ }
+{
+    if view_status(eeprom, external, pnum, start, length) != 0 {
+        return &eeprom[0..0];
+    }
+    let end = start + length;
+    if pnum == dpa::pnum::EEPROM {
+        return &eeprom[start..end];
+    }
+    &external[start..end]
+}
