@@ -1,0 +1,137 @@
+-- Laws of reading the entries, one for each way through the reading loop.
+use mathlib.Core.Path.{_≡_, refl, sym, ap, _∙_}
+use mathlib.Core.Bool.{Bool, true, false, cond}
+use mathlib.Core.List.{List, [], _∷_, _++_, append-assoc, append-nil}
+use Prim.Native.Nat.{ℕ, zero, suc, _+_, _-_, _%_, _≤_, _<_}
+use native.Mathlib.Omega.{arith}
+use native.Mathlib.Numerals.{add-one}
+use lib.ListN.{length, getD, take, drop, set, length-drop, drop-of-length-le}
+use lib.Seq.{drop-cons, drop-drop, take-suc-set}
+use lib.Dec.{ltb}
+use borrow.Author.Tests.{lt-ltb, le-ltb}
+use Rattle.lights.specs.Lights.{powerOk, timeOk, secondsOf, change, timedEntry, firstEntry, Reading, good, bad, prepend, andThen, entries}
+use Rattle.lights.specs.declared.entry.Change.{Change}
+use Rattle.lights.specs.declared.entry.Entry.{Entry}
+use Rattle.lights.specs.declared.entry.Entry.the-variants.{Valid, Invalid}
+
+-- ---- the entry at a place, one law for each way to read it
+
+module _ (src : List ℕ) (at : ℕ) where
+  abbrev byte : ℕ
+  byte = getD src at 0
+
+  abbrev time : ℕ
+  time = getD src (at + 1) 0
+
+  pub entry-none : length src ≤ at → Invalid ≡ firstEntry (drop at src)
+  entry-none h = rw (drop-of-length-le src h)
+
+  module _ (h : at < length src) where
+    pub entry-power : powerOk (byte % 128) ≡ false → Invalid ≡ firstEntry (drop at src)
+    entry-power p = rw (drop-cons src at 0, p)
+
+    module _ (p : powerOk (byte % 128) ≡ true) where
+      pub entry-plain : byte < 128 → Valid (change (byte % 128) 0) 1 ≡ firstEntry (drop at src)
+      entry-plain l = rw (drop-cons src at 0, p, lt-ltb byte 128 l)
+
+      module _ (l : 128 ≤ byte) where
+        pub entry-cut : length src ≤ at + 1 → Invalid ≡ firstEntry (drop at src)
+        entry-cut g = rw (drop-cons src at 0, p, le-ltb byte 128 l, ← add-one at, drop-of-length-le src g)
+
+        pub entry-timed : at + 1 < length src → (ok : Bool) → timeOk time ≡ ok
+            → cond ok (Valid (change (byte % 128) (secondsOf time)) 2) Invalid ≡ firstEntry (drop at src)
+        entry-timed g ok e = rw (drop-cons src at 0, p, le-ltb byte 128 l, ← add-one at, drop-cons src (at + 1) 0, e)
+
+-- ---- the entries of a request
+
+-- an entry of zeros, where a list has none
+abbrev pub still : Change
+still = change 0 0
+
+prepend-prepend : (es fs : List Change) (r : Reading) → prepend es (prepend fs r) ≡ prepend (es ++ fs) r
+prepend-prepend es fs (good gs) = ap good (sym (append-assoc es fs gs))
+prepend-prepend es fs bad = refl
+
+pub prepend-nil : (r : Reading) → prepend [] r ≡ r
+prepend-nil (good es) = refl
+prepend-nil bad = refl
+
+-- an entry is no longer than the bytes that it is read from
+first-size : (xs : List ℕ) (e : Change) (size : ℕ) → firstEntry xs ≡ Valid e size → size ≤ length xs
+first-size [] e size h = let z : _≡_ {A = ℕ} 0 1 = cc in absurd (omega arith)
+first-size (b ∷ xs) e size h = go (powerOk (b % 128)) (ltb b 128) xs h
+  where
+    none : (ys : List ℕ) → Invalid ≡ Valid e size → size ≤ length ys
+    none ys q = let z : _≡_ {A = ℕ} 0 1 = cc in absurd (omega arith)
+
+    last : (t s : ℕ) (ys : List ℕ) (z : Bool) → cond z (Valid (change t s) 2) Invalid ≡ Valid e size → size ≤ suc (suc (length ys))
+    last t s ys true q = let w : 2 ≡ size = cc in omega arith
+    last t s ys false q = none (t ∷ (t ∷ ys)) q
+
+    go : (p q : Bool) (ys : List ℕ) → cond p (cond q (Valid (change (b % 128) 0) 1) (timedEntry (b % 128) ys)) Invalid ≡ Valid e size → size ≤ suc (length ys)
+    go true true ys r = let w : 1 ≡ size = cc in omega arith
+    go true false [] r = none (b ∷ []) r
+    go true false (t ∷ ys) r = last (b % 128) (secondsOf t) ys (timeOk t) r
+    go false q ys r = none (b ∷ ys) r
+
+pub first-room : (src : List ℕ) (at : ℕ) (e : Change) (size : ℕ) → firstEntry (drop at src) ≡ Valid e size → size ≤ length src - at
+first-room src at e size h = rw length-drop at (first-size (drop at src) e size h)
+
+-- one entry more
+pub entries-more : (src : List ℕ) (items : List Change) (at k n : ℕ) (e : Change) (size : ℕ)
+    → k < n → k < length items → firstEntry (drop at src) ≡ Valid e size
+    → prepend (take k items) (entries (n - k) (drop at src))
+    ≡ prepend (take (k + 1) (set items k e)) (entries (n - (k + 1)) (drop (at + size) src))
+entries-more src items at k n e size h l q =
+    let j : n - k ≡ suc (n - (k + 1)) = omega arith in
+    rw (j, q, drop-drop, add-one, take-suc-set)
+    (prepend-prepend (take k items) (e ∷ []) (entries (n - suc k) (drop (at + size) src)))
+
+-- an entry that is not valid
+pub entries-stop : (src : List ℕ) (es : List Change) (at k n : ℕ) → k < n → firstEntry (drop at src) ≡ Invalid → prepend es (entries (n - k) (drop at src)) ≡ bad
+entries-stop src es at k n h q =
+    let j : n - k ≡ suc (n - (k + 1)) = omega arith in
+    rw (j, q)
+
+-- all entries read, and no byte behind them
+pub entries-end : (src : List ℕ) (es : List Change) (at j : ℕ) → j ≡ 0 → length src ≤ at → prepend es (entries j (drop at src)) ≡ good es
+entries-end src es at j z h = rw (z, drop-of-length-le src h) (ap good (append-nil es))
+
+-- all entries read, and bytes behind them
+pub entries-extra : (src : List ℕ) (es : List Change) (at j : ℕ) → j ≡ 0 → at < length src → prepend es (entries j (drop at src)) ≡ bad
+entries-extra src es at j z h = rw (z, drop-cons src at 0)
+
+-- ---- what has been read
+
+-- as many entries as asked for, and each with what every valid entry of these bytes has
+pub entries-each : (Q : Change → Type 0) → Q still → (n : ℕ) (xs : List ℕ) (es : List Change)
+    → ((j : ℕ) (e : Change) (size : ℕ) → firstEntry (drop j xs) ≡ Valid e size → Q e)
+    → entries n xs ≡ good es → (length es ≡ n) × ((i : ℕ) → Q (getD es i still))
+entries-each Q q zero [] es w h = let e : es ≡ [] = cc in rw e (refl, λ i. q)
+entries-each Q q zero (x ∷ xs) es w h = let z : _≡_ {A = ℕ} 0 1 = cc in absurd (omega arith)
+entries-each Q q (suc n) xs es w h = go (λ size fs. entries-each Q q n (drop size xs) fs) (firstEntry xs) refl h
+  where
+    Each : ℕ → List Change → Type 0
+    Each k fs = (length fs ≡ k) × ((i : ℕ) → Q (getD fs i still))
+
+    Later : Type 0
+    Later = (size : ℕ) (fs : List Change) → ((j : ℕ) (e : Change) (m : ℕ) → firstEntry (drop j (drop size xs)) ≡ Valid e m → Q e)
+        → entries n (drop size xs) ≡ good fs → Each n fs
+
+    each : (e : Change) (fs : List Change) → Q e → Each n fs → (i : ℕ) → Q (getD (e ∷ fs) i still)
+    each e fs a r zero = a
+    each e fs a r (suc i) = r .1 i
+
+    rest : Later → (e : Change) (size : ℕ) (r : Reading) → firstEntry xs ≡ Valid e size → entries n (drop size xs) ≡ r → prepend (e ∷ []) r ≡ good es → Each (suc n) es
+    rest ih e size bad f g p = let z : _≡_ {A = ℕ} 0 1 = cc in absurd (omega arith)
+    rest ih e size (good fs) f g p =
+        let k : es ≡ e ∷ fs = cc in
+        let t : Each n fs = ih size fs (λ j d m u. w (size + j) d m (sym (ap firstEntry (drop-drop j size xs)) ∙ u)) g in
+        rw k (ap suc (t .0), each e fs (w 0 e size f) t)
+
+    go : Later → (f : Entry) → firstEntry xs ≡ f → andThen f (λ size. entries n (drop size xs)) ≡ good es → Each (suc n) es
+    go ih (Valid e size) f p = rest ih e size (entries n (drop size xs)) f refl p
+    go ih Invalid f p = let z : _≡_ {A = ℕ} 0 1 = cc in absurd (omega arith)
+
+pub entries-length : (n : ℕ) (xs : List ℕ) (es : List Change) → entries n xs ≡ good es → length es ≡ n
+entries-length n xs es h = entries-each (λ (e : Change). Unit {0}) tt n xs es (λ j e size f. tt) h .0

@@ -1,0 +1,184 @@
+-- Laws of one lamp: its rule, its actual level, a second passing.
+use Prim.Native.Nat.{ℕ, suc, _+_, _-_, _*_, _/_, _%_, _≤_, _<_}
+use mathlib.Core.Path.{_≡_, refl, sym, _∙_}
+use mathlib.Core.Bool.{Bool, true, false, not, _&&_, _||_}
+use native.Mathlib.Omega.{arith}
+use native.Mathlib.Nat.{div-add-mod', mod-lt, div-lt-iff-lt-mul, mul-le-mul-right, mul-mod-left, suc-mul, zero-mod}
+use lib.Dec.{leb, ltb, eqb}
+use borrow.Author.Tests.{leb-true, leb-false, le-leb, eqb-true, eqb-false, eq-eqb, ne-eqb, lt-ltb, le-ltb, ltb-true, ltb-false}
+use Rattle.dpa.specs.declared.settings.Settings.{Settings}
+use Rattle.dpa.specs.Settings.{stepOk, settingsOk}
+use Rattle.dpa.proofs.Bool.{and-left, and-right, both, by-cond, by-test}
+use Rattle.dpa.proofs.Ranges.{step-pos, step-rem, settings-facts}
+use Rattle.lights.specs.declared.lamp.Lamp.{Lamp}
+use Rattle.lights.specs.Lamp.{lamp, off, lampOk, LampRule, lampZero, lampFits, actualLevel, tickLamp}
+
+-- The lamp's rule, as a test and as facts
+
+-- the test gives the facts
+pub lamp-facts : (l : Lamp) → lampOk l ≡ true → LampRule l
+unfolding lampOk
+lamp-facts l e =
+    let ab : (leb (l .level) 100 && leb (l .seconds) 7620) ≡ true = and-left _ _ e in
+    let c : (not (eqb (l .level) 0) || eqb (l .seconds) 0) ≡ true = and-right (leb (l .level) 100 && leb (l .seconds) 7620) _ e in
+    record {
+      level-max = leb-true _ _ (and-left _ _ ab);
+      seconds-max = leb-true _ _ (and-right (leb (l .level) 100) _ ab);
+      seconds-off = λ z. eqb-true _ _ (rw (eq-eqb (l .level) 0 z) at c);
+    }
+
+off-test : (l : Lamp) → (l .level ≡ 0 → l .seconds ≡ 0) → (b : Bool) → eqb (l .level) 0 ≡ b → (not b || eqb (l .seconds) 0) ≡ true
+off-test l h true e = eq-eqb _ _ (h (eqb-true _ _ e))
+off-test l h false e = refl
+
+-- the facts give the test
+pub lamp-test : (l : Lamp) → LampRule l → lampOk l ≡ true
+unfolding lampOk
+lamp-test l r =
+    both (both (le-leb _ _ (r .level-max)) (le-leb _ _ (r .seconds-max))) (off-test l (r .seconds-off) (eqb (l .level) 0) refl)
+
+-- a lamp of zeros is `off`
+pub zero-facts : (l : Lamp) → lampZero l ≡ true → l ≡ off
+unfolding lampZero
+zero-facts l e =
+    let p : l .level ≡ 0 = eqb-true _ _ (and-left _ _ e) in
+    let q : l .seconds ≡ 0 = eqb-true _ _ (and-right (eqb (l .level) 0) _ e) in
+    λ i. record { level = p i; seconds = q i }
+
+-- and `off` is one
+pub off-zero : lampZero off ≡ true
+unfolding lampZero
+off-zero = refl
+
+-- which keeps the rule
+pub off-rule : LampRule off
+off-rule = record { level-max = omega arith; seconds-max = omega arith; seconds-off = λ _. refl }
+
+-- The rule at a place among a node's lamps
+
+-- below the count
+pub fits-below : (count k : ℕ) (l : Lamp) → k < count → lampFits count k l ≡ lampOk l
+unfolding lampFits
+fits-below count k l h = rw (lt-ltb k count h)
+
+-- from the count up
+pub fits-above : (count k : ℕ) (l : Lamp) → count ≤ k → lampFits count k l ≡ lampZero l
+unfolding lampFits
+fits-above count k l h = rw (le-ltb k count h)
+
+-- the facts give the test
+pub fits-test : (count k : ℕ) (l : Lamp) → (k < count → LampRule l) → (count ≤ k → l ≡ off) → lampFits count k l ≡ true
+unfolding lampFits
+fits-test count k l p q =
+    by-cond (λ (t : Bool). t ≡ true) (ltb k count) _ _
+    (λ e. lamp-test l (p (ltb-true _ _ e)))
+    (λ e. rw (q (ltb-false _ _ e)) off-zero)
+
+-- a lamp that fits keeps the rule of an implemented lamp, wherever it stands
+pub fits-rule : (count k : ℕ) (l : Lamp) → lampFits count k l ≡ true → LampRule l
+unfolding lampFits
+fits-rule count k l e =
+    by-test (ltb k count)
+    (λ t. lamp-facts l (rw t at e))
+    (λ t. rw (zero-facts l (rw t at e)) off-rule)
+
+-- what the last returns of `lamp_ok` and `lamp_fits` compute
+pub ok-last : (l : Lamp) → l .level ≤ 100 → l .seconds ≤ 7620 → l .level ≡ 0 → eqb (l .seconds) 0 ≡ lampOk l
+unfolding lampOk
+ok-last l a b e = simp (le-leb _ _ a, le-leb _ _ b, eq-eqb _ _ e)
+
+pub fits-last : (count k : ℕ) (l : Lamp) → count ≤ k → l .level ≡ 0 → eqb (l .seconds) 0 ≡ lampFits count k l
+unfolding lampFits lampZero
+fits-last count k l h e = simp (le-ltb _ _ h, eq-eqb _ _ e)
+
+-- The actual level, for settings in range
+
+-- a dimming step is at most 100
+step-small : (s : ℕ) → stepOk s ≡ true → s ≤ 100
+unfolding stepOk
+step-small s e =
+    by-test (leb s 100)
+    (λ t. leb-true _ _ t)
+    (λ t. let l : 100 < s = leb-false _ _ t in
+    let apart : (k : ℕ) → k ≤ 100 → eqb s k ≡ false = λ k h. ne-eqb s k (λ x. omega (arith, l, h, x)) in
+    let z : false ≡ true
+    = rw (apart 1 (omega arith), apart 2 (omega arith), apart 4 (omega arith), apart 5 (omega arith), apart 10 (omega arith), apart 20 (omega arith), apart 25 (omega arith), apart 50 (omega arith), apart 100 (omega arith)) at e in
+    let y : _≡_ {A = ℕ} 0 1 = cc in absurd (omega (arith, y)))
+
+module _ (s : Settings) (h : settingsOk s ≡ true) where
+  -- the step is 1 to 100
+  pub step-max : s .step ≤ 100
+  step-max = step-small (s .step) (settings-facts s h .step-valid)
+
+  pub step-min : 1 ≤ s .step
+  step-min = step-pos (s .step) (omega (arith, step-max)) (settings-facts s h .step-valid)
+
+  step-of-100 : 100 % s .step ≡ 0
+  step-of-100 = step-rem (s .step) (omega (arith, step-max)) (settings-facts s h .step-valid)
+
+  -- it is a multiple of the step
+  pub actual-multiple : (level : ℕ) → actualLevel s level % s .step ≡ 0
+  unfolding actualLevel
+  actual-multiple level = mul-mod-left _ _
+
+  -- it is not below the level
+  pub actual-above : (level : ℕ) → level ≤ actualLevel s level
+  unfolding actualLevel
+  actual-above level = omega (arith, div-add-mod' (level + (s .step - 1)) (s .step), mod-lt (level + (s .step - 1)) step-min)
+
+  -- it is at most any multiple of the step that is not below the level
+  pub actual-least : (level m : ℕ) → m % s .step ≡ 0 → level ≤ m → actualLevel s level ≤ m
+  unfolding actualLevel
+  actual-least level m z l =
+      let q : ℕ = m / s .step in
+      let e : q * s .step ≡ m = omega (arith, div-add-mod' m (s .step)) in
+      let b : (level + (s .step - 1)) / s .step < suc q = div-lt-iff-lt-mul step-min .1 (omega (arith, suc-mul q (s .step), step-min)) in
+      let c : (level + (s .step - 1)) / s .step * s .step ≤ q * s .step = mul-le-mul-right (s .step) (omega arith) in
+      omega arith
+
+  -- it is at most 100
+  pub actual-max : (level : ℕ) → level ≤ 100 → actualLevel s level ≤ 100
+  actual-max level l = actual-least level 100 step-of-100 l
+
+  -- a lamp that is off is seen off
+  pub actual-off : actualLevel s 0 ≡ 0
+  actual-off = let l = actual-least 0 0 (zero-mod (s .step)) (omega arith) in omega arith
+
+-- A second passing
+
+-- a running timer falls by one; a timer at 0 stays there
+pub tick-seconds : (l : Lamp) → tickLamp l .seconds ≡ l .seconds - 1
+unfolding tickLamp
+tick-seconds l = by-cond (λ (t : Lamp). t .seconds ≡ l .seconds - 1) (eqb (l .seconds) 0) _ _ (λ e. omega (arith, eqb-true (l .seconds) 0 e)) (λ e. refl)
+
+-- a timer that ends puts its lamp to level 0
+pub tick-ends : (l : Lamp) → l .seconds ≡ 1 → tickLamp l .level ≡ 0
+unfolding tickLamp
+tick-ends l e = rw e
+
+-- else the level stays
+pub tick-level : (l : Lamp) → (l .seconds ≡ 1 → ⊥) → tickLamp l .level ≡ l .level
+unfolding tickLamp
+tick-level l h =
+    by-cond (λ (t : Lamp). t .level ≡ l .level) (eqb (l .seconds) 0) _ _ (λ e. refl)
+    (λ e. rw (ne-eqb (l .seconds - 1) 0 (λ z. h (omega (arith, z, eqb-false (l .seconds) 0 e)))))
+
+tick-rule : (l : Lamp) → LampRule l → LampRule (tickLamp l)
+unfolding tickLamp
+tick-rule l r =
+    by-cond (λ (t : Lamp). LampRule t) (eqb (l .seconds) 0) _ _ (λ _. r)
+    (λ a. by-cond (λ (v : ℕ). LampRule (lamp v (l .seconds - 1))) (eqb (l .seconds - 1) 0) _ _
+    (λ b. record { level-max = omega arith; seconds-max = omega (arith, r .seconds-max); seconds-off = λ _. eqb-true _ _ b })
+    (λ b. record { level-max = r .level-max; seconds-max = omega (arith, r .seconds-max); seconds-off = λ z. omega (arith, r .seconds-off z) }))
+
+-- a lamp of zeros stays so
+pub tick-off : tickLamp off ≡ off
+unfolding tickLamp
+tick-off = refl
+
+-- a lamp that fits its place still fits
+pub tick-keeps : (count k : ℕ) (l : Lamp) → lampFits count k l ≡ true → lampFits count k (tickLamp l) ≡ true
+tick-keeps count k l e =
+    fits-test count k (tickLamp l)
+    (λ _. tick-rule l (fits-rule count k l e))
+    (λ a. let z : l ≡ off = zero-facts l (sym (fits-above count k l a) ∙ e) in rw z tick-off)

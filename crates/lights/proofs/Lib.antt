@@ -1,0 +1,10 @@
+pub mod Lamps
+pub mod Bits
+pub mod Selected
+pub mod Entries
+pub mod Turns
+pub mod Answers
+pub mod Places
+pub mod Rule
+pub mod Requests
+pub mod Examples

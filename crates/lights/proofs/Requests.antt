@@ -1,0 +1,153 @@
+-- Laws of a whole request.
+use mathlib.Core.Path.{_≡_, refl, sym, ap, _∙_}
+use mathlib.Core.Bool.{true, cond, _&&_}
+use mathlib.Core.List.{List, [], _∷_}
+use Prim.Native.Nat.{ℕ, _+_, _≤_, _<_}
+use native.Mathlib.Omega.{arith}
+use lib.ListN.{length, getD, take, drop}
+use lib.Dec.{ltb, eqb}
+use borrow.Author.Tests.{ltb-false}
+use Rattle.dpa.specs.Served.{Harmless, Served, served, refused}
+use Rattle.dpa.proofs.Bool.{by-cond}
+use Rattle.dpa.specs.declared.settings.Settings.{Settings}
+use Rattle.lights.specs.Bits.{count, bitmap, isOne, selected, numberBelow}
+use Rattle.lights.specs.Lamp.{off, lampFits, LampRule, actualLevel}
+use Rattle.lights.specs.Lights.{Reading, good, bad, entries, lampsAfter, levelsBefore, answered, changeLamps, enumerateLamps, lightsRequest}
+use Rattle.lights.proofs.Lamps.{fits-test, fits-rule, fits-above, zero-facts}
+use Rattle.lights.proofs.Bits.{count-length}
+use Rattle.lights.proofs.Selected.{bitmap-length, count-selected, rank-selected, selected-digit}
+use Rattle.lights.proofs.Entries.{still, entries-length}
+use Rattle.lights.proofs.Places.{lampBy, lamp-place, lamp-idle, lamps-length, level-place}
+use Rattle.lights.proofs.Answers.{levels-length}
+use Rattle.lights.proofs.Rule.{ChangeRule, entries-rule, lamp-after-rule}
+use Rattle.lights.specs.declared.apply.Command.{Command}
+use Rattle.lights.specs.declared.apply.Command.the-variants.{Set, Raise, Lower}
+use Rattle.lights.specs.declared.lamp.Lamp.{Lamp}
+use Rattle.lights.specs.declared.entry.Change.{Change}
+
+-- the entries that were read
+abbrev pub itemsOf : Reading → List Change
+itemsOf (good es) = es
+itemsOf bad = []
+
+-- the entries that PData holds, and lamp k's own among them
+abbrev pub entriesOf : List ℕ → List Change
+entriesOf xs = itemsOf (entries (count (bitmap xs)) (drop 4 xs))
+
+abbrev pub entryOf : List ℕ → ℕ → Change
+entryOf xs k = getD (entriesOf xs) (numberBelow k (selected xs)) still
+
+module _ (s : Settings) (xs : List ℕ) (ls : List Lamp) where
+  -- a request to change lamps is refused with 6, or its entries are all valid
+  pub change-cases : (c : Command) (P : Served (List Lamp) → Type 0) → P (refused ls 6)
+      → ((es : List Change) → 4 ≤ length xs → entries (count (bitmap xs)) (drop 4 xs) ≡ good es
+      → P (served (lampsAfter c (s .«lamp_count») (bitmap xs) es ls) 0 (levelsBefore s (s .«lamp_count») (bitmap xs) ls)))
+      → P (changeLamps s c xs ls)
+  unfolding changeLamps
+  change-cases c P f g =
+      by-cond P (ltb (length xs) 4) _ _ (λ t. f) (λ t. go (entries (count (bitmap xs)) (drop 4 xs)) refl (ltb-false _ _ t))
+    where
+      go : (r : Reading) → entries (count (bitmap xs)) (drop 4 xs) ≡ r → 4 ≤ length xs → P (answered s c (bitmap xs) ls r)
+      go (good es) e h = g es h e
+      go bad e h = f
+
+  -- any request is refused with an error, tells the count, or has entries that are all valid
+  pub request-cases : (p : ℕ) (P : Served (List Lamp) → Type 0)
+      → ((e : ℕ) → (e ≡ 0 → ⊥) → P (refused ls e))
+      → P (served ls 0 (s .«lamp_count» ∷ []))
+      → ((c : Command) (es : List Change) → 4 ≤ length xs → entries (count (bitmap xs)) (drop 4 xs) ≡ good es
+      → P (served (lampsAfter c (s .«lamp_count») (bitmap xs) es ls) 0 (levelsBefore s (s .«lamp_count») (bitmap xs) ls)))
+      → P (lightsRequest s p xs ls)
+  unfolding lightsRequest enumerateLamps
+  request-cases p P f n g =
+      let change : (c : Command) → P (changeLamps s c xs ls) = λ c. change-cases c P (f 6 (λ z. omega arith)) (g c) in
+      by-cond P (eqb p 0x00) _ _ (λ _. change Set)
+      (λ _. by-cond P (eqb p 0x01) _ _ (λ _. change Raise)
+      (λ _. by-cond P (eqb p 0x02) _ _ (λ _. change Lower)
+      (λ _. by-cond P (eqb p 0x3E) _ _
+      (λ _. by-cond P (eqb (length xs) 0) _ _ (λ _. n) (λ _. f 5 (λ z. omega arith)))
+      (λ _. f 2 (λ z. omega arith)))))
+
+  -- a request whose error is not 0 leaves the lamps and has no data
+  pub request-harmless : (p : ℕ) → Harmless ls (lightsRequest s p xs ls)
+  request-harmless p =
+      request-cases p (λ (x : Served (List Lamp)). Harmless ls x)
+      (λ e n h. (refl, refl)) (λ h. absurd (h refl)) (λ c es l e h. absurd (h refl))
+
+  -- no request changes the number of lamps
+  pub lamps-stay : (p : ℕ) → length (lightsRequest s p xs ls .after) ≡ length ls
+  lamps-stay p =
+      request-cases p (λ (x : Served (List Lamp)). length (x .after) ≡ length ls)
+      (λ e n. refl) refl (λ c es l e. lamps-length c (s .«lamp_count») (bitmap xs) es ls)
+
+  module _ (full : length ls ≡ 32) where
+    fits-map : length (bitmap xs) ≤ length ls
+    fits-map = omega (arith, bitmap-length xs)
+
+    enough : (es : List Change) → entries (count (bitmap xs)) (drop 4 xs) ≡ good es → count (bitmap xs) ≤ length es
+    enough es e = omega (arith, entries-length (count (bitmap xs)) (drop 4 xs) es e)
+
+    -- a successful change answers a byte for each selected lamp
+    pub answer-length : (c : Command) → changeLamps s c xs ls .error ≡ 0 → length (changeLamps s c xs ls .bytes) ≡ numberBelow 32 (selected xs)
+    answer-length c =
+        change-cases c (λ (x : Served (List Lamp)). x .error ≡ 0 → length (x .bytes) ≡ numberBelow 32 (selected xs))
+        (λ z. absurd (omega arith))
+        (λ es l e z. levels-length s (s .«lamp_count») (bitmap xs) ls fits-map ∙ count-selected xs)
+
+    -- no answer has more than 32 bytes
+    pub answer-max : (p : ℕ) → length (lightsRequest s p xs ls .bytes) ≤ 32
+    answer-max p =
+        request-cases p (λ (x : Served (List Lamp)). length (x .bytes) ≤ 32)
+        (λ e n. omega arith) (omega arith)
+        (λ c es l e. omega (arith, levels-length s (s .«lamp_count») (bitmap xs) ls fits-map, count-length (bitmap xs), bitmap-length xs))
+
+    -- each lamp after a successful change: by its own entry if it is selected and implemented, else as it was
+    pub lamp-at : (c : Command) (k : ℕ) → k < 32 → changeLamps s c xs ls .error ≡ 0
+        → getD (changeLamps s c xs ls .after) k off
+        ≡ cond (selected xs k && ltb k (s .«lamp_count»)) (lampBy c (getD ls k off) (entryOf xs k)) (getD ls k off)
+    lamp-at c k h =
+        let l = getD ls k off in
+        change-cases c
+        (λ (x : Served (List Lamp)). x .error ≡ 0 → getD (x .after) k off ≡ cond (selected xs k && ltb k (s .«lamp_count»)) (lampBy c l (entryOf xs k)) l)
+        (λ z. absurd (omega arith))
+        (λ es _ e z.
+        let d : isOne (getD (bitmap xs) k 0) ≡ selected xs k = selected-digit xs k h in
+        let f : es ≡ entriesOf xs = sym (ap itemsOf e) in
+        let r : count (take k (bitmap xs)) ≡ numberBelow k (selected xs) = rank-selected xs k (omega arith) in
+        lamp-place c (s .«lamp_count») (bitmap xs) es ls k fits-map (enough es e)
+        ∙ (λ i. cond (d i && ltb k (s .«lamp_count»)) (lampBy c l (getD (f i) (r i) still)) l))
+
+    -- each selected lamp's actual level before a successful change is answered, 0 for an unimplemented lamp
+    pub level-at : (c : Command) (k : ℕ) → k < 32 → selected xs k ≡ true → changeLamps s c xs ls .error ≡ 0
+        → getD (changeLamps s c xs ls .bytes) (numberBelow k (selected xs)) 0 ≡ cond (ltb k (s .«lamp_count»)) (actualLevel s (getD ls k off .level)) 0
+    level-at c k h t =
+        change-cases c
+        (λ (x : Served (List Lamp)). x .error ≡ 0 → getD (x .bytes) (numberBelow k (selected xs)) 0 ≡ cond (ltb k (s .«lamp_count»)) (actualLevel s (getD ls k off .level)) 0)
+        (λ z. absurd (omega arith))
+        (λ es _ e z.
+        ap (λ (j : ℕ). getD (levelsBefore s (s .«lamp_count») (bitmap xs) ls) j 0) (sym (rank-selected xs k (omega arith)))
+        ∙ level-place s (s .«lamp_count») (bitmap xs) ls k fits-map (selected-digit xs k h ∙ t))
+
+    -- a lamp from the count up is never changed
+    pub unimplemented-stays : (p k : ℕ) → s .«lamp_count» ≤ k → getD (lightsRequest s p xs ls .after) k off ≡ getD ls k off
+    unimplemented-stays p k h =
+        request-cases p (λ (x : Served (List Lamp)). getD (x .after) k off ≡ getD ls k off)
+        (λ e n. refl) refl
+        (λ c es _ e.
+        lamp-idle c (s .«lamp_count») (bitmap xs) es ls k fits-map (enough es e) h)
+
+    -- a lamp that fits its place still fits
+    pub request-keeps : (p k : ℕ) → lampFits (s .«lamp_count») k (getD ls k off) ≡ true
+        → lampFits (s .«lamp_count») k (getD (lightsRequest s p xs ls .after) k off) ≡ true
+    request-keeps p k fit =
+        let n = s .«lamp_count» in
+        let rule : LampRule (getD ls k off) = fits-rule n k (getD ls k off) fit in
+        fits-test n k (getD (lightsRequest s p xs ls .after) k off)
+        (λ _. request-cases p (λ (x : Served (List Lamp)). LampRule (getD (x .after) k off)) (λ e z. rule) rule
+        (λ c es _ e.
+        let valid : (i : ℕ) → ChangeRule (getD es i still) = entries-rule (count (bitmap xs)) (drop 4 xs) es e in
+        rw (lamp-place c n (bitmap xs) es ls k fits-map (enough es e))
+        (by-cond (λ (l : Lamp). LampRule l) (isOne (getD (bitmap xs) k 0) && ltb k n) _ _
+        (λ _. lamp-after-rule c (getD ls k off) (getD es (count (take k (bitmap xs))) still) rule (valid (count (take k (bitmap xs)))))
+        (λ _. rule))))
+        (λ h. unimplemented-stays p k h ∙ zero-facts (getD ls k off) (sym (fits-above n k (getD ls k off) h) ∙ fit))

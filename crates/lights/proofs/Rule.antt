@@ -1,0 +1,83 @@
+-- Entries keep a lamp's rule.
+use mathlib.Core.Path.{_≡_, refl, subst}
+use mathlib.Core.Bool.{Bool, true, false, cond, _||_}
+use mathlib.Core.List.{List, [], _∷_}
+use Prim.Native.Nat.{ℕ, _+_, _%_, _≤_, _<_}
+use native.Mathlib.Omega.{arith}
+use lib.ListN.{getD, drop}
+use lib.Dec.{ltb, leb, eqb}
+use borrow.Author.Tests.{leb-true, ltb-true, ltb-false, eqb-false}
+use Rattle.dpa.proofs.Bool.{by-cond}
+use Rattle.lights.specs.Lamp.{LampRule, lamp}
+use Rattle.lights.specs.Lights.{powerOk, timeOk, secondsOf, change, timedEntry, firstEntry, good, entries, newLevel, lampAfter}
+use Rattle.lights.proofs.Entries.{still, entries-each}
+use Rattle.lights.proofs.Places.{lampBy}
+use Rattle.lights.specs.declared.apply.Command.{Command}
+use Rattle.lights.specs.declared.apply.Command.the-variants.{Set, Raise, Lower}
+use Rattle.lights.specs.declared.lamp.Lamp.{Lamp}
+use Rattle.lights.specs.declared.entry.Change.{Change}
+use Rattle.lights.specs.declared.entry.Entry.the-variants.{Valid, Invalid}
+
+-- an entry in range
+pub record ChangeRule (e : Change) : Type 0 where
+  pub power : powerOk (e .power) ≡ true
+  pub seconds : e .seconds ≤ 7620
+
+-- ---- what is read is in range
+
+seconds-max : (t : ℕ) → secondsOf t ≤ 7620
+unfolding secondsOf
+seconds-max t = by-cond (λ (n : ℕ). n ≤ 7620) (ltb t 128) _ _ (λ e. omega (arith, ltb-true t 128 e)) (λ e. omega arith)
+
+first-rule : (xs : List ℕ) (e : Change) (size : ℕ) → firstEntry xs ≡ Valid e size → ChangeRule e
+first-rule [] e size h = let z : _≡_ {A = ℕ} 0 1 = cc in absurd (omega arith)
+first-rule (b ∷ xs) e size h = go (powerOk (b % 128)) (ltb b 128) xs refl h
+  where
+    none : Invalid ≡ Valid e size → ChangeRule e
+    none q = let z : _≡_ {A = ℕ} 0 1 = cc in absurd (omega arith)
+
+    made : (p s : ℕ) → powerOk p ≡ true → s ≤ 7620 → change p s ≡ e → ChangeRule e
+    made p s k l q = subst ChangeRule q (record { power = k; seconds = l })
+
+    last : (t : ℕ) (z : Bool) → powerOk (b % 128) ≡ true → cond z (Valid (change (b % 128) (secondsOf t)) 2) Invalid ≡ Valid e size → ChangeRule e
+    last t true k q = made (b % 128) (secondsOf t) k (seconds-max t) (cc)
+    last t false k q = none q
+
+    go : (p q : Bool) (ys : List ℕ) → powerOk (b % 128) ≡ p
+        → cond p (cond q (Valid (change (b % 128) 0) 1) (timedEntry (b % 128) ys)) Invalid ≡ Valid e size → ChangeRule e
+    go true true ys k r = made (b % 128) 0 k (omega arith) (cc)
+    go true false [] k r = none r
+    go true false (t ∷ ys) k r = last t (timeOk t) k r
+    go false q ys k r = none r
+
+still-rule : ChangeRule still
+unfolding powerOk
+still-rule = record { power = refl; seconds = omega arith }
+
+pub entries-rule : (n : ℕ) (xs : List ℕ) (es : List Change) → entries n xs ≡ good es → (i : ℕ) → ChangeRule (getD es i still)
+entries-rule n xs es h = entries-each ChangeRule still-rule n xs es (λ j. first-rule (drop j xs)) h .1
+
+-- ---- a lamp after an entry in range
+
+level-power : (p : ℕ) → powerOk p ≡ true → eqb p 127 ≡ false → p ≤ 100
+unfolding powerOk
+level-power p h k = go (leb p 100) refl h
+  where
+    go : (b : Bool) → leb p 100 ≡ b → (b || eqb p 127) ≡ true → p ≤ 100
+    go true e q = leb-true p 100 e
+    go false e q = let z : _≡_ {A = ℕ} 0 1 = cc in absurd (omega arith)
+
+level-max : (c : Command) (l p : ℕ) → l ≤ 100 → p ≤ 100 → newLevel c l p ≤ 100
+level-max Set l p h k = k
+level-max Raise l p h k = omega arith
+level-max Lower l p h k = omega arith
+
+pub lamp-after-rule : (c : Command) (l : Lamp) (e : Change) → LampRule l → ChangeRule e → LampRule (lampBy c l e)
+unfolding lampAfter
+lamp-after-rule c l e r q =
+    let v = newLevel c (l .level) (e .power) in
+    by-cond (λ (x : Lamp). LampRule x) (eqb (e .power) 127) _ _ (λ t. r)
+    (λ t. let m : v ≤ 100 = level-max c (l .level) (e .power) (r .level-max) (level-power (e .power) (q .power) t) in
+    by-cond (λ (s : ℕ). LampRule (lamp v s)) (eqb v 0) _ _
+    (λ u. record { level-max = m; seconds-max = omega arith; seconds-off = λ z. refl })
+    (λ u. record { level-max = m; seconds-max = q .seconds; seconds-off = λ z. absurd (eqb-false v 0 u z) }))

@@ -1,0 +1,103 @@
+-- What is left to do at lamp i of the walks over the bitmap, one law for each way through a turn.
+use mathlib.Core.Path.{_≡_, refl}
+use mathlib.Core.Bool.{cond}
+use mathlib.Core.List.{List, [], _∷_, _++_}
+use Prim.Native.Nat.{ℕ, suc, _+_, _-_, _/_, _%_, _≤_, _<_}
+use native.Mathlib.Omega.{arith}
+use native.Mathlib.Numerals.{add-one}
+use lib.ListN.{length, getD, take, drop, set, take-append-drop}
+use lib.Seq.{drop-cons, take-suc, take-suc-set, append-snoc, drop-set-lt}
+use lib.Dec.{ltb}
+use borrow.Author.Tests.{lt-ltb, le-ltb}
+use Rattle.dpa.specs.declared.settings.Settings.{Settings}
+use Rattle.lights.specs.Bits.{bits}
+use Rattle.lights.specs.Lamp.{off, actualLevel}
+use Rattle.lights.specs.Lights.{lampAfter, lampsAfter, levelsBefore}
+use Rattle.lights.proofs.Bits.{bits-more}
+use Rattle.lights.proofs.Entries.{still}
+use Rattle.lights.specs.declared.apply.Command.{Command}
+use Rattle.lights.specs.declared.lamp.Lamp.{Lamp}
+use Rattle.lights.specs.declared.entry.Change.{Change}
+
+module _ (c : Command) (n : ℕ) where
+  -- the lamps below i as they are, and those from i on after the entries es that are left
+  abbrev pub from : ℕ → ℕ → List Change → List Lamp → List Lamp
+  from i m es ls = take i ls ++ lampsAfter c (n - i) (bits (32 - i) m) es (drop i ls)
+
+  -- a lamp that is not selected
+  pub from-skip : (i m : ℕ) (es : List Change) (ls : List Lamp) → i < 32 → length ls ≡ 32 → m % 2 ≡ 0 → from i m es ls ≡ from (i + 1) (m / 2) es ls
+  unfolding lampsAfter
+  from-skip i m es ls h l z =
+      let w : i < length ls = omega arith in
+      let s : (n - i) - 1 ≡ n - suc i = omega arith in
+      rw (bits-more i m h, z, drop-cons ls i off, s, add-one, take-suc ls i off, append-snoc)
+
+  -- a selected lamp that is not implemented
+  pub from-idle : (i m k : ℕ) (items : List Change) (ls : List Lamp)
+      → i < 32 → length ls ≡ 32 → k < length items → m % 2 ≡ 1 → n ≤ i
+      → from i m (drop k items) ls ≡ from (i + 1) (m / 2) (drop (k + 1) items) ls
+  unfolding lampsAfter
+  from-idle i m k items ls h l x z q =
+      let w : i < length ls = omega arith in
+      let s : (n - i) - 1 ≡ n - suc i = omega arith in
+      let t : n - i ≤ 0 = omega arith in
+      rw (bits-more i m h, z, drop-cons items k still, drop-cons ls i off, s, le-ltb 0 (n - i) t, add-one k, add-one i, take-suc ls i off, append-snoc)
+
+  -- a selected lamp
+  pub from-done : (i m k : ℕ) (items : List Change) (ls : List Lamp) (r : Lamp)
+      → i < 32 → length ls ≡ 32 → k < length items → m % 2 ≡ 1 → i < n
+      → r ≡ lampAfter c (getD ls i off) (getD items k still .power) (getD items k still .seconds)
+      → from i m (drop k items) ls ≡ from (i + 1) (m / 2) (drop (k + 1) items) (set ls i r)
+  unfolding lampsAfter
+  from-done i m k items ls r h l x z q e =
+      let w : i < length ls = omega arith in
+      let s : (n - i) - 1 ≡ n - suc i = omega arith in
+      let t : 0 < n - i = omega arith in
+      let u : i < suc i = omega arith in
+      rw (bits-more i m h, z, drop-cons items k still, drop-cons ls i off, s, lt-ltb 0 (n - i) t, ← e, add-one k, add-one i, take-suc-set, drop-set-lt, append-snoc)
+
+  pub from-end : (i m : ℕ) (es : List Change) (ls : List Lamp) → 32 ≤ i → length ls ≡ 32 → from i m es ls ≡ ls
+  unfolding lampsAfter bits
+  from-end i m es ls h l =
+      let j : 32 - i ≡ 0 = omega arith in
+      rw j (take-append-drop i ls)
+
+module _ (s : Settings) (n : ℕ) (ls : List Lamp) where
+  -- the levels of the selected lamps from i on
+  abbrev pub told : ℕ → ℕ → List ℕ
+  told i m = levelsBefore s (n - i) (bits (32 - i) m) (drop i ls)
+
+  levels-skip : (k : ℕ) (bs : List ℕ) (x : Lamp) (xs : List Lamp) → levelsBefore s k (0 ∷ bs) (x ∷ xs) ≡ levelsBefore s (k - 1) bs xs
+  unfolding levelsBefore
+  levels-skip k bs x xs = refl
+
+  pub told-skip : (i m : ℕ) → i < 32 → length ls ≡ 32 → m % 2 ≡ 0 → told i m ≡ told (i + 1) (m / 2)
+  told-skip i m h l z =
+      let w : i < length ls = omega arith in
+      let t : (n - i) - 1 ≡ n - suc i = omega arith in
+      rw (bits-more i m h, z, drop-cons ls i off, levels-skip, t, add-one i)
+
+  pub told-more : (i m k : ℕ) (out : List ℕ) (r : ℕ) → i < 32 → length ls ≡ 32 → k < length out → m % 2 ≡ 1
+      → r ≡ cond (ltb 0 (n - i)) (actualLevel s (getD ls i off .level)) 0
+      → take k out ++ told i m ≡ take (k + 1) (set out k r) ++ told (i + 1) (m / 2)
+  unfolding levelsBefore
+  told-more i m k out r h l x z e =
+      let w : i < length ls = omega arith in
+      let t : (n - i) - 1 ≡ n - suc i = omega arith in
+      rw (bits-more i m h, z, drop-cons ls i off, t, ← e, add-one k, add-one i, take-suc-set, append-snoc)
+
+  pub told-end : (i m : ℕ) → 32 ≤ i → told i m ≡ []
+  unfolding levelsBefore bits
+  told-end i m h =
+      let j : 32 - i ≡ 0 = omega arith in
+      rw j
+
+pub shown-lit : (n i v w : ℕ) → i < n → v ≡ w → v ≡ cond (ltb 0 (n - i)) w 0
+shown-lit n i v w h e =
+    let t : 0 < n - i = omega arith in
+    rw (lt-ltb 0 (n - i) t) e
+
+pub shown-dark : (n i w : ℕ) → n ≤ i → 0 ≡ cond (ltb 0 (n - i)) w 0
+shown-dark n i w h =
+    let t : n - i ≤ 0 = omega arith in
+    rw (le-ltb 0 (n - i) t)

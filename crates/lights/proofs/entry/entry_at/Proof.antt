@@ -1,0 +1,83 @@
+-- `entry::entry_at` meets its contract: one law of proofs/Entries for each return.
+use borrow.Author.Tests.{not-true, not-false}
+use native.Mathlib.Omega.{arith}
+use mathlib.Core.Path.{_≡_, sym, _∙_}
+use mathlib.Core.Bool.{true, false}
+use denote.Ref.{now}
+use lib.ListN.{getD}
+use Prim.Native.Nat.{_%_}
+use Rattle.lights.specs.Lights.{powerOk}
+use Rattle.lights.proofs.Entries.{entry-none, entry-power, entry-plain, entry-cut, entry-timed}
+use borrow.Author.Needs.{needs}
+use Rattle.lights.proofs.entry.entry_at.Statement.{statement}
+use Rattle.lights.proofs.entry.entry_at.Tie as tie
+
+returns : tie.Need-returns
+returns c =
+    let a = c .before .before .args in
+    entry-none (now (a .src)) (a .at) (omega arith)
+
+shared-slice-read-byte : tie.Need-shared-slice-read-byte
+shared-slice-read-byte c = search needs
+
+power-ok-requires : tie.Need-power-ok-requires
+power-ok-requires c κs = search needs
+
+returns-2 : tie.Need-returns-2
+returns-2 c =
+    let a = c .before .before .before .before .before .args in
+    entry-power (now (a .src)) (a .at) (omega arith) (sym (c .before .power-ok .ensures) ∙ not-true _ (c .if2 .taken))
+
+-- the power byte's low seven bits are a power
+power : (c : tie.Else2) → powerOk (getD (now (c .before .before .before .before .before .args .src)) (c .before .before .before .before .before .args .at) 0 % 128) ≡ true
+power c = sym (c .before .power-ok .ensures) ∙ not-false _ (c .if2 .left)
+
+returns-3 : tie.Need-returns-3
+returns-3 c =
+    let a = c .before .before .before .before .before .before .args in
+    entry-plain (now (a .src)) (a .at) (omega arith) (power (c .before)) (c .if3 .taken)
+
+add-next : tie.Need-add-next
+add-next c = search needs
+
+returns-4 : tie.Need-returns-4
+returns-4 c =
+    let a = c .before .before .before .before .before .before .before .args in
+    entry-cut (now (a .src)) (a .at) (omega arith) (power (c .before .before)) (c .before .if3 .left) (omega arith)
+
+shared-slice-read-time : tie.Need-shared-slice-read-time
+shared-slice-read-time c = search needs
+
+time-ok-requires : tie.Need-time-ok-requires
+time-ok-requires c κs = search needs
+
+returns-5 : tie.Need-returns-5
+returns-5 c =
+    let a = c .before .before .before .before .before .before .before .before .before .before .args in
+    entry-timed (now (a .src)) (a .at) (omega arith) (power (c .before .before .before .before .before)) (c .before .before .before .before .if3 .left) (omega arith) false (sym (c .before .time-ok .ensures) ∙ not-true _ (c .if5 .taken))
+
+seconds-of-requires : tie.Need-seconds-of-requires
+seconds-of-requires c κs = search needs
+
+returns-6 : tie.Need-returns-6
+returns-6 c =
+    let a = c .before .before .before .before .before .before .before .before .before .before .before .args in
+    let e = entry-timed (now (a .src)) (a .at) (omega arith) (power (c .before .before .before .before .before .before)) (c .before .before .before .before .before .if3 .left) (omega arith) true (sym (c .before .before .time-ok .ensures) ∙ not-false _ (c .before .if5 .left)) in
+    rw (c .seconds-of .ensures) e
+
+pub entry-at-spec : {M : Type 1} → statement M
+entry-at-spec =
+    tie.close
+    (tie.spec
+    returns
+    shared-slice-read-byte
+    power-ok-requires
+    returns-2
+    returns-3
+    add-next
+    returns-4
+    shared-slice-read-time
+    time-ok-requires
+    returns-5
+    seconds-of-requires
+    returns-6)

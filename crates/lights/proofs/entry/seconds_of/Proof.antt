@@ -1,0 +1,23 @@
+-- `entry::seconds_of` meets its contract, by the definition's test.
+use borrow.Author.Tests.{lt-ltb, le-ltb}
+use Rattle.lights.specs.Lights.{secondsOf}
+use borrow.Author.Needs.{needs}
+use Rattle.lights.proofs.entry.seconds_of.Statement.{statement}
+use Rattle.lights.proofs.entry.seconds_of.Tie as tie
+
+mul-result : tie.Need-mul-result
+mul-result c = search needs
+
+returns : tie.Need-returns
+unfolding secondsOf
+returns c = simp (lt-ltb _ _ (c .if1 .taken))
+
+cast-result : tie.Need-cast-result
+cast-result c = search needs
+
+returns-2 : tie.Need-returns-2
+unfolding secondsOf
+returns-2 c = simp (le-ltb _ _ (c .if1 .left))
+
+pub seconds-of-spec : {M : Type 1} → statement M
+seconds-of-spec = tie.close (tie.spec mul-result returns cast-result returns-2)

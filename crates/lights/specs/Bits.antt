@@ -1,0 +1,40 @@
+-- Document 01, "Lights 71": the bitmap of a request, byte 0 bit 0 first.
+use Prim.Native.Nat.{ℕ, zero, suc, _+_, _*_, _/_, _%_, _^_}
+use mathlib.Core.List.{List, [], _∷_, _++_}
+use mathlib.Core.Bool.{Bool, true, false, cond}
+use lib.ListN.{getD}
+use Rattle.dpa.specs.Number.{wordAt}
+
+-- the k lowest binary digits of n, lowest first
+unfoldable pub bits : ℕ → ℕ → List ℕ
+bits zero n = []
+bits (suc k) n = n % 2 ∷ bits k (n / 2)
+
+-- how many of a list of digits are 1
+abbrev pub count : List ℕ → ℕ
+count [] = 0
+count (zero ∷ bs) = count bs
+count (suc b ∷ bs) = suc (count bs)
+
+-- the thirty-two digits of the first four bytes; digit k is lamp k's
+unfoldable pub bitmap : List ℕ → List ℕ
+bitmap xs = bits 8 (getD xs 0 0) ++ (bits 8 (getD xs 1 0) ++ (bits 8 (getD xs 2 0) ++ bits 8 (getD xs 3 0)))
+
+-- the same four bytes as one number (proofs/Bits: `bits-mask`)
+abbrev pub maskOf : List ℕ → ℕ
+maskOf xs = wordAt xs 0 + 65536 * wordAt xs 2
+
+-- ---- the same by each lamp's own bit, for the laws
+
+abbrev pub isOne : ℕ → Bool
+isOne zero = false
+isOne (suc b) = true
+
+-- lamp k is selected: bit k mod 8 of byte k / 8 is 1 (proofs/Selected: `bitmap-at`)
+unfoldable pub selected : List ℕ → ℕ → Bool
+selected xs k = isOne (getD xs (k / 8) 0 / 2 ^ (k % 8) % 2)
+
+-- how many numbers below n pass a test (proofs/Selected: `count-selected`, `mask-selected`)
+unfoldable pub numberBelow : ℕ → (ℕ → Bool) → ℕ
+numberBelow zero f = 0
+numberBelow (suc n) f = numberBelow n f + cond (f n) 1 0

@@ -1,0 +1,4 @@
+pub mod Lamp
+pub mod Bits
+pub mod Lights
+pub mod Examples

@@ -1,0 +1,68 @@
+// One lamp: its rule, its actual level, and a second passing.
+use dpa::settings::Settings;
+ghost use mathlib.Core.Path.{_≡_};
+ghost use mathlib.Core.Bool.{true};
+ghost use Prim.Native.Nat.{_≤_};
+ghost use Rattle.dpa.specs.Settings.{settingsOk};
+ghost use Rattle.lights.specs.Lamp.{lampOk, lampFits, actualLevel, tickLamp};
+
+#[repr(C)]
+pub struct Lamp {
+    // The requested level, 0 to 100.
+    pub level: u8,
+    // Seconds left until the lamp goes off; 0 for no timer.
+    pub seconds: u16,
+}
+
+// The rule of an implemented lamp.
+fn lamp_ok(lamp: Lamp) -> bool
+    ensures { λ r. ⌜ r ≡ lampOk lamp ⌝ }
+{
+    if 100 < lamp.level {
+        return false;
+    }
+    if 7620 < lamp.seconds {
+        return false;
+    }
+    if lamp.level == 0 {
+        return lamp.seconds == 0;
+    }
+    true
+}
+
+// The rule of the lamp at a place among a node's thirty-two.
+pub fn lamp_fits(count: usize, at: usize, lamp: Lamp) -> bool
+    ensures { λ r. ⌜ r ≡ lampFits count at lamp ⌝ }
+{
+    if at < count {
+        return lamp_ok(lamp);
+    }
+    if lamp.level != 0 {
+        return false;
+    }
+    lamp.seconds == 0
+}
+
+// The smallest multiple of the step that is not below the level.
+pub fn actual_level(settings: Settings, level: u8) -> u8
+    requires { ⌜ (settingsOk settings ≡ true) × (level ≤ 100) ⌝ }
+    ensures { λ r. ⌜ r ≡ actualLevel settings level ⌝ }
+{
+    let step = settings.step;
+    (level + (step - 1)) / step * step
+}
+
+// The lamp one second later.
+pub fn tick_lamp(lamp: Lamp) -> Lamp
+    ensures { λ r. ⌜ r ≡ tickLamp lamp ⌝ }
+{
+    if lamp.seconds == 0 {
+        return lamp;
+    }
+    let mut next = lamp;
+    next.seconds = lamp.seconds - 1;
+    if next.seconds == 0 {
+        next.level = 0;
+    }
+    next
+}

@@ -1,0 +1,128 @@
+// The lights peripheral.
+use crate::apply::Command;
+use crate::apply::apply;
+use crate::apply::write_levels;
+use crate::entry::read_entries;
+use crate::lamp::Lamp;
+use dpa::error;
+use dpa::number::wide;
+use dpa::number::wide_word;
+use dpa::number::word_of;
+use dpa::settings::Settings;
+ghost use mathlib.Core.Path.{_≡_};
+ghost use mathlib.Core.Bool.{true};
+ghost use Prim.Native.Nat.{_≤_};
+ghost use lib.ListN.{length};
+ghost use Rattle.dpa.specs.Served.{laid, layOut};
+ghost use Rattle.dpa.specs.Settings.{settingsOk};
+ghost use Rattle.lights.specs.Bits.{bits, count, maskOf};
+ghost use Rattle.lights.specs.Lamp.{Dimmed};
+ghost use Rattle.lights.specs.Lights.{changeLamps, enumerateLamps, lightsRequest};
+
+pub const SET: u8 = 0x00;
+
+pub const RAISE: u8 = 0x01;
+
+pub const LOWER: u8 = 0x02;
+
+pub const ENUMERATE: u8 = 0x3E;
+
+// ErrN, how many bytes of data stand at the front of the lent buffer, and the lamps afterwards.
+pub struct LightsReply {
+    pub error: u8,
+    pub length: usize,
+    pub lamps: [Lamp; 32],
+}
+
+// The four bitmap bytes as one number.
+fn mask_of(src: &[u8]) -> u32
+    requires { ⌜ 4 ≤ length (now src) ⌝ }
+    ensures { λ r. ⌜ r ≡ maskOf (now (src .entry)) ⌝ }
+{
+    let low = word_of(src[0], src[1]);
+    let high = word_of(src[2], src[3]);
+    (wide_word(low) + 65536 * wide_word(high)) as u32
+}
+
+// How many lamps a bitmap selects.
+fn selected(mask: u32) -> usize
+    ensures { λ r. ⌜ (r ≡ count (bits 32 mask)) × (r ≤ 32) ⌝ }
+{
+    u32::count_ones(mask) as usize
+}
+
+fn refuse(error: u8, lamps: [Lamp; 32]) -> LightsReply
+    ensures { λ r. ⌜ r ≡ record { error = error; length = 0; lamps = lamps } ⌝ }
+{
+    LightsReply {
+        error,
+        length: 0,
+        lamps,
+    }
+}
+
+// Set, raise or lower. The number of one-bits is the number of entries and the answer's length.
+fn change_lamps(
+    settings: Settings,
+    lamps: [Lamp; 32],
+    command: Command,
+    pdata: &[u8],
+    out: &mut [u8],
+) -> LightsReply
+    requires { ⌜ (settingsOk settings ≡ true) × Dimmed lamps × (32 ≤ length (now out)) ⌝ }
+    ensures { λ r. ⌜ laid (r .lamps) (r .error) (r .length) (now (out .exit)) ≡ layOut (changeLamps settings command (now (pdata .entry)) lamps) (now (out .entry)) ⌝ }
+{
+    if pdata.len() < 4 {
+        return refuse(error::DATA, lamps);
+    }
+    let mask = mask_of(pdata);
+    let length = selected(mask);
+    let read = read_entries(pdata, length);
+    if !read.ok {
+        return refuse(error::DATA, lamps);
+    }
+    write_levels(settings, mask, lamps, out);
+    let items = read.items;
+    let n = wide(settings.lamp_count);
+    let after = apply(command, mask, n, items, lamps);
+    LightsReply {
+        error: error::NONE,
+        length,
+        lamps: after,
+    }
+}
+
+fn enumerate(settings: Settings, lamps: [Lamp; 32], pdata: &[u8], out: &mut [u8]) -> LightsReply
+    requires { ⌜ 32 ≤ length (now out) ⌝ }
+    ensures { λ r. ⌜ laid (r .lamps) (r .error) (r .length) (now (out .exit)) ≡ layOut (enumerateLamps settings (now (pdata .entry)) lamps) (now (out .entry)) ⌝ }
+{
+    if pdata.len() != 0 {
+        return refuse(error::DATA_LEN, lamps);
+    }
+    out[0] = settings.lamp_count;
+    LightsReply {
+        error: error::NONE,
+        length: 1,
+        lamps,
+    }
+}
+
+// A request to the lights, its answer's data at the front of out.
+pub fn request(
+    settings: Settings,
+    lamps: [Lamp; 32],
+    pcmd: u8,
+    pdata: &[u8],
+    out: &mut [u8],
+) -> LightsReply
+    requires { ⌜ (settingsOk settings ≡ true) × Dimmed lamps × (56 ≤ length (now out)) ⌝ }
+    ensures { λ r. ⌜ laid (r .lamps) (r .error) (r .length) (now (out .exit)) ≡ layOut (lightsRequest settings pcmd (now (pdata .entry)) lamps) (now (out .entry)) ⌝ }
+{
+    match pcmd {
+        SET => change_lamps(settings, lamps, Command::Set, pdata, out),
+        RAISE => change_lamps(settings, lamps, Command::Raise, pdata, out),
+        LOWER => change_lamps(settings, lamps, Command::Lower, pdata, out),
+        ENUMERATE => enumerate(settings, lamps, pdata, out),
+        _ => refuse(error::PCMD, lamps),
+    }
+}
