@@ -1,0 +1,206 @@
+-- A list that is made of entries is read as those entries, and a sound list is made of the entries that are read.
+use mathlib.Core.Path.{_≡_, refl, sym, ap, _∙_}
+use mathlib.Core.List.{List, [], _∷_, _++_, append-nil, append-assoc}
+use Prim.Native.Nat.{ℕ, zero, suc, _+_, _-_, _≤_, _<_}
+use native.Mathlib.Omega.{arith}
+use native.Mathlib.Nat.{add-sub-cancel-left}
+use lib.ListN.{length, getD, take, drop, length-append, length-take, length-drop, take-append-drop}
+use lib.Seq.{take-add, take-append-seam, drop-at, drop-drop, length-take-le}
+use Rattle.dpa.specs.Lists.{Bytes, part}
+use Rattle.dpa.specs.Number.{low, high}
+use Rattle.dpa.proofs.Numbers.{word-split, low-word, high-word, word-max}
+use Rattle.batch.specs.declared.entry.Next.{Next}
+use Rattle.batch.specs.declared.entry.Next.the-variants.{Entry, End, Fault}
+use Rattle.batch.specs.declared.list.Listed.{Listed}
+use Rattle.batch.specs.declared.list.Listed.the-variants.{Sound, Broken}
+use Rattle.batch.specs.Batch.{Item, item, entryBytes, entriesBytes, listBytes, Sendable, All, nextOf, Reading, lenOf, further, andRest, reading}
+use Rattle.batch.proofs.Bytes.{bytes-none, bytes-cons, bytes-append, bytes-take, bytes-drop}
+use Rattle.batch.proofs.Entries.{Means, next-is, next-end, next-facts}
+use Rattle.batch.proofs.Lists.{reading-as, by-reading}
+use Rattle.batch.proofs.Faults.{not-sound}
+
+-- written, then read
+
+module _ (i : Item) where
+  pub entry-length : length (entryBytes i) ≡ 5 + length (i .pdata)
+  unfolding entryBytes
+  entry-length = omega arith
+
+  -- an entry's bytes stand first as that entry, whatever follows
+  pub entry-first : (t : List ℕ) → nextOf (entryBytes i ++ t) ≡ Entry (5 + length (i .pdata)) (i .pnum) (i .pcmd) (i .hwpid)
+  unfolding entryBytes
+  entry-first t =
+      next-is (entryBytes i ++ t) (omega arith) (simp length-append (omega arith))
+      ∙ ap (Entry (5 + length (i .pdata)) (i .pnum) (i .pcmd)) (word-split (i .hwpid))
+
+  -- an entry is read, then what follows
+  pub entry-reading : (t : List ℕ)
+      → reading (entryBytes i ++ t) ≡ record { items = i ∷ (reading t) .items; listed = further (5 + length (i .pdata)) ((reading t) .listed) }
+  unfolding entryBytes
+  entry-reading t =
+      let n = 5 + length (i .pdata) in
+      reading-as (entryBytes i ++ t) (entry-first t)
+      ∙ ap (λ (u : List ℕ). andRest (Entry n (i .pnum) (i .pcmd) (i .hwpid)) (entryBytes i ++ t) (reading u)) (drop-at (entryBytes i) t n entry-length)
+      ∙ ap (λ (d : List ℕ). record { items = item (i .pnum) (i .pcmd) (i .hwpid) d ∷ (reading t) .items; listed = further n ((reading t) .listed) })
+      (ap (λ (k : ℕ). take k (i .pdata ++ t)) (add-sub-cancel-left 5 (length (i .pdata))) ∙ take-append-seam (i .pdata) t)
+
+further-none : (x : Listed) → x ≡ further 0 x
+further-none Sound = refl
+further-none (Broken r a) = ap (Broken r) (omega arith)
+
+further-add : (m n : ℕ) (x : Listed) → further m (further n x) ≡ further (m + n) x
+further-add m n Sound = refl
+further-add m n (Broken r a) = ap (Broken r) (omega arith)
+
+-- entries are read, then what follows them; a fault there keeps its reason and is told at its own place
+pub entries-reading : (is : List Item) (t : List ℕ)
+    → reading (entriesBytes is ++ t) ≡ record { items = is ++ (reading t) .items; listed = further (length (entriesBytes is)) ((reading t) .listed) }
+unfolding entriesBytes
+entries-reading [] t = ap (λ (x : Listed). record { items = (reading t) .items; listed = x }) (further-none ((reading t) .listed))
+entries-reading (i ∷ is) t =
+    let n = 5 + length (i .pdata) in
+    let x = (reading t) .listed in
+    let k : n + length (entriesBytes is) ≡ length (entryBytes i ++ entriesBytes is) = sym (length-append (entryBytes i) (entriesBytes is) ∙ ap (λ (m : ℕ). m + length (entriesBytes is)) (entry-length i)) in
+    ap reading (append-assoc (entryBytes i) (entriesBytes is) t)
+    ∙ entry-reading i (entriesBytes is ++ t)
+    ∙ ap (λ (r : Reading). record { items = i ∷ r .items; listed = further n (r .listed) }) (entries-reading is t)
+    ∙ ap (λ (y : Listed). record { items = i ∷ (is ++ (reading t) .items); listed = y })
+    (further-add n (length (entriesBytes is)) x ∙ ap (λ (m : ℕ). further m x) k)
+
+-- a list is read as the entries that it was made of, and is sound
+pub round-trip : (is : List Item) → reading (listBytes is) ≡ record { items = is; listed = Sound }
+round-trip is =
+    entries-reading is (0 ∷ [])
+    ∙ ap (λ (r : Reading). record { items = is ++ r .items; listed = further (length (entriesBytes is)) (r .listed) })
+    (reading-as (0 ∷ []) (next-end (0 ∷ []) refl refl))
+    ∙ ap (λ (js : List Item). record { items = js; listed = Sound }) (append-nil is)
+
+-- a list has at least the zero
+pub list-some : (is : List Item) → 0 < length (listBytes is)
+list-some is = rw (length-append (entriesBytes is) (0 ∷ [])) (omega arith)
+
+-- a sendable entry is made of bytes
+pub entry-bytes : (i : Item) → Sendable i → Bytes (entryBytes i)
+unfolding entryBytes
+entry-bytes i z zero = let n = z .size in omega arith
+entry-bytes i z (suc zero) = z .pnum-byte
+entry-bytes i z (suc (suc zero)) = z .pcmd-byte
+entry-bytes i z (suc (suc (suc zero))) = omega arith
+entry-bytes i z (suc (suc (suc (suc zero)))) = let h = z .hwpid-word in omega arith
+entry-bytes i z (suc (suc (suc (suc (suc k))))) = z .pdata-bytes k
+
+-- a list of sendable entries is made of bytes
+pub list-bytes : (is : List Item) → All Sendable is → Bytes (listBytes is)
+unfolding entriesBytes
+list-bytes [] z = bytes-cons 0 [] (omega arith) bytes-none
+list-bytes (i ∷ is) z =
+    rw (append-assoc (entryBytes i) (entriesBytes is) (0 ∷ []))
+    (bytes-append (entryBytes i) (listBytes is) (entry-bytes i (z .0)) (list-bytes is (z .1)))
+
+-- read, then written
+
+five : (s : List ℕ) → 5 ≤ length s → take 5 s ≡ getD s 0 0 ∷ getD s 1 0 ∷ getD s 2 0 ∷ getD s 3 0 ∷ getD s 4 0 ∷ []
+five [] h = absurd (omega arith)
+five (a ∷ []) h = absurd (omega arith)
+five (a ∷ b ∷ []) h = absurd (omega arith)
+five (a ∷ b ∷ c ∷ []) h = absurd (omega arith)
+five (a ∷ b ∷ c ∷ d ∷ []) h = absurd (omega arith)
+five (a ∷ b ∷ c ∷ d ∷ e ∷ s) h = refl
+
+one : (s : List ℕ) → length s ≡ 1 → getD s 0 0 ≡ 0 → 0 ∷ [] ≡ s
+one [] h z = absurd (omega arith)
+one (a ∷ []) h z = ap (λ (n : ℕ). n ∷ []) (sym z)
+one (a ∷ b ∷ s) h z = absurd (omega arith)
+
+module _ (s : List ℕ) {l p c h : ℕ} (by : Bytes s) (e : nextOf s ≡ Entry l p c h) where
+  means : Means s (Entry l p c h)
+  means = next-facts s e
+
+  part-length : length (part s 5 (l - 5)) ≡ l - 5
+  part-length = let z = means in simp (length-take, length-drop) (omega arith)
+
+  -- an entry that was read has these bytes
+  pub entry-written : entryBytes (item p c h (part s 5 (l - 5))) ≡ take l s
+  unfolding entryBytes
+  entry-written =
+      let z = means in
+      let n = part-length in
+      let e0 : 5 + length (part s 5 (l - 5)) ≡ getD s 0 0 = omega arith in
+      let e3 : low h ≡ getD s 3 0 = ap low (z .5) ∙ low-word (getD s 3 0) (getD s 4 0) (by 3) in
+      let e4 : high h ≡ getD s 4 0 = ap high (z .5) ∙ high-word (getD s 3 0) (getD s 4 0) (by 3) in
+      let el : 5 + (l - 5) ≡ l = omega arith in
+      let t : take l s ≡ take 5 s ++ part s 5 (l - 5) = ap (λ (k : ℕ). take k s) (sym el) ∙ take-add 5 (l - 5) s in
+      rw (e0, e3, e4, z .3, z .4, t, five s (omega arith))
+
+  pub entry-sendable : Sendable (item p c h (part s 5 (l - 5)))
+  entry-sendable =
+      let z = means in
+      let n = part-length in
+      let b0 = by 0 in
+      let b1 = by 1 in
+      let b2 = by 2 in
+      let w = word-max (getD s 3 0) (getD s 4 0) (by 3) (by 4) in
+      record {
+        pnum-byte = omega arith;
+        pcmd-byte = omega arith;
+        hwpid-word = omega arith;
+        pdata-bytes = bytes-take (l - 5) (drop 5 s) (bytes-drop 5 s by);
+        size = omega arith;
+      }
+
+abbrev pub Apart : List ℕ → Reading → Type 0
+Apart s r =
+    let rest = drop (length (entriesBytes (r .items))) s in
+    (entriesBytes (r .items) ++ rest ≡ s) × ((reading rest) .items ≡ [])
+
+further-sound : (l : ℕ) (x : Listed) → further l x ≡ Sound → x ≡ Sound
+further-sound l Sound e = refl
+further-sound l (Broken r a) e = absurd (not-sound e)
+
+-- every list of bytes is the entries that are read, then bytes with no entry first
+pub apart : (s : List ℕ) → Bytes s → Apart s (reading s)
+unfolding entriesBytes
+apart =
+    by-reading (λ (s : List ℕ) (r : Reading). Bytes s → Apart s r)
+    (λ s l p c h e ih by.
+    let i = item p c h (part s 5 (l - 5)) in
+    let es = entriesBytes ((reading (drop l s)) .items) in
+    let z = ih (bytes-drop l s by) in
+    let w = entry-written s by e in
+    let n : length (entryBytes i ++ es) ≡ l + length es = length-append (entryBytes i) es ∙ ap (λ (k : ℕ). k + length es) (ap length w ∙ length-take-le l s (next-facts s e .1)) in
+    let d : drop (length (entryBytes i ++ es)) s ≡ drop (length es) (drop l s) = ap (λ (k : ℕ). drop k s) n ∙ sym (drop-drop (length es) l s) in (
+      append-assoc (entryBytes i) es (drop (length (entryBytes i ++ es)) s)
+          ∙ ap (λ (x : List ℕ). entryBytes i ++ (es ++ x)) d
+          ∙ ap (λ (x : List ℕ). entryBytes i ++ x) (z .0)
+          ∙ ap (λ (x : List ℕ). x ++ drop l s) w
+          ∙ take-append-drop l s,
+      ap (λ (x : List ℕ). (reading x) .items) d ∙ z .1,
+    ))
+    (λ s r e by. (refl, ap (λ (x : Reading). x .items) (reading-as s e)))
+    (λ s r k a e by. (refl, ap (λ (x : Reading). x .items) (reading-as s e)))
+
+-- a sound list with no entry is the zero
+zero-left : (s : List ℕ) → (reading s) .items ≡ [] → (reading s) .listed ≡ Sound → 0 ∷ [] ≡ s
+zero-left s = rw (reading-as s refl) (at (nextOf s) refl)
+  where
+    at : (n : Next) → nextOf s ≡ n → let r = andRest n s (reading (drop (lenOf n) s)) in r .items ≡ [] → r .listed ≡ Sound → 0 ∷ [] ≡ s
+    at (Entry l p c h) e i t = let z = ap length i in absurd (omega arith)
+    at End e i t = let z = next-facts s e in one s (z .0) (z .1)
+    at (Fault k a) e i t = absurd (not-sound t)
+
+-- a sound list is exactly an encoding: the list of the entries that are read
+pub tight : (s : List ℕ) → Bytes s → (reading s) .listed ≡ Sound → listBytes ((reading s) .items) ≡ s
+tight s by t =
+    let is = (reading s) .items in
+    let z = apart s by in
+    let rest = drop (length (entriesBytes is)) s in
+    let u = sym (ap (λ (r : Reading). r .listed) (entries-reading is rest)) ∙ ap (λ (x : List ℕ). (reading x) .listed) (z .0) ∙ t in
+    ap (λ (x : List ℕ). entriesBytes is ++ x) (zero-left rest (z .1) (further-sound (length (entriesBytes is)) ((reading rest) .listed) u)) ∙ z .0
+
+-- the entries that are read from bytes are sendable
+pub read-sendable : (s : List ℕ) → Bytes s → All Sendable ((reading s) .items)
+read-sendable =
+    by-reading (λ (s : List ℕ) (r : Reading). Bytes s → All Sendable (r .items))
+    (λ s l p c h e ih by. (entry-sendable s by e, ih (bytes-drop l s by)))
+    (λ s r e by. tt)
+    (λ s r k a e by. tt)

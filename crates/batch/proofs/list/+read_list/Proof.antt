@@ -1,0 +1,135 @@
+use borrow.Author.Needs.{needs}
+use native.Mathlib.Omega.{arith}
+use mathlib.Core.Path.{_≡_, sym, ap, _∙_}
+use Prim.Native.Nat.{ℕ, _<_, _≤_, _-_}
+use lib.ListN.{length, length-drop, length-take}
+use Rattle.dpa.specs.Lists.{part}
+use Rattle.batch.specs.declared.entry.Next.the-variants.{Entry}
+use Rattle.batch.specs.Batch.{nextOf, Reading, further}
+use Rattle.batch.proofs.Entries.{entry-sized, end-left}
+use Rattle.batch.proofs.Lists.{reading-as, list-more}
+use Rattle.batch.proofs.Faults.{broken-blame, place-max}
+use borrow.Fn.Kinds.{In}
+use borrow.Fn.PlainCycle.{Measures, is, falls, and}
+use Rattle.batch.proofs.list.read_list.Reads as read-list
+use Rattle.batch.proofs.list.read_list.Kinds as read-list-kinds
+use Rattle.batch.proofs.list.+read_list.Lts-read_list as read-list-lts
+use Rattle.batch.proofs.entry.next_entry.Reads as next-entry-reads
+use Rattle.batch.proofs.list.+read_list.{statement}
+use Rattle.batch.proofs.list.+read_list.Tie.{close}
+
+abbrev μ-read-list : Measures 1 read-list-kinds.ps ℕ
+μ-read-list κs a = length (a .0 .now)
+
+abbrev read-list-at : ℕ → In 1 read-list-kinds.ps
+read-list-at t = and 1 read-list-kinds.ps (is 1 read-list-kinds.ps μ-read-list t) read-list.Pre
+
+abbrev read-list-below : ℕ → In 1 read-list-kinds.ps
+read-list-below t =
+    and 1 read-list-kinds.ps (falls 1 read-list-kinds.ps _<_ μ-read-list t) read-list.Pre
+
+abbrev calls : ℕ → read-list-lts.Claims
+calls t = (next-entry-reads.Asked, next-entry-reads.Learnt, read-list-below t, read-list.Post)
+
+-- where an entry stands first
+first-is : (t : ℕ) (c : read-list-lts.After-first (calls t) (read-list-at t) read-list.Post)
+    → nextOf (c .before .before .before .before .args .rest .now) ≡ Entry (c .first .given .0 .0) (c .first .given .0 .1 .0) (c .first .given .0 .1 .1 .0) (c .first .given .0 .1 .1 .1 .0)
+first-is t c = sym (c .before .before .next-entry .ensures) ∙ c .first .given .1
+
+sized : (t : ℕ) (c : read-list-lts.After-first (calls t) (read-list-at t) read-list.Post)
+    → (5 ≤ c .first .given .0 .0) × (c .first .given .0 .0 ≤ length (c .before .before .before .before .args .rest .now))
+sized t c = entry-sized _ (first-is t c)
+
+-- src/list.rt:21:9
+read-list-next-entry-requires : (t : ℕ) → read-list-lts.Need-next-entry-requires (calls t) (read-list-at t) read-list.Post
+read-list-next-entry-requires t c κs = tt
+
+-- src/list.rt:22:23
+read-list-enum-known-first : (t : ℕ) → read-list-lts.Need-enum-known-first (calls t) (read-list-at t) read-list.Post
+read-list-enum-known-first t c = search needs
+
+-- src/list.rt:23:27
+read-list-enum-known-first-2 : (t : ℕ) → read-list-lts.Need-enum-known-first-2 (calls t) (read-list-at t) read-list.Post
+read-list-enum-known-first-2 t c = search needs
+
+-- src/list.rt:24:13
+read-list-returns : (t : ℕ) → read-list-lts.Need-returns (calls t) (read-list-at t) read-list.Post
+read-list-returns t c =
+    sym (ap (λ (r : Reading). r .listed)
+    (reading-as _ (sym (c .before .before .next-entry .ensures) ∙ end-left _ (c .before .match .keys2) (c .match2 .keys2))))
+
+-- src/list.rt:26:9
+read-list-returns-2 : (t : ℕ) → read-list-lts.Need-returns-2 (calls t) (read-list-at t) read-list.Post
+read-list-returns-2 t c =
+    sym (ap (λ (r : Reading). r .listed)
+    (reading-as _ (sym (c .before .before .before .before .next-entry .ensures) ∙ c .before .first2 .given .1)))
+
+-- src/list.rt:28:27
+read-list-sub-read-list : (t : ℕ) → read-list-lts.Need-sub-read-list (calls t) (read-list-at t) read-list.Post
+read-list-sub-read-list t c = let z = sized t (c .before) in omega arith
+
+-- src/list.rt:28:27
+read-list-part-read-list-start : (t : ℕ) → read-list-lts.Need-part-read-list-start (calls t) (read-list-at t) read-list.Post
+read-list-part-read-list-start t c = let z = sized t (c .before) in omega arith
+
+-- src/list.rt:28:27
+read-list-part-read-list-end : (t : ℕ) → read-list-lts.Need-part-read-list-end (calls t) (read-list-at t) read-list.Post
+read-list-part-read-list-end t c = search needs
+
+-- src/list.rt:28:9
+read-list-read-list-requires : (t : ℕ) → read-list-lts.Need-read-list-requires (calls t) (read-list-at t) read-list.Post
+read-list-read-list-requires t c κs =
+    let z = sized t (c .before .before) in
+    (simp (length-take, length-drop) (omega arith), tt)
+
+-- src/list.rt:29:26
+read-list-enum-known-after : (t : ℕ) → read-list-lts.Need-enum-known-after (calls t) (read-list-at t) read-list.Post
+read-list-enum-known-after t c = search needs
+
+-- src/list.rt:30:9
+read-list-enum-told : (t : ℕ) → read-list-lts.Need-enum-told (calls t) (read-list-at t) read-list.Post
+read-list-enum-told t c = search needs
+
+-- src/list.rt:30:9
+read-list-returns-3 : (t : ℕ) → read-list-lts.Need-returns-3 (calls t) (read-list-at t) read-list.Post
+read-list-returns-3 t c =
+    let f = c .before .before .before .before .before in
+    ap (further (f .first .given .0 .0)) (sym (c .enum-told .given .1))
+    ∙ list-more _ (first-is t f) (c .before .before .read-list .ensures)
+
+-- src/list.rt:34:13
+read-list-add-t10 : (t : ℕ) → read-list-lts.Need-add-t10 (calls t) (read-list-at t) read-list.Post
+read-list-add-t10 t c =
+    let f = c .before .before .before .before .before .before in
+    let s = f .before .before .before .before .args .rest .now in
+    let l = f .first .given .0 .0 in
+    let b = place-max (broken-blame (part s l (length s - l)) (sym (c .before .before .before .read-list .ensures) ∙ c .before .after .given .1)) in
+    let n : length (part s l (length s - l)) ≡ length s - l = simp (length-take, length-drop) (omega arith) in
+    let z = sized t f in
+    omega arith
+
+-- src/list.rt:18:1
+read-list-returns-4 : (t : ℕ) → read-list-lts.Need-returns-4 (calls t) (read-list-at t) read-list.Post
+read-list-returns-4 t c =
+    let f = c .before .before .before .before .before .before in
+    ap (further (f .first .given .0 .0)) (sym (c .before .after .given .1))
+    ∙ list-more _ (first-is t f) (c .before .before .before .read-list .ensures)
+
+pub +read-list-spec : {M : Type 1} → statement M
++read-list-spec = close μ-read-list λ t. read-list-lts.spec (calls t)
+    (read-list-at t)
+    read-list.Post
+    (read-list-next-entry-requires t)
+    (read-list-enum-known-first t)
+    (read-list-enum-known-first-2 t)
+    (read-list-returns t)
+    (read-list-returns-2 t)
+    (read-list-sub-read-list t)
+    (read-list-part-read-list-start t)
+    (read-list-part-read-list-end t)
+    (read-list-read-list-requires t)
+    (read-list-enum-known-after t)
+    (read-list-enum-told t)
+    (read-list-returns-3 t)
+    (read-list-add-t10 t)
+    (read-list-returns-4 t)

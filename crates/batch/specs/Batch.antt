@@ -1,0 +1,115 @@
+-- Document 01, "Taking a request", OS 02, batch: entries and their bytes, how a list is read, and how entries run.
+use Prim.Native.Nat.{ℕ, zero, suc, _+_, _-_, _≤_, _<_}
+use mathlib.Core.List.{List, [], _∷_, _++_}
+use mathlib.Core.Bool.{cond}
+use mathlib.Core.Path.{_≡_}
+use lib.ListN.{length, getD}
+use lib.Dec.{ltb, eqb}
+use Rattle.dpa.specs.Number.{low, high, wordAt}
+use Rattle.dpa.specs.Lists.{Bytes, part}
+use Rattle.batch.specs.declared.entry.Next.{Next}
+use Rattle.batch.specs.declared.entry.Next.the-variants.{Entry, End, Fault}
+use Rattle.batch.specs.declared.list.Listed.{Listed}
+use Rattle.batch.specs.declared.list.Listed.the-variants.{Sound, Broken}
+
+-- an entry taken apart
+pub record Item : Type 0 where
+  pub pnum : ℕ
+  pub pcmd : ℕ
+  pub hwpid : ℕ
+  pub pdata : List ℕ
+
+abbrev pub item : ℕ → ℕ → ℕ → List ℕ → Item
+item p c h d = record { pnum = p; pcmd = c; hwpid = h; pdata = d }
+
+-- an entry's bytes: a length that counts itself, PNUM, PCMD, HWPID, PData
+unfoldable pub entryBytes : Item → List ℕ
+entryBytes i = (5 + length (i .pdata)) ∷ i .pnum ∷ i .pcmd ∷ low (i .hwpid) ∷ high (i .hwpid) ∷ i .pdata
+
+unfoldable pub entriesBytes : List Item → List ℕ
+entriesBytes [] = []
+entriesBytes (i ∷ is) = entryBytes i ++ entriesBytes is
+
+-- a list: entries, then one zero
+abbrev pub listBytes : List Item → List ℕ
+listBytes is = entriesBytes is ++ (0 ∷ [])
+
+-- an entry whose bytes are bytes
+pub record Sendable (i : Item) : Type 0 where
+  pub pnum-byte : i .pnum < 256
+  pub pcmd-byte : i .pcmd < 256
+  pub hwpid-word : i .hwpid < 65536
+  pub pdata-bytes : Bytes (i .pdata)
+  pub size : 5 + length (i .pdata) ≤ 255
+
+-- every element has P
+abbrev pub All : {A : Type 0} → (A → Type 0) → List A → Type 0
+All P [] = Unit
+All P (x ∷ xs) = P x × All P xs
+
+-- What stands first in the remaining bytes. Reasons: 1 length under five, 2 entry over the end, 3 no closing zero,
+-- 4 bytes behind the zero; with the place from the first of these bytes.
+unfoldable pub nextOf : List ℕ → Next
+nextOf s =
+    cond (eqb (length s) 0) (Fault 3 0)
+    (cond (eqb (getD s 0 0) 0) (cond (eqb (length s) 1) End (Fault 4 1))
+    (cond (ltb (getD s 0 0) 5) (Fault 1 0)
+    (cond (ltb (length s) (getD s 0 0)) (Fault 2 0)
+    (Entry (getD s 0 0) (getD s 1 0) (getD s 2 0) (wordAt s 3)))))
+
+-- what a list reads as: the entries up to its end or its first fault, and which of the two came
+pub record Reading : Type 0 where
+  pub items : List Item
+  pub listed : Listed
+
+-- the bytes that the next entry takes
+abbrev pub lenOf : Next → ℕ
+lenOf (Entry l p c h) = l
+lenOf End = 0
+lenOf (Fault r a) = 0
+
+-- a fault's place, counted from l bytes before
+abbrev pub further : ℕ → Listed → Listed
+further l Sound = Sound
+further l (Broken r a) = Broken r (l + a)
+
+-- what stands first in s, and a rest that reads as r
+abbrev pub andRest : Next → List ℕ → Reading → Reading
+andRest (Entry l p c h) s r =
+    record {
+      items = item p c h (part s 5 (l - 5)) ∷ r .items;
+      listed = further l (r .listed);
+    }
+andRest End s r = record { items = []; listed = Sound }
+andRest (Fault k a) s r = record { items = []; listed = Broken k a }
+
+-- s read from its byte k on: an entry is read, its bytes are passed over, then the rest is read
+unfoldable pub readFrom : List ℕ → ℕ → Reading
+readFrom [] k = record { items = []; listed = Broken 3 0 }
+readFrom (b ∷ s) (suc k) = readFrom s k
+readFrom (b ∷ s) zero = andRest (nextOf (b ∷ s)) (b ∷ s) (readFrom s (lenOf (nextOf (b ∷ s)) - 1))
+
+abbrev pub reading : List ℕ → Reading
+reading s = readFrom s 0
+
+-- the ErrN of a batch with such a list
+abbrev pub listError : Listed → ℕ
+listError Sound = 0
+listError (Broken r a) = 6
+
+-- what a reason and a place say of a list
+pub data Blame (s : List ℕ) (r a : ℕ) : Type 0 where
+  short : r ≡ 1 → a < length s → 0 < getD s a 0 → getD s a 0 < 5 → Blame s r a
+  over : r ≡ 2 → a < length s → 5 ≤ getD s a 0 → length s < a + getD s a 0 → Blame s r a
+  unclosed : r ≡ 3 → a ≡ length s → Blame s r a
+  behind : r ≡ 4 → 0 < a → a < length s → getD s (a - 1) 0 ≡ 0 → Blame s r a
+
+-- entries in order, each with the state that the one before left; f is what an entry does
+unfoldable pub runItems : {S : Type 0} → (Item → S → S) → List Item → S → S
+runItems f [] st = st
+runItems f (i ∷ is) st = runItems f is (f i st)
+
+-- the ErrN of each entry, in order; e is an entry's ErrN
+unfoldable pub errorsOf : {S : Type 0} → (Item → S → ℕ) → (Item → S → S) → List Item → S → List ℕ
+errorsOf e f [] st = []
+errorsOf e f (i ∷ is) st = e i st ∷ errorsOf e f is (f i st)
