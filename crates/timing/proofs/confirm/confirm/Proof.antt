@@ -1,0 +1,71 @@
+use mathlib.Core.Path.{_≡_, sym, _∙_}
+use mathlib.Core.Bool.{true}
+use lib.ListN.{length}
+use native.Mathlib.Omega.{arith}
+use borrow.Author.Tests.{not-true, not-false}
+use Rattle.dpa.specs.Frame.{frameFits}
+use Rattle.timing.proofs.Confirmations.{frame-min, no-frame, no-room, answered}
+use borrow.Author.Needs.{needs}
+use Rattle.timing.proofs.confirm.confirm.Statement.{statement}
+use Rattle.timing.proofs.confirm.confirm.Tie as tie
+use Rattle.timing.proofs.confirm.confirm.Reads as reads
+use Rattle.timing.proofs.confirm.confirm.Lts as lts
+use Rattle.dpa.proofs.frame.Frame.fits.Reads as fits-reads
+use Rattle.timing.proofs.confirm.write_confirmation.Reads as write-confirmation-reads
+use Rattle.timing.proofs.slot.slot_of.Reads as slot-of-reads
+
+-- the frame's length is in range
+fits : (c : tie.Else1) → frameFits (length (c .before .before .before .before .args .frame .now)) ≡ true
+fits c = sym (c .before .fits2 .ensures) ∙ not-false _ (c .if1 .left)
+
+-- src/confirm.rt:65:9
+fits-requires : tie.Need-fits-requires
+fits-requires c κs = search needs
+
+-- src/confirm.rt:66:9
+returns : tie.Need-returns
+returns c =
+    let a = c .before .before .before .before .args in
+    no-frame (a .frame .now) (a .dpa-value) (a .hops) (a .response-hops) (a .network) (a .out .now) (sym (c .before .fits2 .ensures) ∙ not-true _ (c .if1 .taken))
+
+-- src/confirm.rt:72:9
+returns-2 : tie.Need-returns-2
+returns-2 c =
+    let a = c .before .before .before .before .before .args in
+    no-room (a .frame .now) (a .dpa-value) (a .hops) (a .response-hops) (a .network) (a .out .now) (fits (c .before)) (c .if2 .taken)
+
+-- src/confirm.rt:77:24
+sub-slot-of : tie.Need-sub-slot-of
+sub-slot-of c = omega (arith, frame-min _ (fits (c .before)))
+
+-- src/confirm.rt:77:9
+slot-of-requires : tie.Need-slot-of-requires
+slot-of-requires c κs = search needs
+
+-- src/confirm.rt:78:5
+write-confirmation-requires : tie.Need-write-confirmation-requires
+write-confirmation-requires c κs = (frame-min _ (fits (c .before .before .before)), omega arith)
+
+-- src/confirm.rt:55:1
+same-length : tie.Need-same-length
+same-length c = search needs
+
+-- src/confirm.rt:55:1
+returns-3 : tie.Need-returns-3
+returns-3 c =
+    let a = c .before .before .before .before .before .before .before .before .before .before .args in
+    answered (a .frame .now) (a .dpa-value) (a .hops) (a .response-hops) (a .network) (a .out .now) (fits (c .before .before .before .before .before .before)) (c .before .before .before .before .before .if2 .left)
+    _ _ (c .before .before .before .before .slot-of .ensures) (c .before .before .write-confirmation .ensures)
+
+pub confirm-spec : {M : Type 1} → statement M
+confirm-spec =
+    tie.close
+    (tie.spec
+    fits-requires
+    returns
+    returns-2
+    sub-slot-of
+    slot-of-requires
+    write-confirmation-requires
+    same-length
+    returns-3)

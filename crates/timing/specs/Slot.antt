@@ -1,0 +1,43 @@
+-- Document 01, "Confirmation and waiting": timeslots and the earliest next send.
+use Prim.Native.Nat.{ℕ, _+_, _*_}
+use mathlib.Core.Bool.{Bool, cond}
+use lib.Dec.{ltb, leb}
+use Rattle.timing.specs.declared.slot.Network.{Network}
+use Rattle.timing.specs.declared.slot.Network.the-variants.{Std, StdLp}
+use Rattle.timing.specs.declared.slot.SlotAnswer.{SlotAnswer}
+use Rattle.timing.specs.declared.slot.SendAnswer.{SendAnswer}
+
+-- under 17 bytes of PData, 17 to 40, over 40
+unfoldable pub baseOf : ℕ → ℕ
+baseOf n = cond (ltb n 17) 4 (cond (leb n 40) 5 6)
+
+-- what the network type adds
+unfoldable pub extraOf : Network → ℕ
+extraOf Std = 0
+extraOf StdLp = 4
+
+-- a timeslot in units of 10 ms
+unfoldable pub slotOf : ℕ → Network → ℕ
+slotOf n net = baseOf n + extraOf net
+
+-- the milliseconds of a way
+unfoldable pub wayOf : ℕ → ℕ → ℕ
+wayOf hops slot = (hops + 1) * slot * 10
+
+-- `timeslot`: refusal 5 above 56 bytes of PData
+unfoldable pub timeslotOf : ℕ → Network → SlotAnswer
+timeslotOf n net =
+    cond (ltb 56 n) (record { refusal = 5; slot = 0 })
+    (record { refusal = 0; slot = slotOf n net })
+
+-- the way there, the node's delay, and the way back but for a broadcast
+unfoldable pub earliestOf : ℕ → ℕ → ℕ → ℕ → ℕ → Network → Bool → ℕ
+earliestOf hops request delay back response net broadcast =
+    wayOf hops (slotOf request net) + delay + cond broadcast 0 (wayOf back (slotOf response net))
+
+-- `earliest_send`: both lengths are tested, for a broadcast too
+unfoldable pub sendOf : ℕ → ℕ → ℕ → ℕ → ℕ → Network → Bool → SendAnswer
+sendOf hops request delay back response net broadcast =
+    cond (ltb 56 request) (record { refusal = 5; milliseconds = 0 })
+    (cond (ltb 56 response) (record { refusal = 5; milliseconds = 0 })
+    (record { refusal = 0; milliseconds = earliestOf hops request delay back response net broadcast }))

@@ -1,0 +1,83 @@
+// The confirmation of a request by the coordinator's interface.
+use crate::slot::Network;
+use crate::slot::slot_of;
+use dpa::frame::Frame;
+use dpa::refusal;
+ghost use mathlib.Core.Path.{_≡_};
+ghost use Prim.Native.Nat.{_≤_};
+ghost use lib.ListN.{length};
+ghost use Rattle.dpa.specs.Lists.{over};
+ghost use Rattle.timing.specs.Confirm.{hopsBack, confirmBytes, confirmed, confirmOf};
+
+#[repr(C)]
+pub struct LengthAnswer {
+    pub refusal: u8,
+    pub length: usize,
+}
+
+const CONFIRMATION: u8 = 0xFF;
+
+const CONFIRMATION_LENGTH: usize = 11;
+
+// A broadcast has no response, so there are no hops of one to tell.
+fn hops_back(frame: &[u8], response_hops: u8) -> u8
+    requires { ⌜ 6 ≤ length (now frame) ⌝ }
+    ensures { λ r. ⌜ r ≡ hopsBack (now (frame .entry)) «response_hops» ⌝ }
+{
+    let header = Frame::read(frame);
+    if header.nadr == Frame::BROADCAST {
+        return 0;
+    }
+    response_hops
+}
+
+// The bytes of a confirmation, at the front of its buffer.
+fn write_confirmation(
+    frame: &[u8],
+    dpa_value: u8,
+    hops: u8,
+    slot: u8,
+    response_hops: u8,
+    out: &mut [u8],
+)
+    requires { ⌜ (6 ≤ length (now frame)) × (11 ≤ length (now out)) ⌝ }
+    ensures { λ _. ⌜ now (out .exit) ≡ over (confirmBytes (now (frame .entry)) «dpa_value» hops slot «response_hops») (now (out .entry)) ⌝ }
+{
+    bytes::copy(&frame[0..Frame::HEADER], out);
+    out[6] = CONFIRMATION;
+    out[7] = dpa_value;
+    out[8] = hops;
+    out[9] = slot;
+    out[10] = hops_back(frame, response_hops);
+}
+
+// Confirms a request; NADR is left to the node that takes it.
+pub fn confirm(
+    frame: &[u8],
+    dpa_value: u8,
+    hops: u8,
+    response_hops: u8,
+    network: Network,
+    out: &mut [u8],
+) -> LengthAnswer
+    ensures { λ r. ⌜ confirmed r (now (out .exit)) ≡ confirmOf (now (frame .entry)) «dpa_value» hops «response_hops» network (now (out .entry)) ⌝ }
+{
+    if !Frame::fits(frame.len()) {
+        return LengthAnswer {
+            refusal: refusal::FRAME,
+            length: 0,
+        };
+    }
+    if out.len() < Frame::RESPONSE_LONGEST {
+        return LengthAnswer {
+            refusal: refusal::RESPONSE,
+            length: 0,
+        };
+    }
+    let slot = slot_of(frame.len() - Frame::HEADER, network);
+    write_confirmation(frame, dpa_value, hops, slot, response_hops, out);
+    LengthAnswer {
+        refusal: refusal::NONE,
+        length: CONFIRMATION_LENGTH,
+    }
+}
