@@ -1,0 +1,43 @@
+-- `frc::is_on` meets its contract.
+use borrow.Author.Needs.{needs}
+use Prim.Native.Nat.{ℕ}
+use mathlib.Core.Path.{_≡_, ap, _∙_}
+use lib.ListN.{getD}
+use Rattle.lights.specs.Lamp.{off, actualLevel}
+use Rattle.node.proofs.Nodes.{node-settings, node-dimmed}
+use Rattle.node.proofs.TwoBits.{on-lit, on-stuck}
+use Rattle.node.proofs.frc.is_on.Statement.{statement}
+use Rattle.node.proofs.frc.is_on.Tie as tie
+
+-- what the lamp's level is seen as
+seen : (c : tie.After-actual-level) → let a = c .before .before .before .before .args in
+    c .actual-level .result ≡ actualLevel (a .t1 .settings) (getD (a .t1 .lamps) (a .at) off .level)
+seen c =
+    let n = c .before .before .before .before .args .t1 in
+    c .actual-level .ensures
+    ∙ ap (λ (k : ℕ). actualLevel (n .settings) (getD (n .lamps) k off .level)) (c .before .before .before .wide .ensures .0)
+
+wide-requires : tie.Need-wide-requires
+wide-requires c κs = search needs
+
+mul-lamp : tie.Need-mul-lamp
+mul-lamp c = search needs
+
+element-copy-out-lamp : tie.Need-element-copy-out-lamp
+element-copy-out-lamp c = search needs
+
+actual-level-requires : tie.Need-actual-level-requires
+actual-level-requires c κs = let p = c .before .before .before .pre in (node-settings _ (p .0), node-dimmed _ (p .0) _)
+
+returns : tie.Need-returns
+returns c = on-lit _ _ _ _ (seen (c .before)) (c .if1 .taken)
+
+bit-set-requires : tie.Need-bit-set-requires
+bit-set-requires c κs = search needs
+
+returns-2 : tie.Need-returns-2
+returns-2 c = on-stuck _ _ _ _ (seen (c .before .before)) (c .before .if1 .left) (c .bit-set .ensures)
+
+pub is-on-spec : {M : Type 1} → statement M
+is-on-spec =
+    tie.close (tie.spec wide-requires mul-lamp element-copy-out-lamp actual-level-requires returns bit-set-requires returns-2)

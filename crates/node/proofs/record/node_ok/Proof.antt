@@ -1,0 +1,40 @@
+-- `record::node_ok` meets its contract.
+use borrow.Author.Needs.{needs}
+use mathlib.Core.Path.{_≡_, sym, _∙_}
+use mathlib.Core.Bool.{true}
+use borrow.Author.Tests.{not-true, not-false}
+use lib.ListN.{length-map}
+use Rattle.node.specs.Node.{nodeOk, shapeOk}
+use Rattle.node.proofs.Nodes.{shape-test}
+use Rattle.node.proofs.record.node_ok.Statement.{statement}
+use Rattle.node.proofs.record.node_ok.Tie as tie
+
+-- a node of the code has the right lengths
+shaped : (c : tie.Start) → shapeOk (c .args .node) ≡ true
+shaped c =
+    shape-test _
+    (sym (length-map (c .args .node .lamps) _) ∙ c .good .0 .1 .1 .1 .0 .1 .0 .1)
+    (sym (length-map (c .args .node .ram) _) ∙ c .good .0 .1 .1 .1 .1 .0 .1 .0 .1)
+
+settings-ok-requires : tie.Need-settings-ok-requires
+settings-ok-requires c κs = search needs
+
+returns : tie.Need-returns
+unfolding nodeOk
+returns c = rw (shaped (c .before .before), sym (c .before .settings-ok .ensures) ∙ not-true _ (c .if1 .taken))
+
+wide-requires : tie.Need-wide-requires
+wide-requires c κs = search needs
+
+lamps-ok-requires : tie.Need-lamps-ok-requires
+lamps-ok-requires c κs = search needs
+
+returns-2 : tie.Need-returns-2
+unfolding nodeOk
+returns-2 c =
+    rw (shaped (c .before .before .before .before .before), sym (c .before .before .before .before .settings-ok .ensures) ∙ not-false _ (c .before .before .before .if1 .left), ← c .before .before .wide .ensures .0)
+    (c .lamps-ok .ensures)
+
+pub node-ok-spec : {M : Type 1} → statement M
+node-ok-spec =
+    tie.close (tie.spec settings-ok-requires returns wide-requires lamps-ok-requires returns-2)

@@ -1,0 +1,56 @@
+-- `tick::tick_lamps` meets its contract. The invariant: the lamps before `i` have ticked, the others are as they were.
+use borrow.Author.Needs.{needs}
+use Prim.Native.Nat.{_≤_, _-_}
+use mathlib.Core.Path.{_≡_, refl}
+use mathlib.Core.List.{_++_, map}
+use native.Mathlib.Omega.{arith}
+use lib.ListN.{take, drop}
+use Rattle.lights.specs.Lamp.{off, tickLamp}
+use Rattle.node.specs.Node.{tickLamps}
+use Rattle.node.proofs.Maps.{map-more, map-still, map-done}
+use Rattle.node.proofs.tick.tick_lamps.Statement.{statement}
+use Rattle.node.proofs.tick.tick_lamps.Tie as tie
+
+abbrev Inv-loop : tie.InvT-loop
+Inv-loop next₀ i₀ next i = (i ≤ 32) × (next ≡ map tickLamp (take i next₀) ++ drop i next₀)
+
+abbrev μ-loop : tie.MeasureT-loop
+μ-loop next₀ i₀ next i = 32 - i
+
+loop-holds : tie.Need-loop-holds Inv-loop μ-loop
+loop-holds c = (omega arith, refl)
+
+mul-lamp : tie.Need-mul-lamp Inv-loop μ-loop
+mul-lamp c = omega arith
+
+array-copy-out-lamp : tie.Need-array-copy-out-lamp Inv-loop μ-loop
+array-copy-out-lamp c = omega arith
+
+tick-lamp-requires : tie.Need-tick-lamp-requires Inv-loop μ-loop
+tick-lamp-requires c κs = search needs
+
+mul-next : tie.Need-mul-next Inv-loop μ-loop
+mul-next c = omega arith
+
+array-set-from-next : tie.Need-array-set-from-next Inv-loop μ-loop
+array-set-from-next c = omega arith
+
+add-i : tie.Need-add-i Inv-loop μ-loop
+add-i c = omega arith
+
+loop-less : tie.Need-loop-less Inv-loop μ-loop
+loop-less c = omega arith
+
+loop-again : tie.Need-loop-again Inv-loop μ-loop
+loop-again c =
+    let l = c .before .before .before .loop in
+    let e = l .inv .1 in
+    (omega arith, rw (c .tick-lamp .ensures, map-still tickLamp _ (l .next) (l .i) off (omega arith) e) (map-more _ _ _ _ _ e off (omega arith) (omega arith)))
+
+returns : tie.Need-returns Inv-loop μ-loop
+unfolding tickLamps
+returns c = map-done _ _ _ _ (c .before .loop .i) (c .before .loop .inv .1) (omega arith) (omega arith)
+
+pub tick-lamps-spec : {M : Type 1} → statement M
+tick-lamps-spec =
+    tie.close (tie.spec Inv-loop μ-loop loop-holds mul-lamp array-copy-out-lamp tick-lamp-requires mul-next array-set-from-next add-i loop-less loop-again returns)

@@ -1,0 +1,50 @@
+// The actual levels of a node's lamps.
+use crate::record::Node;
+use crate::record::node_ok;
+use dpa::refusal;
+use dpa::settings::Settings;
+use lights::lamp::Lamp;
+use lights::lamp::actual_level;
+ghost use mathlib.Core.Path.{_≡_};
+ghost use mathlib.Core.Bool.{true};
+ghost use Rattle.dpa.specs.Settings.{settingsOk};
+ghost use Rattle.lights.specs.Lamp.{Dimmed};
+ghost use Rattle.node.specs.Node.{actualLevels, levelsOf};
+
+#[repr(C)]
+pub struct LevelsAnswer {
+    pub refusal: u8,
+    pub levels: [u8; 32],
+}
+
+fn each_level(settings: Settings, lamps: [Lamp; 32]) -> [u8; 32]
+    requires { ⌜ (settingsOk settings ≡ true) × Dimmed lamps ⌝ }
+    ensures { λ r. ⌜ r ≡ actualLevels settings lamps ⌝ }
+{
+    let mut levels = [0u8; 32];
+    let mut i: usize = 0;
+    while i < 32 {
+        let lamp = lamps[i];
+        levels[i] = actual_level(settings, lamp.level);
+        i = i + 1;
+    }
+    levels
+}
+
+// The actual level of each lamp.
+pub fn actual_levels(node: Node) -> LevelsAnswer
+    ensures { λ r. ⌜ r ≡ levelsOf node ⌝ }
+{
+    if !node_ok(node) {
+        return LevelsAnswer {
+            refusal: refusal::NODE,
+            levels: [0; 32],
+        };
+    }
+    let lamps = node.lamps;
+    let levels = each_level(node.settings, lamps);
+    LevelsAnswer {
+        refusal: refusal::NONE,
+        levels,
+    }
+}

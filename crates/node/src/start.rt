@@ -1,0 +1,46 @@
+// A node as it starts: every lamp and RAM byte 0.
+use crate::record::Node;
+use crate::record::NodeAnswer;
+use dpa::refusal;
+use dpa::settings::Settings;
+use dpa::settings::settings_ok;
+use lights::lamp::Lamp;
+ghost use mathlib.Core.Path.{_≡_};
+ghost use Rattle.node.specs.Node.{fresh, startOf};
+
+fn fresh_node(settings: Settings) -> Node
+    ensures { λ r. ⌜ r ≡ fresh settings ⌝ }
+{
+    let off = Lamp {
+        level: 0,
+        seconds: 0,
+    };
+    Node {
+        settings,
+        lamps: [off; 32],
+        ram: [0; 48],
+    }
+}
+
+// A fresh node, or a record of zeros for settings out of range.
+pub fn start(settings: Settings) -> NodeAnswer
+    ensures { λ r. ⌜ r ≡ startOf settings ⌝ }
+{
+    if !settings_ok(settings) {
+        let none = Settings {
+            address: 0,
+            hwpid: 0,
+            dpa_value: 0,
+            lamp_count: 0,
+            step: 0,
+        };
+        return NodeAnswer {
+            refusal: refusal::NODE,
+            node: fresh_node(none),
+        };
+    }
+    NodeAnswer {
+        refusal: refusal::NONE,
+        node: fresh_node(settings),
+    }
+}
