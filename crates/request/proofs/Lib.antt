@@ -1,0 +1,8 @@
+pub mod Performing
+pub mod Entering
+pub mod Carrying
+pub mod Taking
+pub mod Soundness
+pub mod Sizes
+pub mod Errors
+pub mod Examples
