@@ -1,12 +1,12 @@
 // Runs worked examples of document 01 and of the DPA guide through the public calls, and prints what each answers.
 use dpa::number::wide;
 use dpa::settings::Settings;
+use handler::request::handle_request;
 use libc::STDOUT_FILENO;
 use lights::lamp::Lamp;
 use memory::view::view_status;
 use node::record::Node;
 use node::start::start;
-use request::handle::handle_request;
 use timing::confirm::confirm;
 use timing::slot::Network;
 use timing::slot::earliest_send;

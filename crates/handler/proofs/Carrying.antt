@@ -1,0 +1,73 @@
+-- Carrying out a request, by the tests on the way: a batch, the OS, HWPID and PNUM.
+use mathlib.Core.Path.{_≡_, ap, sym}
+use mathlib.Core.List.{List, []}
+use mathlib.Core.Bool.{Bool, true, false}
+use Prim.Native.Nat.{ℕ}
+use lib.ListN.{length}
+use borrow.Author.Tests.{eq-eqb, ne-eqb}
+use Rattle.dpa.specs.Served.{Served, Laid, laid, layOut, refused}
+use Rattle.checksum.specs.Check.{codeCheck}
+use Rattle.batch.specs.Batch.{Item, reading, listError}
+use Rattle.batch.specs.declared.list.Listed.{Listed}
+use Rattle.batch.specs.declared.list.Listed.the-variants.{Sound, Broken}
+use Rattle.handler.specs.declared.os.Carried.{Carried}
+use Rattle.handler.specs.Request.{State, perform, forNode, plain, ran, batchOf, codeCheckOf, osOf, carryOut, Left, left, leave}
+
+module _ (d : List ℕ) (st : State) where
+  pub batch-empty : length d ≡ 0 → batchOf d st ≡ plain (refused st 5)
+  unfolding batchOf
+  batch-empty e = rw (eq-eqb (length d) 0 e)
+
+  -- a list that cannot be taken apart runs nothing
+  pub batch-broken : (length d ≡ 0 → ⊥) → {r a : ℕ} → reading d .listed ≡ Broken r a → batchOf d st ≡ plain (refused st 6)
+  unfolding batchOf
+  batch-broken n e = rw (ne-eqb (length d) 0 n, e)
+
+  pub batch-runs : (length d ≡ 0 → ⊥) → reading d .listed ≡ Sound → batchOf d st ≡ ran (reading d .items) st
+  unfolding batchOf
+  batch-runs n e = rw (ne-eqb (length d) 0 n, e)
+
+module _ (pcmd : ℕ) (d : List ℕ) (st : State) where
+  pub os-batch : pcmd ≡ 5 → osOf pcmd d st ≡ batchOf d st
+  unfolding osOf
+  os-batch e = ap (λ (c : ℕ). osOf c d st) e
+
+  pub os-check : pcmd ≡ 0x0A → osOf pcmd d st ≡ codeCheckOf d st
+  unfolding osOf
+  os-check e = ap (λ (c : ℕ). osOf c d st) e
+
+  pub os-unknown : (pcmd ≡ 5 → ⊥) → (pcmd ≡ 0x0A → ⊥) → osOf pcmd d st ≡ plain (refused st 2)
+  unfolding osOf
+  os-unknown a b = simp (ne-eqb pcmd 5 a, ne-eqb pcmd 0x0A b)
+
+module _ (i : Item) (st : State) where
+  pub carry-other : forNode (st .node .settings) (i .hwpid) ≡ false → carryOut i st ≡ plain (refused st 7)
+  unfolding carryOut
+  carry-other e = rw e
+
+  module _ (e : forNode (st .node .settings) (i .hwpid) ≡ true) where
+    pub carry-os : i .pnum ≡ 2 → carryOut i st ≡ osOf (i .pcmd) (i .pdata) st
+    unfolding carryOut
+    carry-os p = rw (e, eq-eqb (i .pnum) 2 p)
+
+    pub carry-peripheral : (i .pnum ≡ 2 → ⊥) → carryOut i st ≡ plain (perform (i .pnum) (i .pcmd) (i .pdata) st)
+    unfolding carryOut
+    carry-peripheral p = rw (e, ne-eqb (i .pnum) 2 p)
+
+-- What the code leaves
+
+pub left-as : {r s : Carried} {e x o : List ℕ} → r ≡ s → left r e x o ≡ left s e x o
+left-as {r} {s} {e} {x} {o} q = ap (λ (t : Carried). left t e x o) q
+
+-- a peripheral's answer
+pub left-plain : {st : State} {e n : ℕ} {out : List ℕ} (a : Served State) (o : List ℕ) → laid st e n out ≡ layOut a o
+    → record { after = st; error = e; length = n; load = false; out = out } ≡ leave (plain a) o
+left-plain a o q =
+    ap (λ (l : Laid State). record { after = l .after; error = l .error; length = l .length; load = false; out = l .out }) q
+
+-- the code check's answer
+pub left-check : (st : State) (d : List ℕ) {b : Bool} {e n : ℕ} {out : List ℕ} (o : List ℕ) → laid b e n out ≡ layOut (codeCheck (st .external) d) o
+    → record { after = st; error = e; length = n; load = b; out = out } ≡ leave (codeCheckOf d st) o
+unfolding codeCheckOf
+left-check st d o q =
+    ap (λ (l : Laid Bool). record { after = st; error = l .error; length = l .length; load = l .after; out = l .out }) q

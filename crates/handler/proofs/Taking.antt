@@ -1,0 +1,89 @@
+-- Taking a frame: whose it is, the response, and the refusals.
+use mathlib.Core.Path.{_≡_, ap, sym, _∙_}
+use mathlib.Core.List.{List, [], _∷_, _++_}
+use mathlib.Core.Bool.{Bool, true, false}
+use Prim.Native.Nat.{ℕ, _+_, _-_, _≤_}
+use native.Mathlib.Omega.{arith}
+use lib.Dec.{ltb, leb, eqb}
+use lib.ListN.{length, take, drop}
+use borrow.Rule.Slice.PartMut.{midOf, putMid}
+use borrow.Author.Tests.{eq-eqb, ne-eqb, eqb-true, ltb-false, leb-true}
+use Rattle.dpa.specs.declared.frame.Frame.{Frame}
+use Rattle.dpa.specs.declared.settings.Settings.{Settings}
+use Rattle.dpa.specs.Lists.{over}
+use Rattle.dpa.specs.Frame.{headerOf, frameFits, responseHeader}
+use Rattle.dpa.proofs.Bool.{first-taken, second-taken, and-left}
+use Rattle.dpa.proofs.Lists.{to-end, rear-lent, rear-back, header-over}
+use Rattle.batch.specs.Batch.{Item, item}
+use Rattle.node.specs.declared.record.Node.{Node}
+use Rattle.handler.specs.declared.os.Carried.{Carried}
+use Rattle.node.specs.Node.{nodeOk}
+use Rattle.handler.specs.Request.{State, state, StateRule, Outcome, Left, left, leave, itemOf, carryOut, Called, called, silent, broadcast, respond, takenOf, requestRefusal, refusalOf, requestOf}
+
+-- the request that the code takes out of a frame
+pub frame-item : (f : List ℕ) {h : Frame} → h ≡ headerOf f → item (h .pnum) (h .pcmd) (h .hwpid) (take (length f - 6) (drop 6 f)) ≡ itemOf f
+frame-item f e =
+    ap (λ (h : Frame). item (h .pnum) (h .pcmd) (h .hwpid) (take (length f - 6) (drop 6 f))) e
+    ∙ ap (item (headerOf f .pnum) (headerOf f .pcmd) (headerOf f .hwpid)) (to-end 6 f)
+
+module _ (f : List ℕ) (st : State) (o : List ℕ) where
+  pub taken-broadcast : headerOf f .nadr ≡ 255 → takenOf f st o ≡ broadcast (carryOut (itemOf f) st) o
+  unfolding takenOf
+  taken-broadcast e = rw (eq-eqb (headerOf f .nadr) 255 e)
+
+  module _ (n : headerOf f .nadr ≡ 255 → ⊥) where
+    pub taken-own : headerOf f .nadr ≡ st .node .settings .address
+        → takenOf f st o ≡ respond (st .node .settings) (itemOf f) (carryOut (itemOf f) st) o
+    unfolding takenOf
+    taken-own e = rw (ne-eqb (headerOf f .nadr) 255 n, eq-eqb (headerOf f .nadr) (st .node .settings .address) e)
+
+    pub taken-other : (headerOf f .nadr ≡ st .node .settings .address → ⊥) → takenOf f st o ≡ silent st 0 false o
+    unfolding takenOf
+    taken-other e = rw (ne-eqb (headerOf f .nadr) 255 n, ne-eqb (headerOf f .nadr) (st .node .settings .address) e)
+
+  pub call-refused : {k : ℕ} → k ≡ refusalOf f st o → (k ≡ 0 → ⊥) → silent st k false o ≡ requestOf f st o
+  unfolding requestOf
+  call-refused e n =
+      rw (ne-eqb (refusalOf f st o) 0 (λ z. n (e ∙ z))) (ap (λ (r : ℕ). silent st r false o) e)
+
+  pub call-taken : refusalOf f st o ≡ 0 → requestOf f st o ≡ takenOf f st o
+  unfolding requestOf
+  call-taken e = rw (eq-eqb (refusalOf f st o) 0 e)
+
+-- what is known where no refusal was given
+module _ (n : Node) (f e x r : ℕ) (z : requestRefusal n f e x r ≡ 0) where
+  pub refusal-none : (nodeOk n ≡ true) × (6 ≤ f) × (64 ≤ r) × (e ≡ 192) × (x ≡ 16384)
+  unfolding requestRefusal frameFits
+  refusal-none =
+      let a = first-taken (nodeOk n) _ 1 0 (λ q. omega arith) z in
+      let b = first-taken (frameFits f) _ 2 0 (λ q. omega arith) (a .1) in
+      let c = second-taken (ltb r 64) 3 _ 0 (λ q. omega arith) (b .1) in
+      let d = first-taken (eqb e 192) _ 4 0 (λ q. omega arith) (c .1) in
+      let g = first-taken (eqb x 16384) 0 4 0 (λ q. omega arith) (d .1) in
+      (a .0, leb-true _ _ (and-left (leb 6 f) (leb f 62) (b .0)), ltb-false _ _ (c .0), eqb-true _ _ (d .0), eqb-true _ _ (g .0))
+
+pub taken-rule : (n : Node) (e x : List ℕ) (f r : ℕ) → requestRefusal n f (length e) (length x) r ≡ 0 → StateRule (state n e x)
+taken-rule n e x f r z =
+    let k = refusal-none n f (length e) (length x) r z in
+    record { node-ok = k .0; eeprom-size = k .3; external-size = k .4 }
+
+-- the response: data in the lent rear part of the buffer, then the header in front
+pub own-answer : (o m : List ℕ) → 8 ≤ length o → (s : Settings) (i : Item) (a : Outcome) {r : Carried} {e x w : List ℕ}
+    → left r e x m ≡ leave a (midOf 8 (length o - 8) o)
+    → w ≡ responseHeader s (i .pnum) (i .pcmd) (r .error) ++ drop 8 (putMid 8 (length o - 8) o m)
+    → called (record { refusal = 0; length = 8 + r .length; load = r .load; node = r .node }) e x w ≡ respond s i a o
+own-answer o m h s i a {r} {e} {x} {w} q u =
+    ap (called (record { refusal = 0; length = 8 + r .length; load = r .load; node = r .node }) e x)
+    (u ∙ ap (λ (l : List ℕ). responseHeader s (i .pnum) (i .pcmd) (r .error) ++ l) (rear-back 8 o m h))
+    ∙ ap headed q
+    ∙ ap answered (rear-lent 8 o)
+    ∙ ap (λ (l : List ℕ). record { after = a .after; refusal = 0; length = 8 + length (a .bytes); load = a .load; response = l })
+    (sym (header-over (responseHeader s (i .pnum) (i .pcmd) (a .error)) (a .bytes) o))
+  where
+    headed : Left → Called
+    headed l =
+        record { after = l .after; refusal = 0; length = 8 + l .length; load = l .load; response = responseHeader s (i .pnum) (i .pcmd) (l .error) ++ l .out }
+
+    answered : List ℕ → Called
+    answered l =
+        record { after = a .after; refusal = 0; length = 8 + length (a .bytes); load = a .load; response = responseHeader s (i .pnum) (i .pcmd) (a .error) ++ over (a .bytes) l }

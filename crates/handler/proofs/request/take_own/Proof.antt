@@ -1,0 +1,79 @@
+use borrow.Author.Needs.{needs}
+use native.Mathlib.Omega.{arith}
+use mathlib.Core.Path.{ap}
+use Rattle.batch.specs.Batch.{item}
+use Rattle.handler.specs.Request.{Left, state, carryOut}
+use Rattle.handler.proofs.Sizes.{carry-fits}
+use Rattle.handler.proofs.Taking.{own-answer}
+use Rattle.handler.proofs.request.take_own.Statement.{statement}
+use Rattle.handler.proofs.request.take_own.Tie as tie
+use Rattle.handler.proofs.request.take_own.Reads as reads
+use Rattle.handler.proofs.request.take_own.Lts as lts
+use Rattle.dpa.proofs.frame.write_header.Reads as write-header-reads
+use Rattle.handler.proofs.request.carry_out.Reads as carry-out-reads
+
+-- src/request.rt:104:9
+sub-carry-out : tie.Need-sub-carry-out
+sub-carry-out c = search needs
+
+-- src/request.rt:104:9
+part-carry-out-start : tie.Need-part-carry-out-start
+part-carry-out-start c = search needs
+
+-- src/request.rt:104:9
+part-carry-out-end : tie.Need-part-carry-out-end
+part-carry-out-end c = search needs
+
+-- src/request.rt:98:9
+carry-out-requires : tie.Need-carry-out-requires
+carry-out-requires c κs = search needs
+
+-- src/request.rt:107:5
+write-header-requires : tie.Need-write-header-requires
+write-header-requires c κs = search needs
+
+-- src/request.rt:112:17
+add-t16 : tie.Need-add-t16
+add-t16 c =
+    let a = c .before .before .before .before .before .before .before .before .before .before .before .before .before .before .before .before .before .before .before .before .args in
+    let p = c .before .before .before .before .before .before .before .before .before .before .before .before .before .before .before .before .before .before .before .before .pre in
+    let n = ap (λ (l : Left). l .length) (c .before .before .before .before .before .before .before .before .before .before .before .before .carry-out .ensures) in
+    let z = carry-fits (item (a .header .pnum) (a .header .pcmd) (a .header .hwpid) (a .pdata .now)) (state (a .node) (a .eeprom .now) (a .external .now)) (p .0) in
+    omega arith
+
+-- src/request.rt:85:1
+same-length : tie.Need-same-length
+same-length c = search needs
+
+-- src/request.rt:85:1
+same-length-2 : tie.Need-same-length-2
+same-length-2 c = search needs
+
+-- src/request.rt:85:1
+same-length-3 : tie.Need-same-length-3
+same-length-3 c = search needs
+
+-- src/request.rt:85:1
+returns : tie.Need-returns
+returns c =
+    let a = c .before .before .before .before .before .before .before .before .before .before .before .before .before .before .before .before .before .before .before .before .args in
+    let p = c .before .before .before .before .before .before .before .before .before .before .before .before .before .before .before .before .before .before .before .before .pre in
+    own-answer (a .response .now) (c .before .before .before .before .before .before .before .before .before .before .before .before .carry-out .last .1 .1 .1 .1 .1 .0) (omega (arith, p .1)) (a .node .settings)
+    (item (a .header .pnum) (a .header .pcmd) (a .header .hwpid) (a .pdata .now))
+    (carryOut (item (a .header .pnum) (a .header .pcmd) (a .header .hwpid) (a .pdata .now)) (state (a .node) (a .eeprom .now) (a .external .now)))
+    (c .before .before .before .before .before .before .before .before .before .before .before .before .carry-out .ensures) (c .before .before .before .write-header .ensures)
+
+pub take-own-spec : {M : Type 1} → statement M
+take-own-spec =
+    tie.close
+    (tie.spec
+    sub-carry-out
+    part-carry-out-start
+    part-carry-out-end
+    carry-out-requires
+    write-header-requires
+    add-t16
+    same-length
+    same-length-2
+    same-length-3
+    returns)

@@ -1,0 +1,196 @@
+-- Document 01, "Taking a request": what a request does to a node and both memories, and what it answers.
+use Prim.Native.Nat.{ℕ, _+_}
+use mathlib.Core.Path.{_≡_}
+use mathlib.Core.List.{List, [], _++_}
+use mathlib.Core.Bool.{Bool, true, false, cond, not, _||_}
+use lib.ListN.{length}
+use lib.Dec.{ltb, eqb}
+use Rattle.dpa.specs.declared.settings.Settings.{Settings}
+use Rattle.dpa.specs.declared.frame.Frame.{Frame}
+use Rattle.dpa.specs.Lists.{over}
+use Rattle.dpa.specs.Frame.{headerOf, pdataOf, frameFits, responseHeader}
+use Rattle.dpa.specs.Served.{Served, served, refused, within}
+use Rattle.memory.specs.declared.block.Memory.the-variants.{Eeprom, Ram, External}
+use Rattle.memory.specs.Block.{sizeOf}
+use Rattle.memory.specs.Request.{memoryRequest}
+use Rattle.lights.specs.Lights.{lightsRequest}
+use Rattle.checksum.specs.Check.{codeCheck}
+use Rattle.batch.specs.Batch.{Item, item, reading, listError, runItems, errorsOf}
+use Rattle.node.specs.declared.record.Node.{Node}
+use Rattle.handler.specs.declared.peripheral.NodeReply.{NodeReply}
+use Rattle.handler.specs.declared.os.Carried.{Carried}
+use Rattle.handler.specs.declared.answer.RequestAnswer.{RequestAnswer}
+use Rattle.node.specs.Node.{nodeOk, withLamps, withRam}
+
+-- the node with both memories
+pub record State : Type 0 where
+  pub node : Node
+  pub eeprom : List ℕ
+  pub external : List ℕ
+
+abbrev pub state : Node → List ℕ → List ℕ → State
+state n e x = record { node = n; eeprom = e; external = x }
+
+-- a sound node with memories of their sizes
+pub record StateRule (st : State) : Type 0 where
+  pub node-ok : nodeOk (st .node) ≡ true
+  pub eeprom-size : length (st .eeprom) ≡ sizeOf Eeprom
+  pub external-size : length (st .external) ≡ sizeOf External
+
+-- the state with another node, another EEPROM or another external memory
+abbrev pub nodeIs : State → Node → State
+nodeIs st n = state n (st .eeprom) (st .external)
+
+abbrev pub eepromIs : State → List ℕ → State
+eepromIs st e = state (st .node) e (st .external)
+
+abbrev pub externalIs : State → List ℕ → State
+externalIs st x = state (st .node) (st .eeprom) x
+
+-- the memories and the lights, by PNUM
+unfoldable pub perform : ℕ → ℕ → List ℕ → State → Served State
+perform pnum pcmd pdata st =
+    cond (eqb pnum 3) (within (eepromIs st) (memoryRequest Eeprom pcmd pdata (st .eeprom)))
+    (cond (eqb pnum 4) (within (externalIs st) (memoryRequest External pcmd pdata (st .external)))
+    (cond (eqb pnum 5) (within (nodeIs st) (within (withRam (st .node)) (memoryRequest Ram pcmd pdata (st .node .ram))))
+    (cond (eqb pnum 0x71) (within (nodeIs st) (within (withLamps (st .node)) (lightsRequest (st .node .settings) pcmd pdata (st .node .lamps))))
+    (refused st 3))))
+
+-- the node's hardware profile, or the one that every node takes
+unfoldable pub forNode : Settings → ℕ → Bool
+forNode s hwpid = eqb hwpid (s .hwpid) || eqb hwpid 0xFFFF
+
+-- an entry of a batch; PNUM 02 is not among those that it may name
+unfoldable pub entryOf : Item → State → Served State
+entryOf i st =
+    cond (forNode (st .node .settings) (i .hwpid)) (perform (i .pnum) (i .pcmd) (i .pdata) st) (refused st 7)
+
+abbrev pub entryAfter : Item → State → State
+entryAfter i st = entryOf i st .after
+
+abbrev pub entryError : Item → State → ℕ
+entryError i st = entryOf i st .error
+
+-- What a request does: the state afterwards, ErrN, the answer's data, the ErrN of each entry of a batch in order, and
+-- the load mark. ErrN stand here whether they are sent or not.
+pub record Outcome : Type 0 where
+  pub after : State
+  pub error : ℕ
+  pub bytes : List ℕ
+  pub entries : List ℕ
+  pub load : Bool
+
+abbrev pub outcome : Served State → List ℕ → Bool → Outcome
+outcome a es l = record { after = a .after; error = a .error; bytes = a .bytes; entries = es; load = l }
+
+-- a request that is no batch and sets no load mark
+abbrev pub plain : Served State → Outcome
+plain a = outcome a [] false
+
+-- entries in order, each at the state that the one before left; the batch itself answers 0 and no data
+abbrev pub ran : List Item → State → Outcome
+ran is st = outcome (served (runItems entryAfter is st) 0 []) (errorsOf entryError entryAfter is st) false
+
+-- OS 02, PCMD 05: a list that cannot be read runs nothing
+unfoldable pub batchOf : List ℕ → State → Outcome
+batchOf pdata st =
+    cond (eqb (length pdata) 0) (plain (refused st 5))
+    (cond (eqb (listError (reading pdata .listed)) 0) (ran (reading pdata .items) st)
+    (plain (refused st (listError (reading pdata .listed)))))
+
+-- OS 02, PCMD 0A: nothing changes, and the load mark is the check's
+unfoldable pub codeCheckOf : List ℕ → State → Outcome
+codeCheckOf pdata st =
+    outcome (within (λ _. st) (codeCheck (st .external) pdata)) [] (codeCheck (st .external) pdata .after)
+
+-- OS 02
+unfoldable pub osOf : ℕ → List ℕ → State → Outcome
+osOf pcmd pdata st =
+    cond (eqb pcmd 5) (batchOf pdata st)
+    (cond (eqb pcmd 0x0A) (codeCheckOf pdata st)
+    (plain (refused st 2)))
+
+-- a request from HWPID on: the first error that applies
+unfoldable pub carryOut : Item → State → Outcome
+carryOut i st =
+    cond (forNode (st .node .settings) (i .hwpid))
+    (cond (eqb (i .pnum) 2) (osOf (i .pcmd) (i .pdata) st) (plain (perform (i .pnum) (i .pcmd) (i .pdata) st)))
+    (plain (refused st 7))
+
+-- what carrying out leaves in the code: the state, ErrN, the data's length, the load mark and the lent buffer
+pub record Left : Type 0 where
+  pub after : State
+  pub error : ℕ
+  pub length : ℕ
+  pub load : Bool
+  pub out : List ℕ
+
+abbrev pub left : Carried → List ℕ → List ℕ → List ℕ → Left
+left r e x o = record { after = state (r .node) e x; error = r .error; length = r .length; load = r .load; out = o }
+
+abbrev pub leave : Outcome → List ℕ → Left
+leave a o =
+    record { after = a .after; error = a .error; length = length (a .bytes); load = a .load; out = over (a .bytes) o }
+
+-- the request of a frame
+abbrev pub itemOf : List ℕ → Item
+itemOf f = item (headerOf f .pnum) (headerOf f .pcmd) (headerOf f .hwpid) (pdataOf f)
+
+-- What a call leaves: the state, the refusal, the response's length, the load mark, and the response buffer.
+pub record Called : Type 0 where
+  pub after : State
+  pub refusal : ℕ
+  pub length : ℕ
+  pub load : Bool
+  pub response : List ℕ
+
+abbrev pub called : RequestAnswer → List ℕ → List ℕ → List ℕ → Called
+called r e x o =
+    record { after = state (r .node) e x; refusal = r .refusal; length = r .length; load = r .load; response = o }
+
+-- no answer: the response buffer stays
+abbrev pub silent : State → ℕ → Bool → List ℕ → Called
+silent st refusal load o = record { after = st; refusal = refusal; length = 0; load = load; response = o }
+
+-- a broadcast is carried out and never answered
+abbrev pub broadcast : Outcome → List ℕ → Called
+broadcast a o = silent (a .after) 0 (a .load) o
+
+-- a response: header and data, later bytes as they were
+abbrev pub respond : Settings → Item → Outcome → List ℕ → Called
+respond s i a o =
+    record {
+      after = a .after;
+      refusal = 0;
+      length = 8 + length (a .bytes);
+      load = a .load;
+      response = over (responseHeader s (i .pnum) (i .pcmd) (a .error) ++ a .bytes) o;
+    }
+
+-- a frame that was not refused: carried out in silence for 0x00FF, answered for the node's address, else not mine
+unfoldable pub takenOf : List ℕ → State → List ℕ → Called
+takenOf f st o =
+    cond (eqb (headerOf f .nadr) 0x00FF) (broadcast (carryOut (itemOf f) st) o)
+    (cond (eqb (headerOf f .nadr) (st .node .settings .address)) (respond (st .node .settings) (itemOf f) (carryOut (itemOf f) st) o)
+    (silent st 0 false o))
+
+-- refusals 1, 2, 3, 4 in this order, by the node and the lengths of what is lent; 0 for none
+unfoldable pub requestRefusal : Node → ℕ → ℕ → ℕ → ℕ → ℕ
+requestRefusal n frame eeprom external response =
+    cond (nodeOk n)
+    (cond (frameFits frame)
+    (cond (ltb response 64) 3
+    (cond (eqb eeprom (sizeOf Eeprom))
+    (cond (eqb external (sizeOf External)) 0
+    4)
+    4))
+    2)
+    1
+
+abbrev pub refusalOf : List ℕ → State → List ℕ → ℕ
+refusalOf f st o = requestRefusal (st .node) (length f) (length (st .eeprom)) (length (st .external)) (length o)
+
+-- the call
+unfoldable pub requestOf : List ℕ → State → List ℕ → Called
+requestOf f st o =
+    cond (eqb (refusalOf f st o) 0) (takenOf f st o) (silent st (refusalOf f st o) false o)

@@ -1,0 +1,184 @@
+// Taking a request: from the frame to the response buffer.
+use crate::answer::RequestAnswer;
+use crate::answer::unanswered;
+use crate::entries::for_node;
+use crate::os::Carried;
+use crate::os::failed;
+use crate::os::os;
+use crate::peripheral::peripheral;
+use dpa::error;
+use dpa::frame::Frame;
+use dpa::frame::write_header;
+use dpa::pnum;
+use dpa::refusal;
+use node::record::Node;
+use node::record::node_ok;
+ghost use mathlib.Core.Path.{_≡_};
+ghost use mathlib.Core.List.{List};
+ghost use Prim.Native.Nat.{ℕ, _≤_};
+ghost use lib.ListN.{length};
+ghost use Rattle.dpa.specs.Frame.{headerOf};
+ghost use Rattle.batch.specs.Batch.{item};
+ghost use Rattle.handler.specs.Request.{state, StateRule, left, leave, carryOut, called, broadcast, respond, takenOf, requestRefusal, requestOf};
+
+// A request from HWPID on. The answer's data goes to the front of `out`.
+fn carry_out(
+    node: Node,
+    header: Frame,
+    pdata: &[u8],
+    eeprom: &mut [u8],
+    external: &mut [u8],
+    out: &mut [u8],
+) -> Carried
+    requires { ⌜ StateRule (state node (now eeprom) (now external)) × (56 ≤ length (now out)) ⌝ }
+    ensures { λ r. ⌜ left r (now (eeprom .exit)) (now (external .exit)) (now (out .exit))
+        ≡ leave (carryOut (item (header .pnum) (header .pcmd) (header .hwpid) (now (pdata .entry))) (state node (now (eeprom .entry)) (now (external .entry)))) (now (out .entry)) ⌝ }
+{
+    let settings = node.settings;
+    if for_node(settings, header.hwpid) {
+        if header.pnum == pnum::OS {
+            return os(node, header.pcmd, pdata, eeprom, external, out);
+        }
+        let reply = peripheral(node, header.pnum, header.pcmd, pdata, eeprom, external, out);
+        let next = reply.node;
+        return Carried {
+            node: next,
+            error: reply.error,
+            length: reply.length,
+            load: false,
+        };
+    }
+    failed(node, error::HWPID)
+}
+
+// A broadcast is carried out and never answered: its data goes to an array of its own.
+fn take_broadcast(
+    node: Node,
+    header: Frame,
+    pdata: &[u8],
+    eeprom: &mut [u8],
+    external: &mut [u8],
+) -> RequestAnswer
+    requires { ⌜ StateRule (state node (now eeprom) (now external)) ⌝ }
+    ensures { λ r. ⌜ ((o : List ℕ) → called r (now (eeprom .exit)) (now (external .exit)) o
+        ≡ broadcast (carryOut (item (header .pnum) (header .pcmd) (header .hwpid) (now (pdata .entry))) (state node (now (eeprom .entry)) (now (external .entry)))) o) ⌝ }
+{
+    let mut scratch = [0u8; Frame::PDATA_MAX];
+    let done = carry_out(node, header, pdata, eeprom, external, &mut scratch);
+    let next = done.node;
+    RequestAnswer {
+        refusal: refusal::NONE,
+        length: 0,
+        load: done.load,
+        node: next,
+    }
+}
+
+// A request to this node: the data part behind the header is lent on, then the header goes in front.
+fn take_own(
+    node: Node,
+    header: Frame,
+    pdata: &[u8],
+    eeprom: &mut [u8],
+    external: &mut [u8],
+    response: &mut [u8],
+) -> RequestAnswer
+    requires { ⌜ StateRule (state node (now eeprom) (now external)) × (64 ≤ length (now response)) ⌝ }
+    ensures { λ r. ⌜ called r (now (eeprom .exit)) (now (external .exit)) (now (response .exit))
+        ≡ respond (node .settings) (item (header .pnum) (header .pcmd) (header .hwpid) (now (pdata .entry)))
+        (carryOut (item (header .pnum) (header .pcmd) (header .hwpid) (now (pdata .entry))) (state node (now (eeprom .entry)) (now (external .entry)))) (now (response .entry)) ⌝ }
+{
+    let done = carry_out(
+        node,
+        header,
+        pdata,
+        eeprom,
+        external,
+        &mut response[Frame::RESPONSE_HEADER..],
+    );
+    let settings = node.settings;
+    write_header(response, settings, header.pnum, header.pcmd, done.error);
+    let next = done.node;
+    let length = done.length;
+    RequestAnswer {
+        refusal: refusal::NONE,
+        length: Frame::RESPONSE_HEADER + length,
+        load: done.load,
+        node: next,
+    }
+}
+
+// A frame that passed the refusals.
+fn take_frame(
+    node: Node,
+    frame: &[u8],
+    eeprom: &mut [u8],
+    external: &mut [u8],
+    response: &mut [u8],
+) -> RequestAnswer
+    requires { ⌜ StateRule (state node (now eeprom) (now external)) × (6 ≤ length (now frame)) × (64 ≤ length (now response)) ⌝ }
+    ensures { λ r. ⌜ called r (now (eeprom .exit)) (now (external .exit)) (now (response .exit))
+        ≡ takenOf (now (frame .entry)) (state node (now (eeprom .entry)) (now (external .entry))) (now (response .entry)) ⌝ }
+{
+    let header = Frame::read(frame);
+    if header.nadr == Frame::BROADCAST {
+        return take_broadcast(node, header, &frame[Frame::HEADER..], eeprom, external);
+    }
+    if header.nadr == node.settings.address {
+        return take_own(
+            node,
+            header,
+            &frame[Frame::HEADER..],
+            eeprom,
+            external,
+            response,
+        );
+    }
+    unanswered(node, refusal::NONE)
+}
+
+// The refusal of a call, 0 for none.
+fn request_refusal(node: Node, frame: usize, eeprom: usize, external: usize, response: usize) -> u8
+    ensures { λ r. ⌜ r ≡ requestRefusal node frame eeprom external response ⌝ }
+{
+    if !node_ok(node) {
+        return refusal::NODE;
+    }
+    if !Frame::fits(frame) {
+        return refusal::FRAME;
+    }
+    if response < Frame::RESPONSE_LONGEST {
+        return refusal::RESPONSE;
+    }
+    if eeprom != 192 {
+        return refusal::MEMORY;
+    }
+    if external != 16384 {
+        return refusal::MEMORY;
+    }
+    refusal::NONE
+}
+
+// Takes a request. A refused call changes nothing that it was lent.
+pub fn handle_request(
+    node: Node,
+    frame: &[u8],
+    eeprom: &mut [u8],
+    external: &mut [u8],
+    response: &mut [u8],
+) -> RequestAnswer
+    ensures { λ r. ⌜ called r (now (eeprom .exit)) (now (external .exit)) (now (response .exit))
+        ≡ requestOf (now (frame .entry)) (state node (now (eeprom .entry)) (now (external .entry))) (now (response .entry)) ⌝ }
+{
+    let refusal = request_refusal(
+        node,
+        frame.len(),
+        eeprom.len(),
+        external.len(),
+        response.len(),
+    );
+    if refusal != refusal::NONE {
+        return unanswered(node, refusal);
+    }
+    take_frame(node, frame, eeprom, external, response)
+}

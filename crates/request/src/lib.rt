@@ -1,6 +1,0 @@
-// Taking a request: the peripherals, the entries of a batch, OS requests, and the call from frame to response.
-pub mod answer;
-pub mod entries;
-pub mod handle;
-pub mod os;
-pub mod peripheral;
