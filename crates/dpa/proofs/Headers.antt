@@ -1,7 +1,7 @@
 -- Laws of the header: it is read back as it was written, and written back as it was read.
 use mathlib.Core.Path.{_≡_}
 use mathlib.Core.List.{List, [], _∷_, _++_}
-use Prim.Native.Nat.{ℕ, _%_, _+_, _≤_, _<_}
+use Prim.Native.Nat.{ℕ, _%_, _+_, _≤_}
 use native.Mathlib.Omega.{arith}
 use lib.ListN.{length, getD, take, drop}
 use lib.Seq.{sets}

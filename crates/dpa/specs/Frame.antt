@@ -26,8 +26,8 @@ abbrev pub longestResponse : ℕ
 longestResponse = responseHeaderSize + pdataMax
 
 -- the NADR that every node takes, and the HWPID that every node takes
-abbrev pub toAll : ℕ
-toAll = 0x00FF
+abbrev pub broadcastNadr : ℕ
+broadcastNadr = 0x00FF
 
 abbrev pub anyHwpid : ℕ
 anyHwpid = 0xFFFF

@@ -1,18 +1,18 @@
-// Why a call refuses what it was handed. A call tests those that concern it in this order.
+// Why a call refuses what it was handed: of several reasons the smallest number is given.
 pub const NONE: u8 = 0;
-// A node record breaks the node rule; start settings or a compile address are out of range.
+// The node record is not sound, or settings or an address are out of range.
 pub const NODE: u8 = 1;
-// A frame has fewer than 6 or more than 62 bytes.
+// The frame is shorter than its header, or longer than the longest request.
 pub const FRAME: u8 = 2;
-// A response buffer has fewer than 64 bytes.
+// No room for the longest response.
 pub const RESPONSE: u8 = 3;
-// EEPROM or external memory has not its size.
+// A lent memory of the wrong size.
 pub const MEMORY: u8 = 4;
-// A PData length is above 56.
+// More PData than a frame carries.
 pub const PDATA: u8 = 5;
-// A view names neither memory.
+// A view of something other than the two lent memories.
 pub const VIEW: u8 = 10;
-// A view is longer than the memory's longest block.
+// A view over more bytes than one request moves.
 pub const BLOCK: u8 = 15;
-// A view does not lie in the memory.
+// A view that starts or ends outside the memory.
 pub const RANGE: u8 = 16;
