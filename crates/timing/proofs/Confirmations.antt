@@ -6,19 +6,15 @@ use Prim.Native.Nat.{ℕ, _-_, _≤_, _<_}
 use native.Mathlib.Omega.{arith}
 use lib.ListN.{length, take, drop, length-append, length-drop}
 use lib.Seq.{sets, sets-eq, take-at, drop-at, take-length, length-take-le, drop-drop}
-use lib.Dec.{ltb, leb}
-use borrow.Author.Tests.{lt-ltb, le-ltb, leb-true}
-use Rattle.dpa.proofs.Bool.{and-left, by-cond}
+use lib.Dec.{ltb}
+use borrow.Author.Tests.{lt-ltb, le-ltb}
+use Rattle.dpa.proofs.Bool.{by-cond}
+use Rattle.dpa.proofs.Headers.{fits-sizes}
 use Rattle.dpa.specs.Lists.{over}
 use Rattle.dpa.specs.Frame.{pdataOf, frameFits}
 use Rattle.timing.specs.declared.slot.Network.{Network}
 use Rattle.timing.specs.Slot.{slotOf}
 use Rattle.timing.specs.Confirm.{hopsBack, confirmBytes, confirmation, Confirmed, wrote, confirmOf}
-
--- a frame that fits has a header
-pub frame-min : (n : ℕ) → frameFits n ≡ true → 6 ≤ n
-unfolding frameFits
-frame-min n e = leb-true _ _ (and-left (leb 6 n) (leb n 62) e)
 
 -- a confirmation is 11 bytes
 pub bytes-length : (f : List ℕ) (d h s b : ℕ) → 6 ≤ length f → length (confirmBytes f d h s b) ≡ 11
@@ -52,7 +48,7 @@ module _ (f : List ℕ) (d h b : ℕ) (net : Network) (o : List ℕ) where
         → record { refusal = 0; length = 11; out = o′ } ≡ confirmOf f d h b net o
     unfolding confirmOf
     answered l s o′ es eo =
-        let lf : 6 ≤ length f = frame-min (length f) fits in
+        let lf : 6 ≤ length f = fits-sizes (length f) fits .0 in
         let e : s ≡ slotOf (length (pdataOf f)) net = rw (length-drop 6 f) es in
         simp (fits, le-ltb (length o) 64 l, eo, e, bytes-length f d h (slotOf (length (pdataOf f)) net) b lf)
 
@@ -62,7 +58,7 @@ module _ (f : List ℕ) (d h b : ℕ) (net : Network) (o : List ℕ) where
   answered-length =
       by-cond Eleven (frameFits (length f)) _ _
       (λ e. by-cond Eleven (ltb (length o) 64) _ _ (λ t. λ z. absurd (omega arith))
-      (λ t. λ z. bytes-length f d h (slotOf (length (pdataOf f)) net) b (frame-min (length f) e)))
+      (λ t. λ z. bytes-length f d h (slotOf (length (pdataOf f)) net) b (fits-sizes (length f) e .0)))
       (λ e. λ z. absurd (omega arith))
     where
       Eleven : Confirmed → Type 0
@@ -85,7 +81,7 @@ module _ (f : List ℕ) (d h b : ℕ) (net : Network) (o : List ℕ) where
   later-stay =
       by-cond Stays (frameFits (length f)) _ _
       (λ e. by-cond Stays (ltb (length o) 64) _ _ (λ t. refl) (λ t.
-      let l : length (confirmation f d h b net) ≡ 11 = bytes-length f d h (slotOf (length (pdataOf f)) net) b (frame-min (length f) e) in
+      let l : length (confirmation f d h b net) ≡ 11 = bytes-length f d h (slotOf (length (pdataOf f)) net) b (fits-sizes (length f) e .0) in
       rw l (drop-at (confirmation f d h b net) (drop 11 o) 11 l)))
       (λ e. refl)
     where

@@ -5,19 +5,19 @@ use mathlib.Core.List.{List, [], _∷_, _++_}
 use lib.ListN.{length, take}
 use lib.Dec.{ltb, eqb}
 use Rattle.dpa.specs.Lists.{over}
-use Rattle.dpa.specs.Frame.{headerOf, pdataOf, frameFits}
+use Rattle.dpa.specs.Frame.{headerSize, longestResponse, broadcastNadr, headerOf, pdataOf, frameFits}
 use Rattle.timing.specs.declared.slot.Network.{Network}
 use Rattle.timing.specs.declared.confirm.LengthAnswer.{LengthAnswer}
 use Rattle.timing.specs.Slot.{slotOf}
 
 -- response hops, written 0 with NADR 0x00FF
 unfoldable pub hopsBack : List ℕ → ℕ → ℕ
-hopsBack frame back = cond (eqb (headerOf frame .nadr) 255) 0 back
+hopsBack frame back = cond (eqb (headerOf frame .nadr) broadcastNadr) 0 back
 
 -- the request's first six bytes, FF hex, DpaValue, hops, timeslot, response hops
 abbrev pub confirmBytes : List ℕ → ℕ → ℕ → ℕ → ℕ → List ℕ
 confirmBytes frame dpaValue hops slot back =
-    take 6 frame ++ (255 ∷ dpaValue ∷ hops ∷ slot ∷ hopsBack frame back ∷ [])
+    take headerSize frame ++ (0xFF ∷ dpaValue ∷ hops ∷ slot ∷ hopsBack frame back ∷ [])
 
 -- the slot is that of the request's PData
 abbrev pub confirmation : List ℕ → ℕ → ℕ → ℕ → Network → List ℕ
@@ -41,7 +41,7 @@ wrote e xs o = record { refusal = e; length = length xs; out = over xs o }
 unfoldable pub confirmOf : List ℕ → ℕ → ℕ → ℕ → Network → List ℕ → Confirmed
 confirmOf frame dpaValue hops back net o =
     cond (frameFits (length frame))
-    (cond (ltb (length o) 64)
+    (cond (ltb (length o) longestResponse)
     (wrote 3 [] o)
     (wrote 0 (confirmation frame dpaValue hops back net) o))
     (wrote 2 [] o)

@@ -2,6 +2,7 @@
 use Prim.Native.Nat.{ℕ, _+_, _*_}
 use mathlib.Core.Bool.{Bool, cond}
 use lib.Dec.{ltb, leb}
+use Rattle.dpa.specs.Frame.{pdataMax}
 use Rattle.timing.specs.declared.slot.Network.{Network}
 use Rattle.timing.specs.declared.slot.Network.the-variants.{Std, StdLp}
 use Rattle.timing.specs.declared.slot.SlotAnswer.{SlotAnswer}
@@ -27,7 +28,7 @@ wayOf hops slot = (hops + 1) * slot * 10
 -- `timeslot`: refusal 5 above 56 bytes of PData
 unfoldable pub timeslotOf : ℕ → Network → SlotAnswer
 timeslotOf n net =
-    cond (ltb 56 n) (record { refusal = 5; slot = 0 })
+    cond (ltb pdataMax n) (record { refusal = 5; slot = 0 })
     (record { refusal = 0; slot = slotOf n net })
 
 -- the way there, the node's delay, and the way back but for a broadcast
@@ -38,6 +39,6 @@ earliestOf hops request delay back response net broadcast =
 -- `earliest_send`: both lengths are tested, for a broadcast too
 unfoldable pub sendOf : ℕ → ℕ → ℕ → ℕ → ℕ → Network → Bool → SendAnswer
 sendOf hops request delay back response net broadcast =
-    cond (ltb 56 request) (record { refusal = 5; milliseconds = 0 })
-    (cond (ltb 56 response) (record { refusal = 5; milliseconds = 0 })
+    cond (ltb pdataMax request) (record { refusal = 5; milliseconds = 0 })
+    (cond (ltb pdataMax response) (record { refusal = 5; milliseconds = 0 })
     (record { refusal = 0; milliseconds = earliestOf hops request delay back response net broadcast }))

@@ -6,6 +6,7 @@ use dpa::refusal;
 ghost use mathlib.Core.Path.{_≡_};
 ghost use Prim.Native.Nat.{_≤_};
 ghost use lib.ListN.{length};
+ghost use Rattle.dpa.specs.Frame.{headerSize};
 ghost use Rattle.dpa.specs.Lists.{over};
 ghost use Rattle.timing.specs.Confirm.{hopsBack, confirmBytes, confirmed, confirmOf};
 
@@ -21,7 +22,7 @@ const CONFIRMATION_LENGTH: usize = 11;
 
 // A broadcast has no response, so there are no hops of one to tell.
 fn hops_back(frame: &[u8], response_hops: u8) -> u8
-    requires { ⌜ 6 ≤ length (now frame) ⌝ }
+    requires { ⌜ headerSize ≤ length (now frame) ⌝ }
     ensures { λ r. ⌜ r ≡ hopsBack (now (frame .entry)) «response_hops» ⌝ }
 {
     let header = Frame::read(frame);
@@ -40,7 +41,7 @@ fn write_confirmation(
     response_hops: u8,
     out: &mut [u8],
 )
-    requires { ⌜ (6 ≤ length (now frame)) × (11 ≤ length (now out)) ⌝ }
+    requires { ⌜ (headerSize ≤ length (now frame)) × (11 ≤ length (now out)) ⌝ }
     ensures { λ _. ⌜ now (out .exit) ≡ over (confirmBytes (now (frame .entry)) «dpa_value» hops slot «response_hops») (now (out .entry)) ⌝ }
 {
     bytes::copy(&frame[0..Frame::HEADER], out);

@@ -54,13 +54,13 @@ pub fn slot_of(pdata_length: usize, network: Network) -> u8
 }
 
 // The milliseconds of a way: one slot more than it has hops.
-pub fn way(hops: u8, slot: u8) -> u32
+fn way(hops: u8, slot: u8) -> u32
     ensures { λ r. ⌜ (r ≡ wayOf hops slot) × (r ≤ 652800) ⌝ }
 {
     (hops as u32 + 1) * (slot as u32) * 10
 }
 
-// A slot as a master is told it, for a PData length that a frame can have.
+// The slot of a PData length; one that no frame can have is refused.
 pub fn timeslot(pdata_length: usize, network: Network) -> SlotAnswer
     ensures { λ r. ⌜ r ≡ timeslotOf «pdata_length» network ⌝ }
 {

@@ -4,7 +4,8 @@ use lib.ListN.{length}
 use native.Mathlib.Omega.{arith}
 use borrow.Author.Tests.{not-true, not-false}
 use Rattle.dpa.specs.Frame.{frameFits}
-use Rattle.timing.proofs.Confirmations.{frame-min, no-frame, no-room, answered}
+use Rattle.dpa.proofs.Headers.{fits-sizes}
+use Rattle.timing.proofs.Confirmations.{no-frame, no-room, answered}
 use borrow.Author.Needs.{needs}
 use Rattle.timing.proofs.confirm.confirm.Statement.{statement}
 use Rattle.timing.proofs.confirm.confirm.Tie as tie
@@ -36,7 +37,7 @@ returns-2 c =
 
 -- src/confirm.rt:77:24
 sub-slot-of : tie.Need-sub-slot-of
-sub-slot-of c = omega (arith, frame-min _ (fits (c .before)))
+sub-slot-of c = omega (arith, fits-sizes _ (fits (c .before)))
 
 -- src/confirm.rt:77:9
 slot-of-requires : tie.Need-slot-of-requires
@@ -44,7 +45,7 @@ slot-of-requires c κs = search needs
 
 -- src/confirm.rt:78:5
 write-confirmation-requires : tie.Need-write-confirmation-requires
-write-confirmation-requires c κs = (frame-min _ (fits (c .before .before .before)), omega arith)
+write-confirmation-requires c κs = (fits-sizes _ (fits (c .before .before .before)) .0, omega arith)
 
 -- src/confirm.rt:55:1
 same-length : tie.Need-same-length
