@@ -7,7 +7,7 @@ use native.Mathlib.Omega.{arith}
 use lib.Dec.{eqb, leb, ltb}
 use lib.ListN.{length, take, drop, getD, set}
 use borrow.Author.Tests.{lt-ltb, le-ltb, lt-leb, eq-eqb, ne-eqb, ltb-false, eqb-false}
-use Rattle.dpa.specs.Served.{Served, served, refused, laid, layOut}
+use Rattle.dpa.specs.Served.{Served, refused, laid, layOut}
 use Rattle.dpa.proofs.Bool.{by-cond, first-taken, second-taken}
 use Rattle.dpa.proofs.Lists.{set-first}
 use Rattle.checksum.specs.declared.sums.Sums.{Sums}

@@ -4,7 +4,7 @@ use mathlib.Core.List.{List, [], _∷_, _++_}
 use mathlib.Core.Bool.{true, false}
 use Prim.Native.Nat.{ℕ}
 use lib.ListN.{replicate}
-use Rattle.dpa.specs.Served.{served, refused}
+use Rattle.dpa.specs.Served.{served}
 use Rattle.checksum.specs.Sums.{around, addByte, sums, start, checksum}
 use Rattle.checksum.specs.Check.{unitOf, firstOf, imageError, imageMatches, codeCheck}
 

@@ -1,14 +1,13 @@
 -- Laws of the two sums.
 use mathlib.Core.Path.{_≡_, refl, sym, ap, _∙_}
 use mathlib.Core.List.{List, [], _∷_, _++_}
-use Prim.Native.Nat.{ℕ, suc, _+_, _-_, _%_, _^_, _≤_, _<_}
+use Prim.Native.Nat.{ℕ, _+_, _-_, _%_, _^_, _≤_, _<_}
 use native.Mathlib.Numerals.{add-one}
 use native.Mathlib.Omega.{arith}
 use lib.Dec.{ltb}
 use lib.ListN.{length, take, drop, getD, take-append-drop, drop-of-length-le}
 use lib.Seq.{drop-cons, drop-drop}
 use borrow.Author.Tests.{lt-ltb, le-ltb, ltb-true, ltb-false}
-use Rattle.dpa.specs.Lists.{Bytes}
 use Rattle.dpa.proofs.Bool.{by-cond}
 use Rattle.checksum.specs.declared.sums.Sums.{Sums}
 use Rattle.checksum.specs.Sums.{around, addByte, sums}
@@ -52,14 +51,6 @@ sums-done block s i h = rw (drop-of-length-le block {i = i} h)
 pub around-byte : (a b : ℕ) → a < 256 → b < 256 → around a b < 256
 unfolding around
 around-byte a b ha hb = by-cond (λ (n : ℕ). n < 256) (ltb 255 (a + b)) _ _ (λ q. omega arith) (λ q. let k : a + b ≤ 255 = ltb-false 255 (a + b) q in omega arith)
-
--- and so is each of the sums
-pub sums-bytes : (s : Sums) (bs : List ℕ) → s .low < 256 → s .high < 256 → Bytes bs → (sums s bs .low < 256) × (sums s bs .high < 256)
-unfolding sums addByte
-sums-bytes s [] l h f = (l, h)
-sums-bytes s (b ∷ bs) l h f =
-    let k : around (s .low) b < 256 = around-byte (s .low) b l (f 0) in
-    sums-bytes (addByte s b) bs k (around-byte (s .high) (around (s .low) b) h k) (λ i. f (suc i))
 
 -- a byte sum has the remainder by 255 of the plain sum, but it is 0 only where both terms are
 pub around-remainder : (a b : ℕ) → a < 256 → b < 256 → around a b % 255 ≡ (a + b) % 255

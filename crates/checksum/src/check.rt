@@ -5,6 +5,7 @@ use dpa::number::word_of;
 ghost use mathlib.Core.Path.{_≡_};
 ghost use Prim.Native.Nat.{_≤_};
 ghost use lib.ListN.{length};
+ghost use Rattle.dpa.specs.Frame.{pdataMax};
 ghost use Rattle.dpa.specs.Served.{laid, layOut};
 ghost use Rattle.checksum.specs.Check.{unitOf, firstOf, imageOf, imageError, imageMatches, codeCheck};
 
@@ -96,7 +97,7 @@ fn image_matches(external: &[u8], image: Image) -> bool
 
 // The request. Its answer is one byte at the front of out; an error writes nothing.
 pub fn code_check(external: &[u8], pdata: &[u8], out: &mut [u8]) -> Checked
-    requires { ⌜ (length (now external) ≡ 16384) × (56 ≤ length (now out)) ⌝ }
+    requires { ⌜ (length (now external) ≡ 16384) × (pdataMax ≤ length (now out)) ⌝ }
     ensures { λ r. ⌜ laid (r .load) (r .error) (r .length) (now (out .exit))
         ≡ layOut (codeCheck (now (external .entry)) (now (pdata .entry))) (now (out .entry)) ⌝ }
 {
