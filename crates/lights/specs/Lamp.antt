@@ -11,7 +11,7 @@ use Rattle.lights.specs.declared.lamp.Lamp.{Lamp}
 abbrev pub lamp : ℕ → ℕ → Lamp
 lamp v s = record { level = v; seconds = s }
 
--- a lamp with another level and other seconds; whatever else it holds stays
+-- a lamp with another level and other seconds; a lamp holds nothing else
 abbrev pub changed : Lamp → ℕ → ℕ → Lamp
 changed l v s = lamp v s
 

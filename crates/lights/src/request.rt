@@ -13,6 +13,7 @@ ghost use mathlib.Core.Path.{_≡_};
 ghost use mathlib.Core.Bool.{true};
 ghost use Prim.Native.Nat.{_≤_};
 ghost use lib.ListN.{length};
+ghost use Rattle.dpa.specs.Frame.{pdataMax};
 ghost use Rattle.dpa.specs.Served.{laid, layOut};
 ghost use Rattle.dpa.specs.Settings.{settingsOk};
 ghost use Rattle.lights.specs.Bits.{bits, count, maskOf};
@@ -115,7 +116,7 @@ pub fn request(
     pdata: &[u8],
     out: &mut [u8],
 ) -> LightsReply
-    requires { ⌜ (settingsOk settings ≡ true) × Dimmed lamps × (56 ≤ length (now out)) ⌝ }
+    requires { ⌜ (settingsOk settings ≡ true) × Dimmed lamps × (pdataMax ≤ length (now out)) ⌝ }
     ensures { λ r. ⌜ laid (r .lamps) (r .error) (r .length) (now (out .exit)) ≡ layOut (lightsRequest settings pcmd (now (pdata .entry)) lamps) (now (out .entry)) ⌝ }
 {
     match pcmd {

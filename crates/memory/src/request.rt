@@ -14,6 +14,7 @@ ghost use mathlib.Core.Path.{_≡_};
 ghost use mathlib.Core.List.{List};
 ghost use Prim.Native.Nat.{ℕ, _≤_};
 ghost use lib.ListN.{length};
+ghost use Rattle.dpa.specs.Frame.{pdataMax};
 ghost use Rattle.dpa.specs.Served.{laid, layOut};
 ghost use Rattle.memory.specs.Block.{sizeOf};
 ghost use Rattle.memory.specs.Request.{blockError, addressOf, readError, writeError, readRequest, writeRequest, memoryRequest};
@@ -63,7 +64,7 @@ fn write_error(memory: Memory, pdata: &[u8]) -> u8
 
 // A read. The bytes of the block go to the front of out.
 fn read(memory: Memory, mem: &[u8], pdata: &[u8], out: &mut [u8]) -> Reply
-    requires { ⌜ (length (now mem) ≡ sizeOf memory) × (56 ≤ length (now out)) ⌝ }
+    requires { ⌜ (length (now mem) ≡ sizeOf memory) × (pdataMax ≤ length (now out)) ⌝ }
     ensures { λ r. ⌜ laid (now (mem .entry)) (r .error) (r .length) (now (out .exit))
         ≡ layOut (readRequest memory (now (pdata .entry)) (now (mem .entry))) (now (out .entry)) ⌝ }
 {
@@ -99,7 +100,7 @@ fn write(memory: Memory, mem: &mut [u8], pdata: &[u8]) -> u8
 
 // A request on a memory. The answer's data goes to the front of out; an error writes nothing.
 pub fn request(memory: Memory, mem: &mut [u8], pcmd: u8, pdata: &[u8], out: &mut [u8]) -> Reply
-    requires { ⌜ (length (now mem) ≡ sizeOf memory) × (56 ≤ length (now out)) ⌝ }
+    requires { ⌜ (length (now mem) ≡ sizeOf memory) × (pdataMax ≤ length (now out)) ⌝ }
     ensures { λ r. ⌜ laid (now (mem .exit)) (r .error) (r .length) (now (out .exit))
         ≡ layOut (memoryRequest memory pcmd (now (pdata .entry)) (now (mem .entry))) (now (out .entry)) ⌝ }
 {
