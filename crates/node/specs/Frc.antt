@@ -19,12 +19,12 @@ lampAsked user = getD user 1 0 % 32
 
 -- commands 10 and 11 hex
 unfoldable pub isCommand : ℕ → Bool
-isCommand command = eqb command 16 || eqb command 17
+isCommand command = eqb command 0x10 || eqb command 0x11
 
 -- such a command, at least two bytes of user data, the first 71 hex, and a lamp below the count
 unfoldable pub asksLamp : ℕ → ℕ → List ℕ → Bool
 asksLamp count command user =
-    isCommand command && leb 2 (length user) && eqb (getD user 0 0) 113 && ltb (lampAsked user) count
+    isCommand command && leb 2 (length user) && eqb (getD user 0 0) 0x71 && ltb (lampAsked user) count
 
 -- a lamp's actual level is not 0, or its stuck bit is set
 unfoldable pub isOn : Node → ℕ → ℕ → Bool
@@ -34,7 +34,7 @@ isOn n k stuck = not (eqb (actualLevel (n .settings) (getD (n .lamps) k off .lev
 unfoldable pub frcValue : Node → ℕ → List ℕ → ℕ → ℕ → ℕ
 frcValue n command user stuck alarm =
     cond (asksLamp (n .settings .«lamp_count») command user)
-    (cond (cond (eqb command 16) (isOn n (lampAsked user) stuck) (bitSet alarm (lampAsked user))) 3 2)
+    (cond (cond (eqb command 0x10) (isOn n (lampAsked user) stuck) (bitSet alarm (lampAsked user))) 3 2)
     1
 
 abbrev pub frcAnswer : ℕ → ℕ → FrcAnswer

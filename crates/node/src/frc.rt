@@ -18,7 +18,7 @@ pub const ON: u8 = 0x10;
 pub const ALARM: u8 = 0x11;
 
 // The answers: not asked of this node, no, yes.
-const NONE: u8 = 1;
+const NOT_ASKED: u8 = 1;
 
 const NO: u8 = 2;
 
@@ -95,7 +95,7 @@ pub fn frc(node: Node, command: u8, user_data: &[u8], stuck: u32, alarm: u32) ->
     if !asks_lamp(node.settings.lamp_count, command, user_data) {
         return FrcAnswer {
             refusal: refusal::NONE,
-            value: NONE,
+            value: NOT_ASKED,
         };
     }
     let at = user_data[1] % 32;
