@@ -12,54 +12,43 @@ use Rattle.checksum.proofs.check.image_error.Reads as image-error-reads
 use Rattle.checksum.proofs.check.image_matches.Reads as image-matches-reads
 use Rattle.checksum.proofs.check.read_image.Reads as read-image-reads
 
--- src/check.rt:96:9
 returns : tie.Need-returns
 returns c =
     let a = c .before .before .before .before .args in
     rw (check-short (a .external .now) (a .pdata .now) (c .if1 .taken))
 
--- src/check.rt:102:9
 read-image-requires : tie.Need-read-image-requires
 read-image-requires c κs = search needs
 
--- src/check.rt:103:9
 image-error-requires : tie.Need-image-error-requires
 image-error-requires c κs = search needs
 
--- src/check.rt:105:9
 returns-2 : tie.Need-returns-2
 returns-2 c =
     let a = c .before .before .before .before .before .before .before .args in
     rw (check-refused (a .external .now) (a .pdata .now) (c .before .image-error .result) (c .before .before .before .if1 .left) (c .before .image-error .ensures ∙ ap imageError (c .before .before .read-image .ensures)) (c .if2 .taken))
 
--- src/check.rt:111:8
 image-matches-requires : tie.Need-image-matches-requires
 image-matches-requires c κs = search needs
 
--- src/check.rt:112:9
 slice-write-out : tie.Need-slice-write-out
 slice-write-out c = search needs
 
--- src/check.rt:113:9
 same-length : tie.Need-same-length
 same-length c = search needs
 
--- src/check.rt:113:9
 returns-3 : tie.Need-returns-3
 returns-3 c =
     let a = c .before .before .before .before .before .before .before .before .before .before .args in
     check-match (a .external .now) (a .pdata .now) (a .out .now) (c .before .before .before .before .before .read-image .result) (c .before .before .before .before .before .before .if1 .left) (omega arith) (c .before .before .before .before .before .read-image .ensures)
     (sym (c .before .before .before .before .image-error .ensures) ∙ c .before .before .before .if2 .left) (sym (c .before .before .image-matches .ensures) ∙ c .before .if3 .taken)
 
--- src/check.rt:119:5
 slice-write-out-2 : tie.Need-slice-write-out-2
 slice-write-out-2 c = search needs
 
--- src/check.rt:90:1
 same-length-2 : tie.Need-same-length-2
 same-length-2 c = search needs
 
--- src/check.rt:90:1
 returns-4 : tie.Need-returns-4
 returns-4 c =
     let a = c .before .before .before .before .before .before .before .before .before .args in

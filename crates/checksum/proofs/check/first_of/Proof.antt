@@ -6,12 +6,10 @@ use Rattle.checksum.proofs.check.first_of.Tie as tie
 use Rattle.checksum.proofs.check.first_of.Reads as reads
 use Rattle.checksum.proofs.check.first_of.Lts as lts
 
--- src/check.rt:43:9
 returns : tie.Need-returns
 unfolding firstOf
 returns c = simp (eq-eqb _ _ (c .if1 .taken))
 
--- src/check.rt:39:1
 returns-2 : tie.Need-returns-2
 unfolding firstOf
 returns-2 c = simp (ne-eqb _ _ (c .if1 .left))

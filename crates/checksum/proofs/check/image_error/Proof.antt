@@ -10,44 +10,34 @@ use Rattle.checksum.proofs.check.image_error.Lts as lts
 use Rattle.checksum.proofs.check.unit_of.Reads as unit-of-reads
 use Rattle.dpa.proofs.number.wide_word.Reads as wide-word-reads
 
--- src/check.rt:64:9
 returns : tie.Need-returns
 unfolding imageError
 returns c = simp (le-leb _ _ (c .if1 .taken))
 
--- src/check.rt:66:9
 wide-word-requires : tie.Need-wide-word-requires
 wide-word-requires c κs = search needs
 
--- src/check.rt:68:9
 returns-2 : tie.Need-returns-2
 returns-2 c = no-bytes (c .before .before .before .before .args .image) (c .before .before .if1 .left) _ (c .before .wide-word .ensures .0) (c .if2 .taken)
 
--- src/check.rt:70:16
 unit-of-requires : tie.Need-unit-of-requires
 unit-of-requires c κs = search needs
 
--- src/check.rt:70:8
 rem-if3 : tie.Need-rem-if3
 rem-if3 c = search needs
 
--- src/check.rt:71:9
 returns-3 : tie.Need-returns-3
 returns-3 c = no-multiple (c .before .before .before .before .before .before .args .image) (c .before .before .before .before .if1 .left) _ (c .before .before .before .wide-word .ensures .0) (c .before .before .if2 .left) _ (c .before .unit-of .ensures .0) (c .if3 .taken)
 
--- src/check.rt:73:19
 wide-word-requires-2 : tie.Need-wide-word-requires-2
 wide-word-requires-2 c κs = search needs
 
--- src/check.rt:73:19
 add-if4 : tie.Need-add-if4
 add-if4 c = search needs
 
--- src/check.rt:74:9
 returns-4 : tie.Need-returns-4
 returns-4 c = past-end (c .before .before .before .before .before .before .before .before .args .image) (c .before .before .before .before .before .before .if1 .left) _ (c .before .before .before .before .before .wide-word .ensures .0) (c .before .before .before .before .if2 .left) _ (c .before .before .before .unit-of .ensures .0) (c .before .before .if3 .left) _ (c .before .wide-word2 .ensures .0) (c .if4 .taken)
 
--- src/check.rt:60:1
 returns-5 : tie.Need-returns-5
 returns-5 c = in-memory (c .before .before .before .before .before .before .before .before .args .image) (c .before .before .before .before .before .before .if1 .left) _ (c .before .before .before .before .before .wide-word .ensures .0) (c .before .before .before .before .if2 .left) _ (c .before .before .before .unit-of .ensures .0) (c .before .before .if3 .left) _ (c .before .wide-word2 .ensures .0) (c .if4 .left)
 

@@ -11,47 +11,36 @@ use Rattle.checksum.proofs.sums.image_sums.Reads as image-sums-reads
 use Rattle.dpa.proofs.number.wide_word.Reads as wide-word-reads
 use Rattle.dpa.proofs.number.word_of.Reads as word-of-reads
 
--- src/check.rt:83:9
 wide-word-requires : tie.Need-wide-word-requires
 wide-word-requires c κs = search needs
 
--- src/check.rt:84:25
 wide-word-requires-2 : tie.Need-wide-word-requires-2
 wide-word-requires-2 c κs = search needs
 
--- src/check.rt:84:15
 add-end : tie.Need-add-end
 add-end c = search needs
 
--- src/check.rt:85:24
 sub-image-sums : tie.Need-sub-image-sums
 sub-image-sums c = search needs
 
--- src/check.rt:85:24
 part-image-sums-start : tie.Need-part-image-sums-start
 part-image-sums-start c = search needs
 
--- src/check.rt:85:24
 part-image-sums-end : tie.Need-part-image-sums-end
 part-image-sums-end c = omega (arith, image-fits _ (c .before .before .before .pre .1), c .before .before .before .pre .0, c .before .wide-word .ensures .0, c .wide-word2 .ensures .0)
 
--- src/check.rt:85:49
 first-of-requires : tie.Need-first-of-requires
 first-of-requires c κs = search needs
 
--- src/check.rt:85:72
 unit-of-requires : tie.Need-unit-of-requires
 unit-of-requires c κs = search needs
 
--- src/check.rt:85:9
 image-sums-requires : tie.Need-image-sums-requires
 image-sums-requires c κs = search needs
 
--- src/check.rt:86:5
 word-of-requires : tie.Need-word-of-requires
 word-of-requires c κs = search needs
 
--- src/check.rt:79:1
 returns : tie.Need-returns
 returns c =
     let a = c .before .before .before .before .before .before .before .before .before .args in

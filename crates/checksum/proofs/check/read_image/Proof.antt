@@ -5,47 +5,36 @@ use Rattle.checksum.proofs.check.read_image.Reads as reads
 use Rattle.checksum.proofs.check.read_image.Lts as lts
 use Rattle.dpa.proofs.number.word_of.Reads as word-of-reads
 
--- src/check.rt:53:16
 shared-slice-read-t3 : tie.Need-shared-slice-read-t3
 shared-slice-read-t3 c = search needs
 
--- src/check.rt:54:26
 shared-slice-read-word-of : tie.Need-shared-slice-read-word-of
 shared-slice-read-word-of c = search needs
 
--- src/check.rt:54:36
 shared-slice-read-word-of-2 : tie.Need-shared-slice-read-word-of-2
 shared-slice-read-word-of-2 c = search needs
 
--- src/check.rt:54:18
 word-of-requires : tie.Need-word-of-requires
 word-of-requires c κs = search needs
 
--- src/check.rt:55:25
 shared-slice-read-word-of-3 : tie.Need-shared-slice-read-word-of-3
 shared-slice-read-word-of-3 c = search needs
 
--- src/check.rt:55:35
 shared-slice-read-word-of-4 : tie.Need-shared-slice-read-word-of-4
 shared-slice-read-word-of-4 c = search needs
 
--- src/check.rt:55:17
 word-of-requires-2 : tie.Need-word-of-requires-2
 word-of-requires-2 c κs = search needs
 
--- src/check.rt:56:22
 shared-slice-read-word-of-5 : tie.Need-shared-slice-read-word-of-5
 shared-slice-read-word-of-5 c = search needs
 
--- src/check.rt:56:32
 shared-slice-read-word-of-6 : tie.Need-shared-slice-read-word-of-6
 shared-slice-read-word-of-6 c = search needs
 
--- src/check.rt:56:14
 word-of-requires-3 : tie.Need-word-of-requires-3
 word-of-requires-3 c κs = search needs
 
--- src/check.rt:48:1
 returns : tie.Need-returns
 returns c = cc
 

@@ -7,12 +7,10 @@ use Rattle.checksum.proofs.check.unit_of.Tie as tie
 use Rattle.checksum.proofs.check.unit_of.Reads as reads
 use Rattle.checksum.proofs.check.unit_of.Lts as lts
 
--- src/check.rt:33:9
 returns : tie.Need-returns
 unfolding unitOf
 returns c = (simp (eq-eqb _ _ (c .if1 .taken)), omega arith)
 
--- src/check.rt:29:1
 returns-2 : tie.Need-returns-2
 unfolding unitOf
 returns-2 c = (simp (ne-eqb _ _ (c .if1 .left)), omega arith)

@@ -8,22 +8,18 @@ use Rattle.checksum.proofs.sums.around.Reads as reads
 use Rattle.checksum.proofs.sums.around.Lts as lts
 use Rattle.std.proofs.num.wrapping_add_u8.Reads as wrapping-add-u8-reads
 
--- src/sums.rt:16:9
 wrapping-add-u8-requires : tie.Need-wrapping-add-u8-requires
 wrapping-add-u8-requires c κs = search needs
 
--- src/sums.rt:18:9
 wrapping-add-u8-requires-2 : tie.Need-wrapping-add-u8-requires-2
 wrapping-add-u8-requires-2 c κs = search needs
 
--- src/sums.rt:18:9
 returns : tie.Need-returns
 returns c =
     let k = c .before .before in
     c .wrapping-add-u82 .ensures
     ∙ carried (k .before .args .a) (k .before .args .b) (k .wrapping-add-u8 .result) (omega arith) (omega arith) (k .wrapping-add-u8 .ensures) (c .before .if1 .taken)
 
--- src/sums.rt:13:1
 returns-2 : tie.Need-returns-2
 returns-2 c =
     let k = c .before in

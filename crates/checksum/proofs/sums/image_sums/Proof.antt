@@ -19,49 +19,38 @@ Inv-loop image first unit s₀ at₀ s at = (at ≤ length image) × (sums s (dr
 abbrev μ-loop : tie.MeasureT-loop
 μ-loop image first unit s₀ at₀ s at = length image - at
 
--- src/sums.rt:68:9
 start-requires : tie.Need-start-requires Inv-loop μ-loop
 start-requires c κs = tt
 
--- src/sums.rt:70:5
 loop-holds : tie.Need-loop-holds Inv-loop μ-loop
 loop-holds c = (omega arith, rw (c .start .ensures))
 
--- src/sums.rt:71:36
 sub-least : tie.Need-sub-least Inv-loop μ-loop
 sub-least c = omega arith
 
--- src/sums.rt:71:24
 least-requires : tie.Need-least-requires Inv-loop μ-loop
 least-requires c κs = tt
 
--- src/sums.rt:71:19
 add-end : tie.Need-add-end Inv-loop μ-loop
 add-end c = omega arith
 
--- src/sums.rt:72:25
 sub-add-block : tie.Need-sub-add-block Inv-loop μ-loop
 sub-add-block c = omega arith
 
--- src/sums.rt:72:25
 part-add-block-start : tie.Need-part-add-block-start Inv-loop μ-loop
 part-add-block-start c = omega arith
 
--- src/sums.rt:72:25
 part-add-block-end : tie.Need-part-add-block-end Inv-loop μ-loop
 part-add-block-end c = omega arith
 
--- src/sums.rt:72:9
 add-block-requires : tie.Need-add-block-requires Inv-loop μ-loop
 add-block-requires c κs = tt
 
--- src/sums.rt:70:5
 loop-less : tie.Need-loop-less Inv-loop μ-loop
 loop-less c =
     let k : 1 ≤ c .before .before .least .result = c .before .before .least .ensures .2 (c .before .before .before .before .before .before .before .pre) (omega arith) in
     omega (arith, c .before .before .least .ensures .1)
 
--- src/sums.rt:70:5
 loop-again : tie.Need-loop-again Inv-loop μ-loop
 loop-again c =
     let l = c .before .before .before .before in
@@ -71,7 +60,6 @@ loop-again c =
       sym (block-more (a .image .now) (l .loop .s) (c .add-block .result) (l .loop .at) end (omega arith) (c .add-block .ensures)) ∙ l .loop .inv .1,
     )
 
--- src/sums.rt:64:1
 returns : tie.Need-returns Inv-loop μ-loop
 returns c =
     let l = c .before in

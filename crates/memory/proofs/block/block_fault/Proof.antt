@@ -9,34 +9,27 @@ use Rattle.memory.proofs.block.block_fault.Lts as lts
 use Rattle.memory.proofs.block.longest_of.Reads as longest-of-reads
 use Rattle.memory.proofs.block.size_of.Reads as size-of-reads
 
--- src/block.rt:72:9
 size-of-requires : tie.Need-size-of-requires
 size-of-requires c κs = search needs
 
--- src/block.rt:73:9
 longest-of-requires : tie.Need-longest-of-requires
 longest-of-requires c κs = search needs
 
--- src/block.rt:75:9
 returns : tie.Need-returns
 unfolding blockFault
 returns c = simp (← c .before .longest-of .ensures .0, lt-ltb _ _ (c .if1 .taken))
 
--- src/block.rt:78:9
 returns-2 : tie.Need-returns-2
 unfolding blockFault
 returns-2 c = simp (← c .before .before .longest-of .ensures .0, ← c .before .before .before .size-of .ensures .0, le-ltb _ _ (c .before .if1 .left), le-leb _ _ (c .if2 .taken))
 
--- src/block.rt:80:8
 add-if3 : tie.Need-add-if3
 add-if3 c = omega arith
 
--- src/block.rt:81:9
 returns-3 : tie.Need-returns-3
 unfolding blockFault
 returns-3 c = simp (← c .before .before .before .longest-of .ensures .0, ← c .before .before .before .before .size-of .ensures .0, le-ltb _ _ (c .before .before .if1 .left), lt-leb _ _ (c .before .if2 .left), le-ltb _ _ (c .if3 .taken))
 
--- src/block.rt:69:1
 returns-4 : tie.Need-returns-4
 unfolding blockFault
 returns-4 c = simp (← c .before .before .before .longest-of .ensures .0, ← c .before .before .before .before .size-of .ensures .0, le-ltb _ _ (c .before .before .if1 .left), lt-leb _ _ (c .before .if2 .left), lt-ltb _ _ (c .if3 .left))

@@ -6,27 +6,21 @@ use Rattle.memory.proofs.block.copy_in.Reads as reads
 use Rattle.memory.proofs.block.copy_in.Lts as lts
 use Rattle.bytes.proofs.copy.Reads as copy-reads
 
--- src/block.rt:105:22
 sub-copy : tie.Need-sub-copy
 sub-copy c = search needs
 
--- src/block.rt:105:22
 part-copy-start : tie.Need-part-copy-start
 part-copy-start c = search needs
 
--- src/block.rt:105:22
 part-copy-end : tie.Need-part-copy-end
 part-copy-end c = search needs
 
--- src/block.rt:105:5
 copy-requires : tie.Need-copy-requires
 copy-requires c κs = search needs
 
--- src/block.rt:101:1
 same-length : tie.Need-same-length
 same-length c = search needs
 
--- src/block.rt:101:1
 returns : tie.Need-returns
 returns c =
     let a = c .before .before .before .before .before .before .args in

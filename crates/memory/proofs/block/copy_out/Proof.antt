@@ -7,31 +7,24 @@ use Rattle.memory.proofs.block.copy_out.Reads as reads
 use Rattle.memory.proofs.block.copy_out.Lts as lts
 use Rattle.bytes.proofs.copy.Reads as copy-reads
 
--- src/block.rt:96:15
 add-end : tie.Need-add-end
 add-end c = search needs
 
--- src/block.rt:97:17
 sub-copy : tie.Need-sub-copy
 sub-copy c = search needs
 
--- src/block.rt:97:17
 part-copy-start : tie.Need-part-copy-start
 part-copy-start c = search needs
 
--- src/block.rt:97:17
 part-copy-end : tie.Need-part-copy-end
 part-copy-end c = search needs
 
--- src/block.rt:97:5
 copy-requires : tie.Need-copy-requires
 copy-requires c κs = search needs
 
--- src/block.rt:92:1
 same-length : tie.Need-same-length
 same-length c = search needs
 
--- src/block.rt:92:1
 returns : tie.Need-returns
 returns c = c .before .before .copy .ensures .1 ∙ copied-out _ _ _ _ (c .before .before .before .before .before .before .before .pre .0)
 

@@ -10,36 +10,28 @@ use Rattle.dpa.proofs.number.wide.Reads as wide-reads
 use Rattle.dpa.proofs.number.wide_word.Reads as wide-word-reads
 use Rattle.dpa.proofs.number.word_of.Reads as word-of-reads
 
--- src/request.rt:20:21
 shared-slice-read-wide : tie.Need-shared-slice-read-wide
 shared-slice-read-wide c = search needs
 
--- src/request.rt:20:9
 wide-requires : tie.Need-wide-requires
 wide-requires c κs = search needs
 
--- src/request.rt:20:9
 returns : tie.Need-returns
 unfolding addressOf
 returns c = c .wide .ensures .0 ∙ simp (eq-eqb _ _ (c .before .before .if1 .taken))
 
--- src/request.rt:22:23
 shared-slice-read-word-of : tie.Need-shared-slice-read-word-of
 shared-slice-read-word-of c = search needs
 
--- src/request.rt:22:33
 shared-slice-read-word-of-2 : tie.Need-shared-slice-read-word-of-2
 shared-slice-read-word-of-2 c = search needs
 
--- src/request.rt:22:15
 word-of-requires : tie.Need-word-of-requires
 word-of-requires c κs = search needs
 
--- src/request.rt:22:5
 wide-word-requires : tie.Need-wide-word-requires
 wide-word-requires c κs = search needs
 
--- src/request.rt:15:1
 returns-2 : tie.Need-returns-2
 unfolding addressOf
 returns-2 c = c .wide-word .ensures .0 ∙ c .before .word-of .ensures ∙ simp (ne-eqb _ _ (c .before .before .before .before .if1 .left))

@@ -17,44 +17,35 @@ use Rattle.memory.proofs.request.read_error.Reads as read-error-reads
 zero : (c : tie.Else1) → let a = c .before .before .before .before .before .args in readError (a .memory) (a .pdata .now) ≡ 0
 zero c = sym (c .before .read-error .ensures) ∙ c .if1 .left
 
--- src/request.rt:67:9
 read-error-requires : tie.Need-read-error-requires
 read-error-requires c κs = search needs
 
--- src/request.rt:69:9
 returns : tie.Need-returns
 returns c =
     let a = c .before .before .before .before .before .args in
     read-refused (a .memory) (a .pdata .now) (a .mem .now) (a .out .now) _ (c .before .read-error .ensures) (c .if1 .taken)
 
--- src/request.rt:71:9
 address-bytes-requires : tie.Need-address-bytes-requires
 address-bytes-requires c κs = search needs
 
--- src/request.rt:72:9
 address-requires : tie.Need-address-requires
 address-requires c κs = omega (arith, read-fits _ _ (zero (c .before)) .0)
 
--- src/request.rt:73:22
 shared-slice-read-wide : tie.Need-shared-slice-read-wide
 shared-slice-read-wide c = omega (arith, read-fits _ _ (zero (c .before .before .before)) .0, c .before .before .address-bytes .ensures .0)
 
--- src/request.rt:73:9
 wide-requires : tie.Need-wide-requires
 wide-requires c κs = search needs
 
--- src/request.rt:74:5
 copy-out-requires : tie.Need-copy-out-requires
 copy-out-requires c κs =
     let a = c .before .before .before .before .before .before .before .before .before .before .args in
     let k = read-place (a .memory) (a .pdata .now) (a .mem .now) _ _ _ (c .before .before .before .before .before .before .before .before .before .before .pre .0) (zero (c .before .before .before .before .before)) (c .before .before .before .before .address-bytes .ensures .0) (c .before .before .before .address .ensures) (c .before .wide .ensures .0) in
     (k .0, omega (arith, k .1))
 
--- src/request.rt:62:1
 same-length : tie.Need-same-length
 same-length c = search needs
 
--- src/request.rt:62:1
 returns-2 : tie.Need-returns-2
 returns-2 c =
     let a = c .before .before .before .before .before .before .before .before .before .before .before .before .before .args in

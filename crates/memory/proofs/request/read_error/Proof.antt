@@ -11,36 +11,28 @@ use Rattle.memory.proofs.block.address_bytes.Reads as address-bytes-rea
 use Rattle.memory.proofs.request.address.Reads as address-reads
 use Rattle.memory.proofs.request.block_error.Reads as block-error-reads
 
--- src/request.rt:42:9
 address-bytes-requires : tie.Need-address-bytes-requires
 address-bytes-requires c κs = search needs
 
--- src/request.rt:43:23
 add-if1 : tie.Need-add-if1
 add-if1 c = search needs
 
--- src/request.rt:44:9
 returns : tie.Need-returns
 unfolding readError
 returns c = simp (← c .before .address-bytes .ensures .0, ne-eqb _ _ (c .if1 .taken))
 
--- src/request.rt:46:22
 shared-slice-read-wide : tie.Need-shared-slice-read-wide
 shared-slice-read-wide c = search needs
 
--- src/request.rt:46:9
 wide-requires : tie.Need-wide-requires
 wide-requires c κs = search needs
 
--- src/request.rt:47:9
 address-requires : tie.Need-address-requires
 address-requires c κs = search needs
 
--- src/request.rt:48:5
 block-error-requires : tie.Need-block-error-requires
 block-error-requires c κs = search needs
 
--- src/request.rt:39:1
 returns-2 : tie.Need-returns-2
 returns-2 c =
     let a = c .before .before .before .before .before .before .before .args in

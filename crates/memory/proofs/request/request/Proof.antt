@@ -11,45 +11,35 @@ use Rattle.memory.proofs.block.write_command.Reads as write-command-rea
 use Rattle.memory.proofs.request.read.Reads as read-reads
 use Rattle.memory.proofs.request.write.Reads as write-reads
 
--- src/request.rt:103:16
 read-command-requires : tie.Need-read-command-requires
 read-command-requires c κs = search needs
 
--- src/request.rt:104:9
 read-requires : tie.Need-read-requires
 read-requires c κs = search needs
 
--- src/request.rt:104:9
 same-length : tie.Need-same-length
 same-length c = search needs
 
--- src/request.rt:104:9
 same-length-2 : tie.Need-same-length-2
 same-length-2 c = search needs
 
--- src/request.rt:104:9
 returns : tie.Need-returns
 unfolding memoryRequest
 returns c = simp (eq-eqb _ _ (c .before .before .before .before .before .if1 .taken ∙ c .before .before .before .before .before .before .read-command .ensures)) (c .before .before .read .ensures)
 
--- src/request.rt:106:16
 write-command-requires : tie.Need-write-command-requires
 write-command-requires c κs = search needs
 
--- src/request.rt:107:13
 write-requires : tie.Need-write-requires
 write-requires c κs = search needs
 
--- src/request.rt:108:9
 same-length-3 : tie.Need-same-length-3
 same-length-3 c = search needs
 
--- src/request.rt:108:9
 returns-2 : tie.Need-returns-2
 unfolding memoryRequest
 returns-2 c = simp (ne-eqb _ _ (λ q. c .before .before .before .before .before .before .if1 .left (q ∙ sym (c .before .before .before .before .before .before .before .read-command .ensures))), eq-eqb _ _ (c .before .before .before .before .if2 .taken ∙ c .before .before .before .before .before .write-command .ensures)) (c .before .before .write .ensures (c .before .before .before .before .before .before .before .before .before .before .before .args .out .now))
 
--- src/request.rt:98:1
 returns-3 : tie.Need-returns-3
 unfolding memoryRequest
 returns-3 c = simp (ne-eqb _ _ (λ q. c .before .before .if1 .left (q ∙ sym (c .before .before .before .read-command .ensures))), ne-eqb _ _ (λ q. c .if2 .left (q ∙ sym (c .before .write-command .ensures))))

@@ -17,48 +17,38 @@ use Rattle.memory.proofs.request.write_error.Reads as write-error-reads
 zero : (c : tie.Else1) → let a = c .before .before .before .before .args in writeError (a .memory) (a .pdata .now) ≡ 0
 zero c = sym (c .before .write-error .ensures) ∙ c .if1 .left
 
--- src/request.rt:87:9
 write-error-requires : tie.Need-write-error-requires
 write-error-requires c κs = search needs
 
--- src/request.rt:89:9
 returns : tie.Need-returns
 returns c =
     let a = c .before .before .before .before .args in
     λ o. write-refused (a .memory) (a .pdata .now) (a .mem .now) o _ (c .before .write-error .ensures) (c .if1 .taken)
 
--- src/request.rt:91:9
 address-bytes-requires : tie.Need-address-bytes-requires
 address-bytes-requires c κs = search needs
 
--- src/request.rt:92:9
 address-requires : tie.Need-address-requires
 address-requires c κs = omega (arith, write-fits _ _ (zero (c .before)) .0)
 
--- src/request.rt:93:25
 sub-copy-in : tie.Need-sub-copy-in
 sub-copy-in c = omega (arith, write-fits _ _ (zero (c .before .before .before)) .0, c .before .before .address-bytes .ensures .0)
 
--- src/request.rt:93:25
 part-copy-in-start : tie.Need-part-copy-in-start
 part-copy-in-start c = omega (arith, write-fits _ _ (zero (c .before .before .before)) .0, c .before .before .address-bytes .ensures .0)
 
--- src/request.rt:93:25
 part-copy-in-end : tie.Need-part-copy-in-end
 part-copy-in-end c = search needs
 
--- src/request.rt:93:5
 copy-in-requires : tie.Need-copy-in-requires
 copy-in-requires c κs =
     let a = c .before .before .before .before .before .before .before .before .args in
     let k = write-place (a .memory) (a .pdata .now) (a .mem .now) _ _ (zero (c .before .before .before .before)) (c .before .before .before .address-bytes .ensures .0) (c .before .before .address .ensures) (c .before .before .before .before .before .before .before .before .pre) in
     simp (length-take, length-drop) (omega (arith, k))
 
--- src/request.rt:82:1
 same-length : tie.Need-same-length
 same-length c = search needs
 
--- src/request.rt:82:1
 returns-2 : tie.Need-returns-2
 returns-2 c =
     let a = c .before .before .before .before .before .before .before .before .before .before .before .args in

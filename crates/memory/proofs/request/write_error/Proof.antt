@@ -10,28 +10,22 @@ use Rattle.memory.proofs.block.address_bytes.Reads as address-bytes-rea
 use Rattle.memory.proofs.request.address.Reads as address-reads
 use Rattle.memory.proofs.request.block_error.Reads as block-error-reads
 
--- src/request.rt:54:9
 address-bytes-requires : tie.Need-address-bytes-requires
 address-bytes-requires c κs = search needs
 
--- src/request.rt:56:9
 returns : tie.Need-returns
 unfolding writeError
 returns c = simp (← c .before .address-bytes .ensures .0, le-leb _ _ (c .if1 .taken))
 
--- src/request.rt:58:9
 address-requires : tie.Need-address-requires
 address-requires c κs = search needs
 
--- src/request.rt:59:32
 sub-block-error : tie.Need-sub-block-error
 sub-block-error c = search needs
 
--- src/request.rt:59:5
 block-error-requires : tie.Need-block-error-requires
 block-error-requires c κs = search needs
 
--- src/request.rt:51:1
 returns-2 : tie.Need-returns-2
 returns-2 c =
     let a = c .before .before .before .before .before .args in

@@ -18,61 +18,47 @@ zero c = sym (c .before .view-status .ensures) ∙ c .if1 .left
 known : (c : tie.Else1) → let a = c .before .before .before .before .args in Viewed (a .eeprom .now) (a .external .now) (a .pnum) (a .start) (a .length)
 known c = viewed _ _ _ _ _ (zero c)
 
--- src/view.rt:36:8
 view-status-requires : tie.Need-view-status-requires
 view-status-requires c κs = search needs
 
--- src/view.rt:37:16
 sub-result : tie.Need-sub-result
 sub-result c = search needs
 
--- src/view.rt:37:16
 part-result-start : tie.Need-part-result-start
 part-result-start c = search needs
 
--- src/view.rt:37:16
 part-result-end : tie.Need-part-result-end
 part-result-end c = search needs
 
--- src/view.rt:37:9
 returns : tie.Need-returns
 unfolding viewPart
 returns c = simp (ne-eqb _ _ (λ q. c .before .if1 .taken (c .before .before .view-status .ensures ∙ q)))
 
--- src/view.rt:39:15
 add-end : tie.Need-add-end
 add-end c = omega (arith, known c .fits)
 
--- src/view.rt:41:16
 sub-result-2 : tie.Need-sub-result-2
 sub-result-2 c = search needs
 
--- src/view.rt:41:16
 part-result-start-2 : tie.Need-part-result-start-2
 part-result-start-2 c = search needs
 
--- src/view.rt:41:16
 part-result-end-2 : tie.Need-part-result-end-2
 part-result-end-2 c = known (c .before) .eeprom (c .if2 .taken)
 
--- src/view.rt:41:9
 returns-2 : tie.Need-returns-2
 unfolding viewPart
 returns-2 c = simp (counted, zero (c .before .before), eq-eqb _ _ (c .before .if2 .taken))
 
--- src/view.rt:43:5
 sub-result-3 : tie.Need-sub-result-3
 sub-result-3 c = search needs
 
--- src/view.rt:43:5
 part-result-start-3 : tie.Need-part-result-start-3
 part-result-start-3 c = search needs
 
--- src/view.rt:43:5
 part-result-end-3 : tie.Need-part-result-end-3
 part-result-end-3 c = known (c .before) .external (c .if2 .left)
 
--- src/view.rt:27:1
 returns-3 : tie.Need-returns-3
 unfolding viewPart
 returns-3 c = simp (counted, zero (c .before .before), ne-eqb _ _ (c .before .if2 .left))

@@ -16,43 +16,34 @@ eeprom-size c = c .if1 .left ∙ c .before .size-of .ensures .0
 external-size : (c : tie.Else2) → length (c .before .before .before .before .before .before .args .external .now) ≡ 16384
 external-size c = c .if2 .left ∙ c .before .size-of2 .ensures .0
 
--- src/view.rt:19:24
 size-of-requires : tie.Need-size-of-requires
 size-of-requires c κs = search needs
 
--- src/view.rt:20:9
 returns : tie.Need-returns
 unfolding viewStatus
 returns c = simp (ne-eqb _ _ (λ q. c .if1 .taken (q ∙ sym (c .before .size-of .ensures .0))))
 
--- src/view.rt:22:26
 size-of-requires-2 : tie.Need-size-of-requires-2
 size-of-requires-2 c κs = search needs
 
--- src/view.rt:23:9
 returns-2 : tie.Need-returns-2
 unfolding viewStatus
 returns-2 c = simp (eq-eqb _ _ (eeprom-size (c .before .before)), ne-eqb _ _ (λ q. c .if2 .taken (q ∙ sym (c .before .size-of2 .ensures .0))))
 
--- src/view.rt:26:9
 block-refusal-requires : tie.Need-block-refusal-requires
 block-refusal-requires c κs = search needs
 
--- src/view.rt:26:9
 returns-3 : tie.Need-returns-3
 unfolding viewStatus
 returns-3 c = simp (eq-eqb _ _ (eeprom-size (c .before .before .before .before)), eq-eqb _ _ (external-size (c .before .before)), eq-eqb _ _ (c .before .if3 .taken)) (c .block-refusal .ensures)
 
--- src/view.rt:29:9
 block-refusal-requires-2 : tie.Need-block-refusal-requires-2
 block-refusal-requires-2 c κs = search needs
 
--- src/view.rt:29:9
 returns-4 : tie.Need-returns-4
 unfolding viewStatus
 returns-4 c = simp (eq-eqb _ _ (eeprom-size (c .before .before .before .before .before)), eq-eqb _ _ (external-size (c .before .before .before)), ne-eqb _ _ (c .before .before .if3 .left), eq-eqb _ _ (c .before .if4 .taken)) (c .block-refusal2 .ensures)
 
--- src/view.rt:16:1
 returns-5 : tie.Need-returns-5
 unfolding viewStatus
 returns-5 c = simp (eq-eqb _ _ (eeprom-size (c .before .before .before .before)), eq-eqb _ _ (external-size (c .before .before)), ne-eqb _ _ (c .before .if3 .left), ne-eqb _ _ (c .if4 .left))

@@ -19,39 +19,31 @@ use Rattle.timing.proofs.slot.slot_of.Reads as slot-of-reads
 fits : (c : tie.Else1) → frameFits (length (c .before .before .before .before .args .frame .now)) ≡ true
 fits c = sym (c .before .fits2 .ensures) ∙ not-false _ (c .if1 .left)
 
--- src/confirm.rt:65:9
 fits-requires : tie.Need-fits-requires
 fits-requires c κs = search needs
 
--- src/confirm.rt:66:9
 returns : tie.Need-returns
 returns c =
     let a = c .before .before .before .before .args in
     no-frame (a .frame .now) (a .dpa-value) (a .hops) (a .response-hops) (a .network) (a .out .now) (sym (c .before .fits2 .ensures) ∙ not-true _ (c .if1 .taken))
 
--- src/confirm.rt:72:9
 returns-2 : tie.Need-returns-2
 returns-2 c =
     let a = c .before .before .before .before .before .args in
     no-room (a .frame .now) (a .dpa-value) (a .hops) (a .response-hops) (a .network) (a .out .now) (fits (c .before)) (c .if2 .taken)
 
--- src/confirm.rt:77:24
 sub-slot-of : tie.Need-sub-slot-of
 sub-slot-of c = omega (arith, fits-sizes _ (fits (c .before)))
 
--- src/confirm.rt:77:9
 slot-of-requires : tie.Need-slot-of-requires
 slot-of-requires c κs = search needs
 
--- src/confirm.rt:78:5
 write-confirmation-requires : tie.Need-write-confirmation-requires
 write-confirmation-requires c κs = (fits-sizes _ (fits (c .before .before .before)) .0, omega arith)
 
--- src/confirm.rt:55:1
 same-length : tie.Need-same-length
 same-length c = search needs
 
--- src/confirm.rt:55:1
 returns-3 : tie.Need-returns-3
 returns-3 c =
     let a = c .before .before .before .before .before .before .before .before .before .before .args in

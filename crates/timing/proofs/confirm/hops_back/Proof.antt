@@ -9,16 +9,13 @@ use Rattle.timing.proofs.confirm.hops_back.Reads as reads
 use Rattle.timing.proofs.confirm.hops_back.Lts as lts
 use Rattle.dpa.proofs.frame.Frame.read.Reads as read-reads
 
--- src/confirm.rt:27:9
 read-requires : tie.Need-read-requires
 read-requires c κs = search needs
 
--- src/confirm.rt:29:9
 returns : tie.Need-returns
 unfolding hopsBack
 returns c = simp (eq-eqb _ _ (sym (ap (λ (f : Frame). f .nadr) (c .before .before .read .ensures)) ∙ c .if1 .taken))
 
--- src/confirm.rt:23:1
 returns-2 : tie.Need-returns-2
 unfolding hopsBack
 returns-2 c = simp (ne-eqb _ _ (λ q. c .if1 .left (ap (λ (f : Frame). f .nadr) (c .before .before .read .ensures) ∙ q)))

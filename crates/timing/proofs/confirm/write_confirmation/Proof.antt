@@ -9,51 +9,39 @@ use Rattle.timing.proofs.confirm.write_confirmation.Lts as lts
 use Rattle.bytes.proofs.copy.Reads as copy-reads
 use Rattle.timing.proofs.confirm.hops_back.Reads as hops-back-reads
 
--- src/confirm.rt:46:17
 sub-copy : tie.Need-sub-copy
 sub-copy c = search needs
 
--- src/confirm.rt:46:17
 part-copy-start : tie.Need-part-copy-start
 part-copy-start c = search needs
 
--- src/confirm.rt:46:17
 part-copy-end : tie.Need-part-copy-end
 part-copy-end c = search needs
 
--- src/confirm.rt:46:5
 copy-requires : tie.Need-copy-requires
 copy-requires c κs = search needs
 
--- src/confirm.rt:47:5
 slice-write-out : tie.Need-slice-write-out
 slice-write-out c = search needs
 
--- src/confirm.rt:48:5
 slice-write-out-2 : tie.Need-slice-write-out-2
 slice-write-out-2 c = simp length-set (omega arith)
 
--- src/confirm.rt:49:5
 slice-write-out-3 : tie.Need-slice-write-out-3
 slice-write-out-3 c = simp length-set (omega arith)
 
--- src/confirm.rt:50:5
 slice-write-out-4 : tie.Need-slice-write-out-4
 slice-write-out-4 c = simp length-set (omega arith)
 
--- src/confirm.rt:51:15
 hops-back-requires : tie.Need-hops-back-requires
 hops-back-requires c κs = search needs
 
--- src/confirm.rt:51:5
 slice-write-out-5 : tie.Need-slice-write-out-5
 slice-write-out-5 c = simp length-set (omega arith)
 
--- src/confirm.rt:35:1
 same-length : tie.Need-same-length
 same-length c = search needs
 
--- src/confirm.rt:35:1
 returns : tie.Need-returns
 returns c =
     let a = c .before .before .before .before .before .before .before .before .args in

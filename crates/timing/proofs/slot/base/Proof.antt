@@ -6,17 +6,14 @@ use Rattle.timing.proofs.slot.base.Tie as tie
 use Rattle.timing.proofs.slot.base.Reads as reads
 use Rattle.timing.proofs.slot.base.Lts as lts
 
--- src/slot.rt:31:9
 returns : tie.Need-returns
 unfolding baseOf
 returns c = (simp (lt-ltb _ _ (c .if1 .taken)), omega arith)
 
--- src/slot.rt:34:9
 returns-2 : tie.Need-returns-2
 unfolding baseOf
 returns-2 c = (simp (le-ltb _ _ (c .before .if1 .left), le-leb _ _ (c .if2 .taken)), omega arith)
 
--- src/slot.rt:27:1
 returns-3 : tie.Need-returns-3
 unfolding baseOf
 returns-3 c = (simp (le-ltb _ _ (c .before .if1 .left), lt-leb _ _ (c .if2 .left)), omega arith)

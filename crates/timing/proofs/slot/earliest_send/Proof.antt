@@ -9,48 +9,38 @@ use Rattle.timing.proofs.slot.earliest_send.Lts as lts
 use Rattle.timing.proofs.slot.slot_of.Reads as slot-of-reads
 use Rattle.timing.proofs.slot.way.Reads as way-reads
 
--- src/slot.rt:92:9
 returns : tie.Need-returns
 unfolding sendOf
 returns c = simp (lt-ltb _ _ (c .if1 .taken))
 
--- src/slot.rt:98:9
 returns-2 : tie.Need-returns-2
 unfolding sendOf
 returns-2 c = simp (le-ltb _ _ (c .before .if1 .left), lt-ltb _ _ (c .if2 .taken))
 
--- src/slot.rt:103:27
 slot-of-requires : tie.Need-slot-of-requires
 slot-of-requires c κs = search needs
 
--- src/slot.rt:103:17
 way-requires : tie.Need-way-requires
 way-requires c κs = search needs
 
--- src/slot.rt:103:17
 add-there : tie.Need-add-there
 add-there c = search needs
 
--- src/slot.rt:105:9
 returns-3 : tie.Need-returns-3
 returns-3 c =
     let a = c .before .before .before .before .before .args in
     one-way (a .hops) (a .request-length) (a .delay) (a .response-hops) (a .response-length) (a .network) (a .broadcast)
     (c .before .before .before .before .if1 .left) (c .before .before .before .if2 .left) _ _ (c .before .before .slot-of .ensures) (c .before .way .ensures .0) (c .if3 .taken)
 
--- src/slot.rt:110:35
 slot-of-requires-2 : tie.Need-slot-of-requires-2
 slot-of-requires-2 c κs = search needs
 
--- src/slot.rt:110:9
 way-requires-2 : tie.Need-way-requires-2
 way-requires-2 c κs = search needs
 
--- src/slot.rt:113:23
 add-t13 : tie.Need-add-t13
 add-t13 c = search needs
 
--- src/slot.rt:80:1
 returns-4 : tie.Need-returns-4
 returns-4 c =
     let a = c .before .before .before .before .before .before .before .args in

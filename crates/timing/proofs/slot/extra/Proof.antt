@@ -7,20 +7,16 @@ use Rattle.timing.proofs.slot.extra.Tie as tie
 use Rattle.timing.proofs.slot.extra.Reads as reads
 use Rattle.timing.proofs.slot.extra.Lts as lts
 
--- src/slot.rt:44:25
 enum-told : tie.Need-enum-told
 enum-told c = search needs
 
--- src/slot.rt:45:27
 enum-told-2 : tie.Need-enum-told-2
 enum-told-2 c = search needs
 
--- src/slot.rt:40:1
 returns : tie.Need-returns
 unfolding extraOf
 returns c = rw (c .enum-told .given .1) (refl, omega arith)
 
--- src/slot.rt:40:1
 returns-2 : tie.Need-returns-2
 unfolding extraOf
 returns-2 c = rw (c .enum-told2 .given .1) (refl, omega arith)

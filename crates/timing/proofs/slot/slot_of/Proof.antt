@@ -7,19 +7,15 @@ use Rattle.timing.proofs.slot.slot_of.Lts as lts
 use Rattle.timing.proofs.slot.base.Reads as base-reads
 use Rattle.timing.proofs.slot.extra.Reads as extra-reads
 
--- src/slot.rt:53:5
 base-requires : tie.Need-base-requires
 base-requires c κs = search needs
 
--- src/slot.rt:53:26
 extra-requires : tie.Need-extra-requires
 extra-requires c κs = search needs
 
--- src/slot.rt:53:5
 add-result : tie.Need-add-result
 add-result c = search needs
 
--- src/slot.rt:50:1
 returns : tie.Need-returns
 unfolding slotOf
 returns c = rw (c .before .base .ensures .0, c .extra .ensures .0)

@@ -7,16 +7,13 @@ use Rattle.timing.proofs.slot.timeslot.Reads as reads
 use Rattle.timing.proofs.slot.timeslot.Lts as lts
 use Rattle.timing.proofs.slot.slot_of.Reads as slot-of-reads
 
--- src/slot.rt:68:9
 returns : tie.Need-returns
 unfolding timeslotOf
 returns c = simp (lt-ltb _ _ (c .if1 .taken))
 
--- src/slot.rt:75:15
 slot-of-requires : tie.Need-slot-of-requires
 slot-of-requires c κs = search needs
 
--- src/slot.rt:64:1
 returns-2 : tie.Need-returns-2
 unfolding timeslotOf
 returns-2 c = simp (le-ltb _ _ (c .before .if1 .left), c .slot-of .ensures)

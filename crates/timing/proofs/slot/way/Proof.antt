@@ -12,21 +12,17 @@ use Rattle.timing.proofs.slot.way.Lts as lts
 most : (c : tie.Start) → wayOf (c .args .hops) (c .args .slot) ≤ 652800
 most c = way-max (c .args .hops) (c .args .slot) 255 (omega arith) (omega arith)
 
--- src/slot.rt:60:6
 add-result : tie.Need-add-result
 add-result c = search needs
 
--- src/slot.rt:60:5
 mul-result : tie.Need-mul-result
 unfolding wayOf
 mul-result c = omega (arith, most c)
 
--- src/slot.rt:60:5
 mul-result-2 : tie.Need-mul-result-2
 unfolding wayOf
 mul-result-2 c = omega (arith, most c)
 
--- src/slot.rt:57:1
 returns : tie.Need-returns
 unfolding wayOf
 returns c = (refl, most c)

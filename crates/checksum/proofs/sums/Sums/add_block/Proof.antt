@@ -17,33 +17,26 @@ Inv-loop block s₀ i₀ s i = (i ≤ length block) × (sums s (drop i block) �
 abbrev μ-loop : tie.MeasureT-loop
 μ-loop block s₀ i₀ s i = length block - i
 
--- src/sums.rt:46:9
 loop-holds : tie.Need-loop-holds Inv-loop μ-loop
 loop-holds c = (omega arith, refl)
 
--- src/sums.rt:47:28
 shared-slice-read-add-byte : tie.Need-shared-slice-read-add-byte Inv-loop μ-loop
 shared-slice-read-add-byte c = omega arith
 
--- src/sums.rt:47:13
 add-byte-requires : tie.Need-add-byte-requires Inv-loop μ-loop
 add-byte-requires c κs = tt
 
--- src/sums.rt:48:13
 add-i : tie.Need-add-i Inv-loop μ-loop
 add-i c = omega arith
 
--- src/sums.rt:46:9
 loop-less : tie.Need-loop-less Inv-loop μ-loop
 loop-less c = omega arith
 
--- src/sums.rt:46:9
 loop-again : tie.Need-loop-again Inv-loop μ-loop
 loop-again c =
     let l = c .before .before .before in
     (omega arith, rw (c .add-byte .ensures) (sym (byte-more (l .before .before .args .block .now) (l .loop .s) (l .loop .i) (c .before .before .loop-test .taken)) ∙ l .loop .inv .1))
 
--- src/sums.rt:41:5
 returns : tie.Need-returns Inv-loop μ-loop
 returns c =
     let l = c .before in

@@ -6,15 +6,12 @@ use Rattle.checksum.proofs.sums.Sums.add_byte.Reads as reads
 use Rattle.checksum.proofs.sums.Sums.add_byte.Lts as lts
 use Rattle.checksum.proofs.sums.around.Reads as around-reads
 
--- src/sums.rt:36:13
 around-requires : tie.Need-around-requires
 around-requires c κs = search needs
 
--- src/sums.rt:37:13
 around-requires-2 : tie.Need-around-requires-2
 around-requires-2 c κs = search needs
 
--- src/sums.rt:33:5
 returns : tie.Need-returns
 unfolding addByte
 returns c = cc
