@@ -1,6 +1,6 @@
 -- Carrying out a request, by the tests on the way: a batch, the OS, HWPID and PNUM.
-use mathlib.Core.Path.{_≡_, ap, sym}
-use mathlib.Core.List.{List, []}
+use mathlib.Core.Path.{_≡_, ap}
+use mathlib.Core.List.{List}
 use mathlib.Core.Bool.{Bool, true, false}
 use Prim.Native.Nat.{ℕ}
 use lib.ListN.{length}
@@ -8,10 +8,9 @@ use borrow.Author.Tests.{eq-eqb, ne-eqb}
 use Rattle.dpa.specs.Served.{Served, Laid, laid, layOut, refused}
 use Rattle.checksum.specs.Check.{codeCheck}
 use Rattle.batch.specs.Batch.{Item, reading, listError}
-use Rattle.batch.specs.declared.list.Listed.{Listed}
 use Rattle.batch.specs.declared.list.Listed.the-variants.{Sound, Broken}
 use Rattle.handler.specs.declared.os.Carried.{Carried}
-use Rattle.handler.specs.Request.{State, perform, forNode, plain, ran, batchOf, codeCheckOf, osOf, carryOut, Left, left, leave}
+use Rattle.handler.specs.Request.{State, perform, forNode, plain, ran, batchOf, codeCheckOf, osOf, carryOut, left, leave}
 
 module _ (d : List ℕ) (st : State) where
   pub batch-empty : length d ≡ 0 → batchOf d st ≡ plain (refused st 5)
@@ -19,9 +18,9 @@ module _ (d : List ℕ) (st : State) where
   batch-empty e = rw (eq-eqb (length d) 0 e)
 
   -- a list that cannot be taken apart runs nothing
-  pub batch-broken : (length d ≡ 0 → ⊥) → {r a : ℕ} → reading d .listed ≡ Broken r a → batchOf d st ≡ plain (refused st 6)
+  pub batch-broken : (length d ≡ 0 → ⊥) → {r a : ℕ} → reading d .listed ≡ Broken r a → {k : ℕ} → k ≡ listError (reading d .listed) → batchOf d st ≡ plain (refused st k)
   unfolding batchOf
-  batch-broken n e = rw (ne-eqb (length d) 0 n, e)
+  batch-broken n e q = rw (q, ne-eqb (length d) 0 n, e)
 
   pub batch-runs : (length d ≡ 0 → ⊥) → reading d .listed ≡ Sound → batchOf d st ≡ ran (reading d .items) st
   unfolding batchOf

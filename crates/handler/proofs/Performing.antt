@@ -3,12 +3,13 @@ use mathlib.Core.Path.{_≡_, ap}
 use mathlib.Core.List.{List}
 use Prim.Native.Nat.{ℕ}
 use borrow.Author.Tests.{ne-eqb}
-use Rattle.dpa.specs.Served.{refused, within}
+use Rattle.dpa.specs.Served.{laid, refused, within}
 use Rattle.memory.specs.declared.block.Memory.the-variants.{Eeprom, Ram, External}
 use Rattle.memory.specs.Request.{memoryRequest}
 use Rattle.lights.specs.Lights.{lightsRequest}
 use Rattle.node.specs.Node.{withLamps, withRam}
-use Rattle.handler.specs.Request.{State, nodeIs, eepromIs, externalIs, perform}
+use Rattle.handler.specs.declared.peripheral.NodeReply.{NodeReply}
+use Rattle.handler.specs.Request.{State, state, nodeIs, eepromIs, externalIs, perform}
 
 module _ (pnum pcmd : ℕ) (d : List ℕ) (st : State) where
   pub perform-eeprom : pnum ≡ 3 → perform pnum pcmd d st ≡ within (eepromIs st) (memoryRequest Eeprom pcmd d (st .eeprom))
@@ -31,3 +32,8 @@ module _ (pnum pcmd : ℕ) (d : List ℕ) (st : State) where
   pub perform-unknown : (pnum ≡ 3 → ⊥) → (pnum ≡ 4 → ⊥) → (pnum ≡ 5 → ⊥) → (pnum ≡ 0x71 → ⊥) → perform pnum pcmd d st ≡ refused st 3
   unfolding perform
   perform-unknown a b c e = simp (ne-eqb pnum 3 a, ne-eqb pnum 4 b, ne-eqb pnum 5 c, ne-eqb pnum 0x71 e)
+
+-- what the code leaves
+pub laid-as : {r s : NodeReply} {e x o : List ℕ} → r ≡ s
+    → laid (state (r .node) e x) (r .error) (r .length) o ≡ laid (state (s .node) e x) (s .error) (s .length) o
+laid-as {r} {s} {e} {x} {o} q = ap (λ (t : NodeReply). laid (state (t .node) e x) (t .error) (t .length) o) q

@@ -1,18 +1,19 @@
 -- Taking a frame: whose it is, the response, and the refusals.
 use mathlib.Core.Path.{_≡_, ap, sym, _∙_}
-use mathlib.Core.List.{List, [], _∷_, _++_}
-use mathlib.Core.Bool.{Bool, true, false}
+use mathlib.Core.List.{List, _++_}
+use mathlib.Core.Bool.{true, false}
 use Prim.Native.Nat.{ℕ, _+_, _-_, _≤_}
 use native.Mathlib.Omega.{arith}
-use lib.Dec.{ltb, leb, eqb}
+use lib.Dec.{ltb, eqb}
 use lib.ListN.{length, take, drop}
 use borrow.Rule.Slice.PartMut.{midOf, putMid}
-use borrow.Author.Tests.{eq-eqb, ne-eqb, eqb-true, ltb-false, leb-true}
+use borrow.Author.Tests.{eq-eqb, ne-eqb, eqb-true, ltb-false}
 use Rattle.dpa.specs.declared.frame.Frame.{Frame}
 use Rattle.dpa.specs.declared.settings.Settings.{Settings}
 use Rattle.dpa.specs.Lists.{over}
 use Rattle.dpa.specs.Frame.{headerOf, frameFits, responseHeader}
-use Rattle.dpa.proofs.Bool.{first-taken, second-taken, and-left}
+use Rattle.dpa.proofs.Bool.{first-taken, second-taken}
+use Rattle.dpa.proofs.Headers.{fits-sizes}
 use Rattle.dpa.proofs.Lists.{to-end, rear-lent, rear-back, header-over}
 use Rattle.batch.specs.Batch.{Item, item}
 use Rattle.node.specs.declared.record.Node.{Node}
@@ -53,14 +54,14 @@ module _ (f : List ℕ) (st : State) (o : List ℕ) where
 -- what is known where no refusal was given
 module _ (n : Node) (f e x r : ℕ) (z : requestRefusal n f e x r ≡ 0) where
   pub refusal-none : (nodeOk n ≡ true) × (6 ≤ f) × (64 ≤ r) × (e ≡ 192) × (x ≡ 16384)
-  unfolding requestRefusal frameFits
+  unfolding requestRefusal
   refusal-none =
       let a = first-taken (nodeOk n) _ 1 0 (λ q. omega arith) z in
       let b = first-taken (frameFits f) _ 2 0 (λ q. omega arith) (a .1) in
       let c = second-taken (ltb r 64) 3 _ 0 (λ q. omega arith) (b .1) in
       let d = first-taken (eqb e 192) _ 4 0 (λ q. omega arith) (c .1) in
       let g = first-taken (eqb x 16384) 0 4 0 (λ q. omega arith) (d .1) in
-      (a .0, leb-true _ _ (and-left (leb 6 f) (leb f 62) (b .0)), ltb-false _ _ (c .0), eqb-true _ _ (d .0), eqb-true _ _ (g .0))
+      (a .0, fits-sizes f (b .0) .0, ltb-false _ _ (c .0), eqb-true _ _ (d .0), eqb-true _ _ (g .0))
 
 pub taken-rule : (n : Node) (e x : List ℕ) (f r : ℕ) → requestRefusal n f (length e) (length x) r ≡ 0 → StateRule (state n e x)
 taken-rule n e x f r z =

@@ -2,13 +2,12 @@
 use Prim.Native.Nat.{ℕ, _+_}
 use mathlib.Core.Path.{_≡_}
 use mathlib.Core.List.{List, [], _++_}
-use mathlib.Core.Bool.{Bool, true, false, cond, not, _||_}
+use mathlib.Core.Bool.{Bool, true, false, cond, _||_}
 use lib.ListN.{length}
 use lib.Dec.{ltb, eqb}
 use Rattle.dpa.specs.declared.settings.Settings.{Settings}
-use Rattle.dpa.specs.declared.frame.Frame.{Frame}
 use Rattle.dpa.specs.Lists.{over}
-use Rattle.dpa.specs.Frame.{headerOf, pdataOf, frameFits, responseHeader}
+use Rattle.dpa.specs.Frame.{responseHeaderSize, longestResponse, broadcastNadr, anyHwpid, headerOf, pdataOf, frameFits, responseHeader}
 use Rattle.dpa.specs.Served.{Served, served, refused, within}
 use Rattle.memory.specs.declared.block.Memory.the-variants.{Eeprom, Ram, External}
 use Rattle.memory.specs.Block.{sizeOf}
@@ -17,7 +16,6 @@ use Rattle.lights.specs.Lights.{lightsRequest}
 use Rattle.checksum.specs.Check.{codeCheck}
 use Rattle.batch.specs.Batch.{Item, item, reading, listError, runItems, errorsOf}
 use Rattle.node.specs.declared.record.Node.{Node}
-use Rattle.handler.specs.declared.peripheral.NodeReply.{NodeReply}
 use Rattle.handler.specs.declared.os.Carried.{Carried}
 use Rattle.handler.specs.declared.answer.RequestAnswer.{RequestAnswer}
 use Rattle.node.specs.Node.{nodeOk, withLamps, withRam}
@@ -58,7 +56,7 @@ perform pnum pcmd pdata st =
 
 -- the node's hardware profile, or the one that every node takes
 unfoldable pub forNode : Settings → ℕ → Bool
-forNode s hwpid = eqb hwpid (s .hwpid) || eqb hwpid 0xFFFF
+forNode s hwpid = eqb hwpid (s .hwpid) || eqb hwpid anyHwpid
 
 -- an entry of a batch; PNUM 02 is not among those that it may name
 unfoldable pub entryOf : Item → State → Served State
@@ -162,15 +160,15 @@ respond s i a o =
     record {
       after = a .after;
       refusal = 0;
-      length = 8 + length (a .bytes);
+      length = responseHeaderSize + length (a .bytes);
       load = a .load;
       response = over (responseHeader s (i .pnum) (i .pcmd) (a .error) ++ a .bytes) o;
     }
 
--- a frame that was not refused: carried out in silence for 0x00FF, answered for the node's address, else not mine
+-- a frame that was not refused: carried out in silence for all, answered for the node's address, else not mine
 unfoldable pub takenOf : List ℕ → State → List ℕ → Called
 takenOf f st o =
-    cond (eqb (headerOf f .nadr) 0x00FF) (broadcast (carryOut (itemOf f) st) o)
+    cond (eqb (headerOf f .nadr) broadcastNadr) (broadcast (carryOut (itemOf f) st) o)
     (cond (eqb (headerOf f .nadr) (st .node .settings .address)) (respond (st .node .settings) (itemOf f) (carryOut (itemOf f) st) o)
     (silent st 0 false o))
 
@@ -179,7 +177,7 @@ unfoldable pub requestRefusal : Node → ℕ → ℕ → ℕ → ℕ → ℕ
 requestRefusal n frame eeprom external response =
     cond (nodeOk n)
     (cond (frameFits frame)
-    (cond (ltb response 64) 3
+    (cond (ltb response longestResponse) 3
     (cond (eqb eeprom (sizeOf Eeprom))
     (cond (eqb external (sizeOf External)) 0
     4)

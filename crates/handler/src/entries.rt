@@ -1,14 +1,14 @@
 // The entries of a batch, one after the other.
 use crate::peripheral::peripheral;
+use batch::entry::HEAD;
 use batch::entry::Next;
 use batch::entry::next_entry;
 use dpa::frame::Frame;
 use dpa::settings::Settings;
 use node::record::Node;
 ghost use mathlib.Core.Path.{_≡_};
-ghost use lib.ListN.{length};
 ghost use Rattle.batch.specs.Batch.{item, reading, runItems};
-ghost use Rattle.handler.specs.Request.{state, StateRule, forNode, entryOf, entryAfter};
+ghost use Rattle.handler.specs.Request.{state, StateRule, forNode, entryAfter};
 
 // Whether a request's HWPID is the node's or the wildcard.
 pub fn for_node(settings: Settings, hwpid: u16) -> bool
@@ -59,6 +59,6 @@ pub fn run_list(node: Node, rest: &[u8], eeprom: &mut [u8], external: &mut [u8])
     else {
         return node;
     };
-    let next = run_entry(node, pnum, pcmd, hwpid, &rest[5..len], eeprom, external);
+    let next = run_entry(node, pnum, pcmd, hwpid, &rest[HEAD..len], eeprom, external);
     run_list(next, &rest[len..], eeprom, external)
 }

@@ -1,6 +1,7 @@
 // OS 02: batch and code check.
 use crate::entries::run_list;
 use batch::list::Listed;
+use batch::list::list_error;
 use batch::list::read_list;
 use checksum::check::code_check;
 use dpa::error;
@@ -10,6 +11,7 @@ ghost use mathlib.Core.Bool.{false};
 ghost use mathlib.Core.List.{List};
 ghost use Prim.Native.Nat.{ℕ, _≤_};
 ghost use lib.ListN.{length};
+ghost use Rattle.dpa.specs.Frame.{pdataMax};
 ghost use Rattle.handler.specs.Request.{state, StateRule, left, leave, batchOf, osOf};
 
 pub const BATCH: u8 = 5;
@@ -24,8 +26,8 @@ pub struct Carried {
     pub load: bool,
 }
 
-// An error: nothing changed, no data.
-pub fn failed(node: Node, error: u8) -> Carried
+// A request that answers no data.
+pub fn without_data(node: Node, error: u8) -> Carried
     ensures { λ r. ⌜ r ≡ record { node = node; error = error; length = 0; load = false } ⌝ }
 {
     Carried {
@@ -43,14 +45,14 @@ fn run_batch(node: Node, pdata: &[u8], eeprom: &mut [u8], external: &mut [u8]) -
         ≡ leave (batchOf (now (pdata .entry)) (state node (now (eeprom .entry)) (now (external .entry)))) o) ⌝ }
 {
     if pdata.len() == 0 {
-        return failed(node, error::DATA_LEN);
+        return without_data(node, error::DATA_LEN);
     }
     let listed = read_list(pdata);
     let Listed::Sound = listed else {
-        return failed(node, error::DATA);
+        return without_data(node, list_error(listed));
     };
     let next = run_list(node, pdata, eeprom, external);
-    failed(next, error::NONE)
+    without_data(next, error::NONE)
 }
 
 pub fn os(
@@ -61,7 +63,7 @@ pub fn os(
     external: &mut [u8],
     out: &mut [u8],
 ) -> Carried
-    requires { ⌜ StateRule (state node (now eeprom) (now external)) × (56 ≤ length (now out)) ⌝ }
+    requires { ⌜ StateRule (state node (now eeprom) (now external)) × (pdataMax ≤ length (now out)) ⌝ }
     ensures { λ r. ⌜ left r (now (eeprom .exit)) (now (external .exit)) (now (out .exit))
         ≡ leave (osOf pcmd (now (pdata .entry)) (state node (now (eeprom .entry)) (now (external .entry)))) (now (out .entry)) ⌝ }
 {
@@ -77,5 +79,5 @@ pub fn os(
             load: checked.load,
         };
     }
-    failed(node, error::PCMD)
+    without_data(node, error::PCMD)
 }

@@ -1,12 +1,14 @@
 // A request to a memory or to the lights, from PNUM on.
 use dpa::error;
 use dpa::pnum;
+use dpa::reply::Reply;
 use memory::block::Memory;
 use node::record::Node;
 ghost use mathlib.Core.Path.{_≡_};
 ghost use mathlib.Core.Bool.{true};
 ghost use Prim.Native.Nat.{_≤_};
 ghost use lib.ListN.{length};
+ghost use Rattle.dpa.specs.Frame.{pdataMax};
 ghost use Rattle.dpa.specs.Served.{laid, layOut, within};
 ghost use Rattle.memory.specs.declared.block.Memory.the-variants.{Ram};
 ghost use Rattle.memory.specs.Request.{memoryRequest};
@@ -23,7 +25,7 @@ pub struct NodeReply {
 
 // RAM stands in the node record: it is lent as a copy and stored back.
 fn ram_request(node: Node, pcmd: u8, pdata: &[u8], out: &mut [u8]) -> NodeReply
-    requires { ⌜ (nodeOk node ≡ true) × (56 ≤ length (now out)) ⌝ }
+    requires { ⌜ (nodeOk node ≡ true) × (pdataMax ≤ length (now out)) ⌝ }
     ensures { λ r. ⌜ laid (r .node) (r .error) (r .length) (now (out .exit))
         ≡ layOut (within (withRam node) (memoryRequest Ram pcmd (now (pdata .entry)) (node .ram))) (now (out .entry)) ⌝ }
 {
@@ -39,7 +41,7 @@ fn ram_request(node: Node, pcmd: u8, pdata: &[u8], out: &mut [u8]) -> NodeReply
 }
 
 fn lights_request(node: Node, pcmd: u8, pdata: &[u8], out: &mut [u8]) -> NodeReply
-    requires { ⌜ (nodeOk node ≡ true) × (56 ≤ length (now out)) ⌝ }
+    requires { ⌜ (nodeOk node ≡ true) × (pdataMax ≤ length (now out)) ⌝ }
     ensures { λ r. ⌜ laid (r .node) (r .error) (r .length) (now (out .exit))
         ≡ layOut (within (withLamps node) (lightsRequest (node .settings) pcmd (now (pdata .entry)) (node .lamps))) (now (out .entry)) ⌝ }
 {
@@ -56,6 +58,17 @@ fn lights_request(node: Node, pcmd: u8, pdata: &[u8], out: &mut [u8]) -> NodeRep
     }
 }
 
+// A request to a lent memory leaves the node record alone.
+fn of_memory(node: Node, reply: Reply) -> NodeReply
+    ensures { λ r. ⌜ r ≡ record { node = node; error = reply .error; length = reply .length } ⌝ }
+{
+    NodeReply {
+        node,
+        error: reply.error,
+        length: reply.length,
+    }
+}
+
 // The answer's data goes to the front of `out`.
 pub fn peripheral(
     node: Node,
@@ -66,25 +79,17 @@ pub fn peripheral(
     external: &mut [u8],
     out: &mut [u8],
 ) -> NodeReply
-    requires { ⌜ StateRule (state node (now eeprom) (now external)) × (56 ≤ length (now out)) ⌝ }
+    requires { ⌜ StateRule (state node (now eeprom) (now external)) × (pdataMax ≤ length (now out)) ⌝ }
     ensures { λ r. ⌜ laid (state (r .node) (now (eeprom .exit)) (now (external .exit))) (r .error) (r .length) (now (out .exit))
         ≡ layOut (perform pnum pcmd (now (pdata .entry)) (state node (now (eeprom .entry)) (now (external .entry)))) (now (out .entry)) ⌝ }
 {
     if pnum == pnum::EEPROM {
         let reply = memory::request::request(Memory::Eeprom, eeprom, pcmd, pdata, out);
-        return NodeReply {
-            node,
-            error: reply.error,
-            length: reply.length,
-        };
+        return of_memory(node, reply);
     }
     if pnum == pnum::EXTERNAL {
         let reply = memory::request::request(Memory::External, external, pcmd, pdata, out);
-        return NodeReply {
-            node,
-            error: reply.error,
-            length: reply.length,
-        };
+        return of_memory(node, reply);
     }
     if pnum == pnum::RAM {
         return ram_request(node, pcmd, pdata, out);

@@ -3,21 +3,23 @@ use crate::answer::RequestAnswer;
 use crate::answer::unanswered;
 use crate::entries::for_node;
 use crate::os::Carried;
-use crate::os::failed;
 use crate::os::os;
+use crate::os::without_data;
 use crate::peripheral::peripheral;
 use dpa::error;
 use dpa::frame::Frame;
 use dpa::frame::write_header;
 use dpa::pnum;
 use dpa::refusal;
+use memory::block::Memory;
+use memory::block::size_of;
 use node::record::Node;
 use node::record::node_ok;
 ghost use mathlib.Core.Path.{_≡_};
 ghost use mathlib.Core.List.{List};
 ghost use Prim.Native.Nat.{ℕ, _≤_};
 ghost use lib.ListN.{length};
-ghost use Rattle.dpa.specs.Frame.{headerOf};
+ghost use Rattle.dpa.specs.Frame.{headerSize, pdataMax, longestResponse};
 ghost use Rattle.batch.specs.Batch.{item};
 ghost use Rattle.handler.specs.Request.{state, StateRule, left, leave, carryOut, called, broadcast, respond, takenOf, requestRefusal, requestOf};
 
@@ -30,7 +32,7 @@ fn carry_out(
     external: &mut [u8],
     out: &mut [u8],
 ) -> Carried
-    requires { ⌜ StateRule (state node (now eeprom) (now external)) × (56 ≤ length (now out)) ⌝ }
+    requires { ⌜ StateRule (state node (now eeprom) (now external)) × (pdataMax ≤ length (now out)) ⌝ }
     ensures { λ r. ⌜ left r (now (eeprom .exit)) (now (external .exit)) (now (out .exit))
         ≡ leave (carryOut (item (header .pnum) (header .pcmd) (header .hwpid) (now (pdata .entry))) (state node (now (eeprom .entry)) (now (external .entry)))) (now (out .entry)) ⌝ }
 {
@@ -48,7 +50,7 @@ fn carry_out(
             load: false,
         };
     }
-    failed(node, error::HWPID)
+    without_data(node, error::HWPID)
 }
 
 // A broadcast is carried out and never answered: its data goes to an array of its own.
@@ -83,7 +85,7 @@ fn take_own(
     external: &mut [u8],
     response: &mut [u8],
 ) -> RequestAnswer
-    requires { ⌜ StateRule (state node (now eeprom) (now external)) × (64 ≤ length (now response)) ⌝ }
+    requires { ⌜ StateRule (state node (now eeprom) (now external)) × (longestResponse ≤ length (now response)) ⌝ }
     ensures { λ r. ⌜ called r (now (eeprom .exit)) (now (external .exit)) (now (response .exit))
         ≡ respond (node .settings) (item (header .pnum) (header .pcmd) (header .hwpid) (now (pdata .entry)))
         (carryOut (item (header .pnum) (header .pcmd) (header .hwpid) (now (pdata .entry))) (state node (now (eeprom .entry)) (now (external .entry)))) (now (response .entry)) ⌝ }
@@ -116,7 +118,7 @@ fn take_frame(
     external: &mut [u8],
     response: &mut [u8],
 ) -> RequestAnswer
-    requires { ⌜ StateRule (state node (now eeprom) (now external)) × (6 ≤ length (now frame)) × (64 ≤ length (now response)) ⌝ }
+    requires { ⌜ StateRule (state node (now eeprom) (now external)) × (headerSize ≤ length (now frame)) × (longestResponse ≤ length (now response)) ⌝ }
     ensures { λ r. ⌜ called r (now (eeprom .exit)) (now (external .exit)) (now (response .exit))
         ≡ takenOf (now (frame .entry)) (state node (now (eeprom .entry)) (now (external .entry))) (now (response .entry)) ⌝ }
 {
@@ -150,10 +152,10 @@ fn request_refusal(node: Node, frame: usize, eeprom: usize, external: usize, res
     if response < Frame::RESPONSE_LONGEST {
         return refusal::RESPONSE;
     }
-    if eeprom != 192 {
+    if eeprom != size_of(Memory::Eeprom) {
         return refusal::MEMORY;
     }
-    if external != 16384 {
+    if external != size_of(Memory::External) {
         return refusal::MEMORY;
     }
     refusal::NONE

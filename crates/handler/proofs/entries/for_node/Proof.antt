@@ -5,12 +5,10 @@ use Rattle.handler.proofs.entries.for_node.Tie as tie
 use Rattle.handler.proofs.entries.for_node.Reads as reads
 use Rattle.handler.proofs.entries.for_node.Lts as lts
 
--- src/entries.rt:18:9
 returns : tie.Need-returns
 unfolding forNode
 returns c = simp (eq-eqb _ _ (c .if1 .taken))
 
--- src/entries.rt:14:1
 returns-2 : tie.Need-returns-2
 unfolding forNode
 returns-2 c = simp (ne-eqb _ _ (c .if1 .left))

@@ -11,34 +11,27 @@ use Rattle.handler.proofs.entries.run_entry.Lts as lts
 use Rattle.handler.proofs.entries.for_node.Reads as for-node-reads
 use Rattle.handler.proofs.peripheral.peripheral.Reads as peripheral-reads
 
--- src/entries.rt:38:8
 for-node-requires : tie.Need-for-node-requires
 for-node-requires c κs = search needs
 
--- src/entries.rt:40:75
 slice-aggregate-peripheral : tie.Need-slice-aggregate-peripheral
 slice-aggregate-peripheral c = search needs
 
--- src/entries.rt:40:13
 peripheral-requires : tie.Need-peripheral-requires
 peripheral-requires c κs = search needs
 
--- src/entries.rt:41:9
 same-length : tie.Need-same-length
 same-length c = search needs
 
--- src/entries.rt:41:9
 same-length-2 : tie.Need-same-length-2
 same-length-2 c = search needs
 
--- src/entries.rt:41:9
 returns : tie.Need-returns
 returns c =
     let a = c .before .before .before .before .before .before .before .before .before .before .before .before .before .before .before .before .args in
     ap (λ (l : Laid State). l .after) (c .before .before .before .before .before .before .peripheral .ensures)
     ∙ sym (ap (λ (x : Served State). x .after) (entry-mine (item (a .pnum) (a .pcmd) (a .hwpid) (a .pdata .now)) (state (a .node) (a .eeprom .now) (a .external .now)) (sym (c .before .before .before .before .before .before .before .before .before .before .before .for-node .ensures) ∙ c .before .before .before .before .before .before .before .before .before .before .if1 .taken)))
 
--- src/entries.rt:24:1
 returns-2 : tie.Need-returns-2
 returns-2 c =
     let a = c .before .before .before .before .before .before .args in

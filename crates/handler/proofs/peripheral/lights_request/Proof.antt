@@ -9,18 +9,15 @@ use Rattle.handler.proofs.peripheral.lights_request.Reads as reads
 use Rattle.handler.proofs.peripheral.lights_request.Lts as lts
 use Rattle.lights.proofs.request.request.Reads as request-reads
 
--- src/peripheral.rt:48:9
 request-requires : tie.Need-request-requires
 request-requires c κs =
     let a = c .before .before .before .before .before .args in
     let p = c .before .before .before .before .before .pre in
     (node-settings (a .node) (p .0), node-dimmed (a .node) (p .0), p .1)
 
--- src/peripheral.rt:41:1
 same-length : tie.Need-same-length
 same-length c = search needs
 
--- src/peripheral.rt:41:1
 returns : tie.Need-returns
 returns c =
     let a = c .before .before .before .before .before .before .before .before .before .args in

@@ -7,64 +7,62 @@ use Rattle.memory.specs.Request.{memoryRequest}
 use Rattle.lights.specs.Lights.{lightsRequest}
 use Rattle.node.specs.Node.{withLamps, withRam}
 use Rattle.handler.specs.Request.{State, state, nodeIs, eepromIs, externalIs}
-use Rattle.handler.proofs.Performing.{perform-eeprom, perform-external, perform-ram, perform-lights, perform-unknown}
+use Rattle.handler.proofs.Performing.{perform-eeprom, perform-external, perform-ram, perform-lights, perform-unknown, laid-as}
 use Rattle.handler.proofs.peripheral.peripheral.Statement.{statement}
 use Rattle.handler.proofs.peripheral.peripheral.Tie as tie
 use Rattle.handler.proofs.peripheral.peripheral.Reads as reads
 use Rattle.handler.proofs.peripheral.peripheral.Lts as lts
 use Rattle.memory.proofs.request.request.Reads as request-reads
+use Rattle.handler.proofs.peripheral.of_memory.Reads as of-memory-reads
 use Rattle.handler.proofs.peripheral.lights_request.Reads as lights-request-reads
 use Rattle.handler.proofs.peripheral.ram_request.Reads as ram-request-reads
 
--- src/peripheral.rt:74:13
 request-requires : tie.Need-request-requires
 request-requires c κs = search needs
 
--- src/peripheral.rt:75:9
+of-memory-requires : tie.Need-of-memory-requires
+of-memory-requires c κs = search needs
+
 same-length : tie.Need-same-length
 same-length c = search needs
 
--- src/peripheral.rt:75:9
 same-length-2 : tie.Need-same-length-2
 same-length-2 c = search needs
 
--- src/peripheral.rt:75:9
 returns : tie.Need-returns
 returns c =
-    let a = c .before .before .before .before .before .before .before .before .before .before .before .before .args in
+    let a = c .before .before .before .before .before .before .before .before .before .before .before .before .before .args in
     let st = state (a .node) (a .eeprom .now) (a .external .now) in
-    laid-within (eepromIs st) (memoryRequest Eeprom (a .pcmd) (a .pdata .now) (a .eeprom .now)) (a .out .now) (c .before .before .before .before .request .ensures)
-    ∙ ap (λ (x : Served State). layOut x (a .out .now)) (sym (perform-eeprom (a .pnum) (a .pcmd) (a .pdata .now) st (c .before .before .before .before .before .before .before .if1 .taken)))
+    laid-as (c .of-memory .ensures)
+    ∙ laid-within (eepromIs st) (memoryRequest Eeprom (a .pcmd) (a .pdata .now) (a .eeprom .now)) (a .out .now) (c .before .before .before .before .before .request .ensures)
+    ∙ ap (λ (x : Served State). layOut x (a .out .now)) (sym (perform-eeprom (a .pnum) (a .pcmd) (a .pdata .now) st (c .before .before .before .before .before .before .before .before .if1 .taken)))
 
--- src/peripheral.rt:82:13
 request-requires-2 : tie.Need-request-requires-2
 request-requires-2 c κs = search needs
 
--- src/peripheral.rt:83:9
+of-memory-requires-2 : tie.Need-of-memory-requires-2
+of-memory-requires-2 c κs = search needs
+
 same-length-3 : tie.Need-same-length-3
 same-length-3 c = search needs
 
--- src/peripheral.rt:83:9
 same-length-4 : tie.Need-same-length-4
 same-length-4 c = search needs
 
--- src/peripheral.rt:83:9
 returns-2 : tie.Need-returns-2
 returns-2 c =
-    let a = c .before .before .before .before .before .before .before .before .before .before .before .before .before .args in
+    let a = c .before .before .before .before .before .before .before .before .before .before .before .before .before .before .args in
     let st = state (a .node) (a .eeprom .now) (a .external .now) in
-    laid-within (externalIs st) (memoryRequest External (a .pcmd) (a .pdata .now) (a .external .now)) (a .out .now) (c .before .before .before .before .request2 .ensures)
-    ∙ ap (λ (x : Served State). layOut x (a .out .now)) (sym (perform-external (a .pnum) (a .pcmd) (a .pdata .now) st (c .before .before .before .before .before .before .before .if2 .taken)))
+    laid-as (c .of-memory2 .ensures)
+    ∙ laid-within (externalIs st) (memoryRequest External (a .pcmd) (a .pdata .now) (a .external .now)) (a .out .now) (c .before .before .before .before .before .request2 .ensures)
+    ∙ ap (λ (x : Served State). layOut x (a .out .now)) (sym (perform-external (a .pnum) (a .pcmd) (a .pdata .now) st (c .before .before .before .before .before .before .before .before .if2 .taken)))
 
--- src/peripheral.rt:90:9
 ram-request-requires : tie.Need-ram-request-requires
 ram-request-requires c κs = search needs
 
--- src/peripheral.rt:90:9
 same-length-5 : tie.Need-same-length-5
 same-length-5 c = search needs
 
--- src/peripheral.rt:90:9
 returns-3 : tie.Need-returns-3
 returns-3 c =
     let a = c .before .before .before .before .before .before .before .before .before .before .before .args in
@@ -72,15 +70,12 @@ returns-3 c =
     laid-within (nodeIs st) (within (withRam (a .node)) (memoryRequest Ram (a .pcmd) (a .pdata .now) (a .node .ram))) (a .out .now) (c .before .before .ram-request .ensures)
     ∙ ap (λ (x : Served State). layOut x (a .out .now)) (sym (perform-ram (a .pnum) (a .pcmd) (a .pdata .now) st (c .before .before .before .before .if3 .taken)))
 
--- src/peripheral.rt:93:9
 lights-request-requires : tie.Need-lights-request-requires
 lights-request-requires c κs = search needs
 
--- src/peripheral.rt:93:9
 same-length-6 : tie.Need-same-length-6
 same-length-6 c = search needs
 
--- src/peripheral.rt:93:9
 returns-4 : tie.Need-returns-4
 returns-4 c =
     let a = c .before .before .before .before .before .before .before .before .before .before .before .before .args in
@@ -88,7 +83,6 @@ returns-4 c =
     laid-within (nodeIs st) (within (withLamps (a .node)) (lightsRequest (a .node .settings) (a .pcmd) (a .pdata .now) (a .node .lamps))) (a .out .now) (c .before .before .lights-request .ensures)
     ∙ ap (λ (x : Served State). layOut x (a .out .now)) (sym (perform-lights (a .pnum) (a .pcmd) (a .pdata .now) st (c .before .before .before .before .if4 .taken)))
 
--- src/peripheral.rt:60:1
 returns-5 : tie.Need-returns-5
 returns-5 c =
     let a = c .before .before .before .before .before .before .before .before .args in
@@ -100,10 +94,12 @@ peripheral-spec =
     tie.close
     (tie.spec
     request-requires
+    of-memory-requires
     same-length
     same-length-2
     returns
     request-requires-2
+    of-memory-requires-2
     same-length-3
     same-length-4
     returns-2

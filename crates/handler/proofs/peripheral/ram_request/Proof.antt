@@ -9,19 +9,15 @@ use Rattle.handler.proofs.peripheral.ram_request.Reads as reads
 use Rattle.handler.proofs.peripheral.ram_request.Lts as lts
 use Rattle.memory.proofs.request.request.Reads as request-reads
 
--- src/peripheral.rt:31:55
 slice-aggregate-request : tie.Need-slice-aggregate-request
 slice-aggregate-request c = search needs
 
--- src/peripheral.rt:31:9
 request-requires : tie.Need-request-requires
 request-requires c κs = search needs
 
--- src/peripheral.rt:25:1
 same-length : tie.Need-same-length
 same-length c = search needs
 
--- src/peripheral.rt:25:1
 returns : tie.Need-returns
 returns c =
     let a = c .before .before .before .before .before .before .before .before .before .args in

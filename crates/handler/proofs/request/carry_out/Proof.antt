@@ -8,69 +8,56 @@ use Rattle.handler.proofs.request.carry_out.Tie as tie
 use Rattle.handler.proofs.request.carry_out.Reads as reads
 use Rattle.handler.proofs.request.carry_out.Lts as lts
 use Rattle.handler.proofs.entries.for_node.Reads as for-node-reads
-use Rattle.handler.proofs.os.failed.Reads as failed-reads
+use Rattle.handler.proofs.os.without_data.Reads as without-data-reads
 use Rattle.handler.proofs.os.os.Reads as os-reads
 use Rattle.handler.proofs.peripheral.peripheral.Reads as peripheral-reads
 
--- src/request.rt:45:8
 for-node-requires : tie.Need-for-node-requires
 for-node-requires c κs = search needs
 
--- src/request.rt:47:13
 os-requires : tie.Need-os-requires
 os-requires c κs = search needs
 
--- src/request.rt:47:13
 same-length : tie.Need-same-length
 same-length c = search needs
 
--- src/request.rt:47:13
 same-length-2 : tie.Need-same-length-2
 same-length-2 c = search needs
 
--- src/request.rt:47:13
 same-length-3 : tie.Need-same-length-3
 same-length-3 c = search needs
 
--- src/request.rt:47:13
 returns : tie.Need-returns
 returns c =
     let a = c .before .before .before .before .before .before .before .before .before .before .before .before .before .before .before .before .before .before .before .args in
     c .before .before .before .before .before .before .os .ensures
     ∙ ap (λ (x : Outcome). leave x (a .out .now)) (sym (carry-os (item (a .header .pnum) (a .header .pcmd) (a .header .hwpid) (a .pdata .now)) (state (a .node) (a .eeprom .now) (a .external .now)) (sym (c .before .before .before .before .before .before .before .before .before .before .before .before .before .for-node .ensures) ∙ c .before .before .before .before .before .before .before .before .before .before .before .before .if1 .taken) (c .before .before .before .before .before .before .before .before .before .before .if2 .taken)))
 
--- src/request.rt:49:13
 peripheral-requires : tie.Need-peripheral-requires
 peripheral-requires c κs = search needs
 
--- src/request.rt:51:9
 same-length-4 : tie.Need-same-length-4
 same-length-4 c = search needs
 
--- src/request.rt:51:9
 same-length-5 : tie.Need-same-length-5
 same-length-5 c = search needs
 
--- src/request.rt:51:9
 same-length-6 : tie.Need-same-length-6
 same-length-6 c = search needs
 
--- src/request.rt:51:9
 returns-2 : tie.Need-returns-2
 returns-2 c =
     let a = c .before .before .before .before .before .before .before .before .before .before .before .before .before .before .before .before .before .before .before .before .args in
     left-plain (perform (a .header .pnum) (a .header .pcmd) (a .pdata .now) (state (a .node) (a .eeprom .now) (a .external .now))) (a .out .now) (c .before .before .before .before .before .before .before .peripheral .ensures)
     ∙ ap (λ (x : Outcome). leave x (a .out .now)) (sym (carry-peripheral (item (a .header .pnum) (a .header .pcmd) (a .header .hwpid) (a .pdata .now)) (state (a .node) (a .eeprom .now) (a .external .now)) (sym (c .before .before .before .before .before .before .before .before .before .before .before .before .before .before .for-node .ensures) ∙ c .before .before .before .before .before .before .before .before .before .before .before .before .before .if1 .taken) (c .before .before .before .before .before .before .before .before .before .before .before .if2 .left)))
 
--- src/request.rt:58:5
-failed-requires : tie.Need-failed-requires
-failed-requires c κs = search needs
+without-data-requires : tie.Need-without-data-requires
+without-data-requires c κs = search needs
 
--- src/request.rt:32:1
 returns-3 : tie.Need-returns-3
 returns-3 c =
     let a = c .before .before .before .before .before .before .before .before .args in
-    left-as (c .failed .ensures)
+    left-as (c .without-data .ensures)
     ∙ ap (λ (x : Outcome). leave x (a .out .now)) (sym (carry-other (item (a .header .pnum) (a .header .pcmd) (a .header .hwpid) (a .pdata .now)) (state (a .node) (a .eeprom .now) (a .external .now)) (sym (c .before .before .for-node .ensures) ∙ c .before .if1 .left)))
 
 pub carry-out-spec : {M : Type 1} → statement M
@@ -88,5 +75,5 @@ carry-out-spec =
     same-length-5
     same-length-6
     returns-2
-    failed-requires
+    without-data-requires
     returns-3)

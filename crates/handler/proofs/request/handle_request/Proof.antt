@@ -12,22 +12,18 @@ use Rattle.handler.proofs.request.request_refusal.Reads as request-refu
 use Rattle.handler.proofs.request.take_frame.Reads as take-frame-reads
 use Rattle.handler.proofs.answer.unanswered.Reads as unanswered-reads
 
--- src/request.rt:192:9
 request-refusal-requires : tie.Need-request-refusal-requires
 request-refusal-requires c κs = search needs
 
--- src/request.rt:200:9
 unanswered-requires : tie.Need-unanswered-requires
 unanswered-requires c κs = search needs
 
--- src/request.rt:200:9
 returns : tie.Need-returns
 returns c =
     let a = c .before .before .before .before .before .before .before .args in
     ap (λ (r : RequestAnswer). called r (a .eeprom .now) (a .external .now) (a .response .now)) (c .unanswered .ensures)
     ∙ call-refused (a .frame .now) (state (a .node) (a .eeprom .now) (a .external .now)) (a .response .now) (c .before .before .request-refusal .ensures) (c .before .if1 .taken)
 
--- src/request.rt:202:5
 take-frame-requires : tie.Need-take-frame-requires
 take-frame-requires c κs =
     let a = c .before .before .before .before .before .before .before .before .before .args in
@@ -35,19 +31,15 @@ take-frame-requires c κs =
     let k = refusal-none (a .node) (length (a .frame .now)) (length (a .eeprom .now)) (length (a .external .now)) (length (a .response .now)) z in
     (taken-rule (a .node) (a .eeprom .now) (a .external .now) (length (a .frame .now)) (length (a .response .now)) z, k .1, k .2)
 
--- src/request.rt:182:1
 same-length : tie.Need-same-length
 same-length c = search needs
 
--- src/request.rt:182:1
 same-length-2 : tie.Need-same-length-2
 same-length-2 c = search needs
 
--- src/request.rt:182:1
 same-length-3 : tie.Need-same-length-3
 same-length-3 c = search needs
 
--- src/request.rt:182:1
 returns-2 : tie.Need-returns-2
 returns-2 c =
     let a = c .before .before .before .before .before .before .before .before .before .before .before .before .before .before .before .before .args in

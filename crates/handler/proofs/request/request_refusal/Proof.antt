@@ -7,45 +7,44 @@ use Rattle.handler.proofs.request.request_refusal.Tie as tie
 use Rattle.handler.proofs.request.request_refusal.Reads as reads
 use Rattle.handler.proofs.request.request_refusal.Lts as lts
 use Rattle.dpa.proofs.frame.Frame.fits.Reads as fits-reads
+use Rattle.memory.proofs.block.size_of.Reads as size-of-reads
 use Rattle.node.proofs.record.node_ok.Reads as node-ok-reads
 
--- src/request.rt:162:9
 node-ok-requires : tie.Need-node-ok-requires
 node-ok-requires c κs = search needs
 
--- src/request.rt:163:9
 returns : tie.Need-returns
 unfolding requestRefusal
 returns c = simp (sym (c .before .node-ok .ensures) ∙ not-true _ (c .if1 .taken))
 
--- src/request.rt:165:9
 fits-requires : tie.Need-fits-requires
 fits-requires c κs = search needs
 
--- src/request.rt:166:9
 returns-2 : tie.Need-returns-2
 unfolding requestRefusal
 returns-2 c = simp (sym (c .before .before .before .node-ok .ensures) ∙ not-false _ (c .before .before .if1 .left), sym (c .before .fits2 .ensures) ∙ not-true _ (c .if2 .taken))
 
--- src/request.rt:169:9
 returns-3 : tie.Need-returns-3
 unfolding requestRefusal
 returns-3 c = simp (sym (c .before .before .before .before .node-ok .ensures) ∙ not-false _ (c .before .before .before .if1 .left), sym (c .before .before .fits2 .ensures) ∙ not-false _ (c .before .if2 .left), lt-ltb _ _ (c .if3 .taken))
 
--- src/request.rt:172:9
+size-of-requires : tie.Need-size-of-requires
+size-of-requires c κs = search needs
+
 returns-4 : tie.Need-returns-4
 unfolding requestRefusal
-returns-4 c = simp (sym (c .before .before .before .before .before .node-ok .ensures) ∙ not-false _ (c .before .before .before .before .if1 .left), sym (c .before .before .before .fits2 .ensures) ∙ not-false _ (c .before .before .if2 .left), le-ltb _ _ (c .before .if3 .left), ne-eqb _ _ (c .if4 .taken))
+returns-4 c = simp (sym (c .before .before .before .before .before .before .node-ok .ensures) ∙ not-false _ (c .before .before .before .before .before .if1 .left), sym (c .before .before .before .before .fits2 .ensures) ∙ not-false _ (c .before .before .before .if2 .left), le-ltb _ _ (c .before .before .if3 .left), ne-eqb _ _ (λ q. c .if4 .taken (q ∙ sym (c .before .size-of .ensures .0))))
 
--- src/request.rt:175:9
+size-of-requires-2 : tie.Need-size-of-requires-2
+size-of-requires-2 c κs = search needs
+
 returns-5 : tie.Need-returns-5
 unfolding requestRefusal
-returns-5 c = simp (sym (c .before .before .before .before .before .before .node-ok .ensures) ∙ not-false _ (c .before .before .before .before .before .if1 .left), sym (c .before .before .before .before .fits2 .ensures) ∙ not-false _ (c .before .before .before .if2 .left), le-ltb _ _ (c .before .before .if3 .left), eq-eqb _ _ (c .before .if4 .left), ne-eqb _ _ (c .if5 .taken))
+returns-5 c = simp (sym (c .before .before .before .before .before .before .before .before .node-ok .ensures) ∙ not-false _ (c .before .before .before .before .before .before .before .if1 .left), sym (c .before .before .before .before .before .before .fits2 .ensures) ∙ not-false _ (c .before .before .before .before .before .if2 .left), le-ltb _ _ (c .before .before .before .before .if3 .left), eq-eqb _ _ (c .before .before .if4 .left ∙ c .before .before .before .size-of .ensures .0), ne-eqb _ _ (λ q. c .if5 .taken (q ∙ sym (c .before .size-of2 .ensures .0))))
 
--- src/request.rt:159:1
 returns-6 : tie.Need-returns-6
 unfolding requestRefusal
-returns-6 c = simp (sym (c .before .before .before .before .before .before .node-ok .ensures) ∙ not-false _ (c .before .before .before .before .before .if1 .left), sym (c .before .before .before .before .fits2 .ensures) ∙ not-false _ (c .before .before .before .if2 .left), le-ltb _ _ (c .before .before .if3 .left), eq-eqb _ _ (c .before .if4 .left), eq-eqb _ _ (c .if5 .left))
+returns-6 c = simp (sym (c .before .before .before .before .before .before .before .before .node-ok .ensures) ∙ not-false _ (c .before .before .before .before .before .before .before .if1 .left), sym (c .before .before .before .before .before .before .fits2 .ensures) ∙ not-false _ (c .before .before .before .before .before .if2 .left), le-ltb _ _ (c .before .before .before .before .if3 .left), eq-eqb _ _ (c .before .before .if4 .left ∙ c .before .before .before .size-of .ensures .0), eq-eqb _ _ (c .if5 .left ∙ c .before .size-of2 .ensures .0))
 
 pub request-refusal-spec : {M : Type 1} → statement M
 request-refusal-spec =
@@ -56,6 +55,8 @@ request-refusal-spec =
     fits-requires
     returns-2
     returns-3
+    size-of-requires
     returns-4
+    size-of-requires-2
     returns-5
     returns-6)

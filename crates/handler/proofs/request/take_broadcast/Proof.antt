@@ -7,23 +7,18 @@ use Rattle.handler.proofs.request.take_broadcast.Reads as reads
 use Rattle.handler.proofs.request.take_broadcast.Lts as lts
 use Rattle.handler.proofs.request.carry_out.Reads as carry-out-reads
 
--- src/request.rt:74:65
 slice-aggregate-carry-out : tie.Need-slice-aggregate-carry-out
 slice-aggregate-carry-out c = search needs
 
--- src/request.rt:74:9
 carry-out-requires : tie.Need-carry-out-requires
 carry-out-requires c κs = search needs
 
--- src/request.rt:62:1
 same-length : tie.Need-same-length
 same-length c = search needs
 
--- src/request.rt:62:1
 same-length-2 : tie.Need-same-length-2
 same-length-2 c = search needs
 
--- src/request.rt:62:1
 returns : tie.Need-returns
 returns c = λ o. ap (λ (l : Left). silent (l .after) 0 (l .load) o) (c .before .before .before .before .before .before .carry-out .ensures)
 

@@ -14,35 +14,27 @@ use Rattle.handler.proofs.request.take_broadcast.Reads as take-broadcas
 use Rattle.handler.proofs.request.take_own.Reads as take-own-reads
 use Rattle.handler.proofs.answer.unanswered.Reads as unanswered-reads
 
--- src/request.rt:130:9
 read-requires : tie.Need-read-requires
 read-requires c κs = search needs
 
--- src/request.rt:132:45
 sub-take-broadcast : tie.Need-sub-take-broadcast
 sub-take-broadcast c = search needs
 
--- src/request.rt:132:45
 part-take-broadcast-start : tie.Need-part-take-broadcast-start
 part-take-broadcast-start c = search needs
 
--- src/request.rt:132:45
 part-take-broadcast-end : tie.Need-part-take-broadcast-end
 part-take-broadcast-end c = search needs
 
--- src/request.rt:132:9
 take-broadcast-requires : tie.Need-take-broadcast-requires
 take-broadcast-requires c κs = search needs
 
--- src/request.rt:132:9
 same-length : tie.Need-same-length
 same-length c = search needs
 
--- src/request.rt:132:9
 same-length-2 : tie.Need-same-length-2
 same-length-2 c = search needs
 
--- src/request.rt:132:9
 returns : tie.Need-returns
 returns c =
     let a = c .before .before .before .before .before .before .before .before .before .before .before .before .before .before .before .args in
@@ -51,35 +43,27 @@ returns c =
     ∙ ap (λ (i : Item). broadcast (carryOut i st) (a .response .now)) (frame-item (a .frame .now) (c .before .before .before .before .before .before .before .before .before .before .read .ensures))
     ∙ sym (taken-broadcast (a .frame .now) st (a .response .now) (sym (ap (λ (h : Frame). h .nadr) (c .before .before .before .before .before .before .before .before .before .before .read .ensures)) ∙ c .before .before .before .before .before .before .before .before .if1 .taken))
 
--- src/request.rt:138:13
 sub-take-own : tie.Need-sub-take-own
 sub-take-own c = search needs
 
--- src/request.rt:138:13
 part-take-own-start : tie.Need-part-take-own-start
 part-take-own-start c = search needs
 
--- src/request.rt:138:13
 part-take-own-end : tie.Need-part-take-own-end
 part-take-own-end c = search needs
 
--- src/request.rt:135:9
 take-own-requires : tie.Need-take-own-requires
 take-own-requires c κs = search needs
 
--- src/request.rt:135:9
 same-length-3 : tie.Need-same-length-3
 same-length-3 c = search needs
 
--- src/request.rt:135:9
 same-length-4 : tie.Need-same-length-4
 same-length-4 c = search needs
 
--- src/request.rt:135:9
 same-length-5 : tie.Need-same-length-5
 same-length-5 c = search needs
 
--- src/request.rt:135:9
 returns-2 : tie.Need-returns-2
 returns-2 c =
     let a = c .before .before .before .before .before .before .before .before .before .before .before .before .before .before .before .before .before .before .before .before .before .args in
@@ -88,11 +72,9 @@ returns-2 c =
     ∙ ap (λ (i : Item). respond (a .node .settings) i (carryOut i st) (a .response .now)) (frame-item (a .frame .now) (c .before .before .before .before .before .before .before .before .before .before .before .before .before .before .before .before .read .ensures))
     ∙ sym (taken-own (a .frame .now) st (a .response .now) (λ z. c .before .before .before .before .before .before .before .before .before .before .before .before .before .before .if1 .left (ap (λ (h : Frame). h .nadr) (c .before .before .before .before .before .before .before .before .before .before .before .before .before .before .before .before .read .ensures) ∙ z)) (sym (ap (λ (h : Frame). h .nadr) (c .before .before .before .before .before .before .before .before .before .before .before .before .before .before .before .before .read .ensures)) ∙ c .before .before .before .before .before .before .before .before .before .before .before .if2 .taken))
 
--- src/request.rt:144:5
 unanswered-requires : tie.Need-unanswered-requires
 unanswered-requires c κs = search needs
 
--- src/request.rt:119:1
 returns-3 : tie.Need-returns-3
 returns-3 c =
     let a = c .before .before .before .before .before .before .before .before .before .before .before .args in

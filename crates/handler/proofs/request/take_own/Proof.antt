@@ -12,27 +12,21 @@ use Rattle.handler.proofs.request.take_own.Lts as lts
 use Rattle.dpa.proofs.frame.write_header.Reads as write-header-reads
 use Rattle.handler.proofs.request.carry_out.Reads as carry-out-reads
 
--- src/request.rt:104:9
 sub-carry-out : tie.Need-sub-carry-out
 sub-carry-out c = search needs
 
--- src/request.rt:104:9
 part-carry-out-start : tie.Need-part-carry-out-start
 part-carry-out-start c = search needs
 
--- src/request.rt:104:9
 part-carry-out-end : tie.Need-part-carry-out-end
 part-carry-out-end c = search needs
 
--- src/request.rt:98:9
 carry-out-requires : tie.Need-carry-out-requires
 carry-out-requires c κs = search needs
 
--- src/request.rt:107:5
 write-header-requires : tie.Need-write-header-requires
 write-header-requires c κs = search needs
 
--- src/request.rt:112:17
 add-t16 : tie.Need-add-t16
 add-t16 c =
     let a = c .before .before .before .before .before .before .before .before .before .before .before .before .before .before .before .before .before .before .before .before .args in
@@ -41,19 +35,15 @@ add-t16 c =
     let z = carry-fits (item (a .header .pnum) (a .header .pcmd) (a .header .hwpid) (a .pdata .now)) (state (a .node) (a .eeprom .now) (a .external .now)) (p .0) in
     omega arith
 
--- src/request.rt:85:1
 same-length : tie.Need-same-length
 same-length c = search needs
 
--- src/request.rt:85:1
 same-length-2 : tie.Need-same-length-2
 same-length-2 c = search needs
 
--- src/request.rt:85:1
 same-length-3 : tie.Need-same-length-3
 same-length-3 c = search needs
 
--- src/request.rt:85:1
 returns : tie.Need-returns
 returns c =
     let a = c .before .before .before .before .before .before .before .before .before .before .before .before .before .before .before .before .before .before .before .before .args in
