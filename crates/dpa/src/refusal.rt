@@ -10,7 +10,7 @@ pub const RESPONSE: u8 = 3;
 pub const MEMORY: u8 = 4;
 // More PData than a frame carries.
 pub const PDATA: u8 = 5;
-// A view of something other than the two lent memories.
+// A view names neither memory.
 pub const VIEW: u8 = 10;
 // A view over more bytes than one request moves.
 pub const BLOCK: u8 = 15;
