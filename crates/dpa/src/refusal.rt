@@ -10,7 +10,15 @@ pub const RESPONSE: u8 = 3;
 pub const MEMORY: u8 = 4;
 // More PData than a frame carries.
 pub const PDATA: u8 = 5;
-// A view names neither memory.
+// The bytes are no scene book.
+pub const BOOK: u8 = 6;
+// The book has no scene of that number.
+pub const SCENE: u8 = 7;
+// The scene has a bad step; its number is answered too.
+pub const STEP: u8 = 8;
+// No room for the longest compiled scene.
+pub const OUTPUT: u8 = 9;
+// A view of neither lent memory.
 pub const VIEW: u8 = 10;
 // A view over more bytes than one request moves.
 pub const BLOCK: u8 = 15;

@@ -15,55 +15,42 @@ Inv-loop bytes n i₀ t4 t5 i = (i ≤ n) × (n ≤ 64)
 abbrev μ-loop : tie.MeasureT-loop
 μ-loop bytes n i₀ t4 t5 i = n - i
 
--- src/main.rt:26:9
 returns : tie.Need-returns Inv-loop μ-loop
 returns c = search needs
 
--- src/main.rt:29:5
 loop-holds : tie.Need-loop-holds Inv-loop μ-loop
 loop-holds c = (omega arith, omega arith)
 
--- src/main.rt:30:14
 slice-aggregate-text : tie.Need-slice-aggregate-text Inv-loop μ-loop
 slice-aggregate-text c = search needs
 
--- src/main.rt:30:9
 text-requires : tie.Need-text-requires Inv-loop μ-loop
 text-requires c κs = search needs
 
--- src/main.rt:31:43
 element-copy-out-wide : tie.Need-element-copy-out-wide Inv-loop μ-loop
 element-copy-out-wide c = search needs
 
--- src/main.rt:31:38
 wide-requires : tie.Need-wide-requires Inv-loop μ-loop
 wide-requires c κs = search needs
 
--- src/main.rt:31:9
 print-hex-requires : tie.Need-print-hex-requires Inv-loop μ-loop
 print-hex-requires c κs = search needs
 
--- src/main.rt:32:9
 add-i : tie.Need-add-i Inv-loop μ-loop
 add-i c = search needs
 
--- src/main.rt:29:5
 loop-less : tie.Need-loop-less Inv-loop μ-loop
 loop-less c = omega arith
 
--- src/main.rt:29:5
 loop-again : tie.Need-loop-again Inv-loop μ-loop
 loop-again c = (omega arith, omega arith)
 
--- src/main.rt:34:10
 slice-aggregate-text-2 : tie.Need-slice-aggregate-text-2 Inv-loop μ-loop
 slice-aggregate-text-2 c = search needs
 
--- src/main.rt:34:5
 text-requires-2 : tie.Need-text-requires-2 Inv-loop μ-loop
 text-requires-2 c κs = search needs
 
--- src/main.rt:24:1
 returns-2 : tie.Need-returns-2 Inv-loop μ-loop
 returns-2 c = search needs
 

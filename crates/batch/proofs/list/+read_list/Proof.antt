@@ -40,64 +40,51 @@ sized : (t : ℕ) (c : read-list-lts.After-first (calls t) (read-list-at t) read
     → (5 ≤ c .first .given .0 .0) × (c .first .given .0 .0 ≤ length (c .before .before .before .before .args .rest .now))
 sized t c = entry-sized _ (first-is t c)
 
--- src/list.rt:21:9
 read-list-next-entry-requires : (t : ℕ) → read-list-lts.Need-next-entry-requires (calls t) (read-list-at t) read-list.Post
 read-list-next-entry-requires t c κs = tt
 
--- src/list.rt:22:23
 read-list-enum-known-first : (t : ℕ) → read-list-lts.Need-enum-known-first (calls t) (read-list-at t) read-list.Post
 read-list-enum-known-first t c = search needs
 
--- src/list.rt:23:27
 read-list-enum-known-first-2 : (t : ℕ) → read-list-lts.Need-enum-known-first-2 (calls t) (read-list-at t) read-list.Post
 read-list-enum-known-first-2 t c = search needs
 
--- src/list.rt:24:13
 read-list-returns : (t : ℕ) → read-list-lts.Need-returns (calls t) (read-list-at t) read-list.Post
 read-list-returns t c =
     sym (ap (λ (r : Reading). r .listed)
     (reading-as _ (sym (c .before .before .next-entry .ensures) ∙ end-left _ (c .before .match .keys2) (c .match2 .keys2))))
 
--- src/list.rt:26:9
 read-list-returns-2 : (t : ℕ) → read-list-lts.Need-returns-2 (calls t) (read-list-at t) read-list.Post
 read-list-returns-2 t c =
     sym (ap (λ (r : Reading). r .listed)
     (reading-as _ (sym (c .before .before .before .before .next-entry .ensures) ∙ c .before .first2 .given .1)))
 
--- src/list.rt:28:27
 read-list-sub-read-list : (t : ℕ) → read-list-lts.Need-sub-read-list (calls t) (read-list-at t) read-list.Post
 read-list-sub-read-list t c = let z = sized t (c .before) in omega arith
 
--- src/list.rt:28:27
 read-list-part-read-list-start : (t : ℕ) → read-list-lts.Need-part-read-list-start (calls t) (read-list-at t) read-list.Post
 read-list-part-read-list-start t c = let z = sized t (c .before) in omega arith
 
--- src/list.rt:28:27
 read-list-part-read-list-end : (t : ℕ) → read-list-lts.Need-part-read-list-end (calls t) (read-list-at t) read-list.Post
 read-list-part-read-list-end t c = search needs
 
--- src/list.rt:28:9
 read-list-read-list-requires : (t : ℕ) → read-list-lts.Need-read-list-requires (calls t) (read-list-at t) read-list.Post
 read-list-read-list-requires t c κs =
     let z = sized t (c .before .before) in
     (simp (length-take, length-drop) (omega arith), tt)
 
--- src/list.rt:29:26
 read-list-enum-known-after : (t : ℕ) → read-list-lts.Need-enum-known-after (calls t) (read-list-at t) read-list.Post
 read-list-enum-known-after t c = search needs
 
--- src/list.rt:30:9
 read-list-enum-told : (t : ℕ) → read-list-lts.Need-enum-told (calls t) (read-list-at t) read-list.Post
 read-list-enum-told t c = search needs
 
--- src/list.rt:30:9
 read-list-returns-3 : (t : ℕ) → read-list-lts.Need-returns-3 (calls t) (read-list-at t) read-list.Post
 read-list-returns-3 t c =
     let f = c .before .before .before .before .before in
     ap (further (f .first .given .0 .0)) (sym (c .enum-told .given .1))
     ∙ list-more _ (first-is t f) (c .before .before .read-list .ensures)
 
--- src/list.rt:34:13
 read-list-add-t10 : (t : ℕ) → read-list-lts.Need-add-t10 (calls t) (read-list-at t) read-list.Post
 read-list-add-t10 t c =
     let f = c .before .before .before .before .before .before in
@@ -108,7 +95,6 @@ read-list-add-t10 t c =
     let z = sized t f in
     omega arith
 
--- src/list.rt:18:1
 read-list-returns-4 : (t : ℕ) → read-list-lts.Need-returns-4 (calls t) (read-list-at t) read-list.Post
 read-list-returns-4 t c =
     let f = c .before .before .before .before .before .before in

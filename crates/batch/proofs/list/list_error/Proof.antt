@@ -4,19 +4,15 @@ use Rattle.batch.proofs.Faults.{broken-error, sound-error}
 use Rattle.batch.proofs.list.list_error.Statement.{statement}
 use Rattle.batch.proofs.list.list_error.Tie as tie
 
--- src/list.rt:40:26
 enum-told : tie.Need-enum-told
 enum-told c = search needs
 
--- src/list.rt:41:34
 enum-told-2 : tie.Need-enum-told-2
 enum-told-2 c = search needs
 
--- src/list.rt:36:1
 returns : tie.Need-returns
 returns c = sym (sound-error (c .enum-told .given .1))
 
--- src/list.rt:36:1
 returns-2 : tie.Need-returns-2
 returns-2 c = sym (broken-error (c .enum-told2 .given .1))
 

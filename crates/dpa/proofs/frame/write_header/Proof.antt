@@ -8,75 +8,57 @@ use Rattle.dpa.proofs.frame.write_header.Reads as reads
 use Rattle.dpa.proofs.frame.write_header.Lts as lts
 use Rattle.dpa.proofs.frame.Frame.header.Reads as header-reads
 
--- src/frame.rt:75:51
 add-header : tie.Need-add-header
 add-header c = search needs
 
--- src/frame.rt:75:13
 header-requires : tie.Need-header-requires
 header-requires c κs = search needs
 
--- src/frame.rt:76:19
 array-read-response : tie.Need-array-read-response
 array-read-response c = search needs
 
--- src/frame.rt:76:5
 slice-write-response : tie.Need-slice-write-response
 slice-write-response c = search needs
 
--- src/frame.rt:77:19
 array-read-response-2 : tie.Need-array-read-response-2
 array-read-response-2 c = search needs
 
--- src/frame.rt:77:5
 slice-write-response-2 : tie.Need-slice-write-response-2
 slice-write-response-2 c = simp length-set (omega arith)
 
--- src/frame.rt:78:19
 array-read-response-3 : tie.Need-array-read-response-3
 array-read-response-3 c = search needs
 
--- src/frame.rt:78:5
 slice-write-response-3 : tie.Need-slice-write-response-3
 slice-write-response-3 c = simp length-set (omega arith)
 
--- src/frame.rt:79:19
 array-read-response-4 : tie.Need-array-read-response-4
 array-read-response-4 c = search needs
 
--- src/frame.rt:79:5
 slice-write-response-4 : tie.Need-slice-write-response-4
 slice-write-response-4 c = simp length-set (omega arith)
 
--- src/frame.rt:80:19
 array-read-response-5 : tie.Need-array-read-response-5
 array-read-response-5 c = search needs
 
--- src/frame.rt:80:5
 slice-write-response-5 : tie.Need-slice-write-response-5
 slice-write-response-5 c = simp length-set (omega arith)
 
--- src/frame.rt:81:19
 array-read-response-6 : tie.Need-array-read-response-6
 array-read-response-6 c = search needs
 
--- src/frame.rt:81:5
 slice-write-response-6 : tie.Need-slice-write-response-6
 slice-write-response-6 c = simp length-set (omega arith)
 
--- src/frame.rt:82:5
 slice-write-response-7 : tie.Need-slice-write-response-7
 slice-write-response-7 c = simp length-set (omega arith)
 
--- src/frame.rt:83:5
 slice-write-response-8 : tie.Need-slice-write-response-8
 slice-write-response-8 c = simp length-set (omega arith)
 
--- src/frame.rt:71:1
 same-length : tie.Need-same-length
 same-length c = simp length-set
 
--- src/frame.rt:71:1
 returns : tie.Need-returns
 returns c =
     let a = c .before .before .args in

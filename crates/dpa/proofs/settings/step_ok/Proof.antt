@@ -7,16 +7,13 @@ use Rattle.dpa.proofs.settings.step_ok.Tie as tie
 use Rattle.dpa.proofs.settings.step_ok.Reads as reads
 use Rattle.dpa.proofs.settings.step_ok.Lts as lts
 
--- src/settings.rt:19:9
 returns : tie.Need-returns
 unfolding stepOk
 returns c = simp (c .if1 .taken)
 
--- src/settings.rt:21:5
 rem-result : tie.Need-rem-result
 rem-result c = search needs
 
--- src/settings.rt:15:1
 returns-2 : tie.Need-returns-2
 returns-2 c = simp (step-divides (c .before .args .step) (c .before .fits .step .fits), ne-eqb _ _ (c .if1 .left))
 

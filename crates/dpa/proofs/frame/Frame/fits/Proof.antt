@@ -5,12 +5,10 @@ use Rattle.dpa.proofs.frame.Frame.fits.Tie as tie
 use Rattle.dpa.proofs.frame.Frame.fits.Reads as reads
 use Rattle.dpa.proofs.frame.Frame.fits.Lts as lts
 
--- src/frame.rt:64:13
 returns : tie.Need-returns
 unfolding frameFits
 returns c = simp (lt-leb _ _ (c .if1 .taken))
 
--- src/frame.rt:60:5
 returns-2 : tie.Need-returns-2
 unfolding frameFits
 returns-2 c = simp (le-leb _ _ (c .if1 .left))

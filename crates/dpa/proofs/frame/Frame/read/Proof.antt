@@ -5,39 +5,30 @@ use Rattle.dpa.proofs.frame.Frame.read.Reads as reads
 use Rattle.dpa.proofs.frame.Frame.read.Lts as lts
 use Rattle.dpa.proofs.number.word_of.Reads as word-of-reads
 
--- src/frame.rt:52:27
 shared-slice-read-word-of : tie.Need-shared-slice-read-word-of
 shared-slice-read-word-of c = search needs
 
--- src/frame.rt:52:33
 shared-slice-read-word-of-2 : tie.Need-shared-slice-read-word-of-2
 shared-slice-read-word-of-2 c = search needs
 
--- src/frame.rt:52:19
 word-of-requires : tie.Need-word-of-requires
 word-of-requires c κs = search needs
 
--- src/frame.rt:53:19
 shared-slice-read-t8 : tie.Need-shared-slice-read-t8
 shared-slice-read-t8 c = search needs
 
--- src/frame.rt:54:19
 shared-slice-read-t10 : tie.Need-shared-slice-read-t10
 shared-slice-read-t10 c = search needs
 
--- src/frame.rt:55:28
 shared-slice-read-word-of-3 : tie.Need-shared-slice-read-word-of-3
 shared-slice-read-word-of-3 c = search needs
 
--- src/frame.rt:55:34
 shared-slice-read-word-of-4 : tie.Need-shared-slice-read-word-of-4
 shared-slice-read-word-of-4 c = search needs
 
--- src/frame.rt:55:20
 word-of-requires-2 : tie.Need-word-of-requires-2
 word-of-requires-2 c κs = search needs
 
--- src/frame.rt:47:5
 returns : tie.Need-returns
 returns c = cc
 
