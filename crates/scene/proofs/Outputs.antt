@@ -1,0 +1,145 @@
+-- The compile call's output: it is read back as the requests, it fits its buffer, and when nothing is refused.
+use mathlib.Core.Bool.{true, not, _&&_}
+use mathlib.Core.List.{List, [], _∷_, _++_, map, append-assoc}
+use mathlib.Core.Logic.{_↔_}
+use mathlib.Core.Option.{Option, none, some}
+use mathlib.Core.Path.{_≡_, refl, ap, _∙_}
+use Prim.Native.Nat.{ℕ, zero, suc, _+_, _*_, _≤_, _<_}
+use native.Mathlib.Omega.{arith}
+use lib.Dec.{eqb, leb}
+use lib.ListN.{length, getD, drop, length-append}
+use lib.Seq.{take-append-seam, drop-append-seam, take-at, drop-at}
+use borrow.Author.Tests.{leb-true, leb-false, lt-leb, le-ltb, not-false}
+use Rattle.dpa.proofs.Bool.{by-cond, and-left, and-right}
+use Rattle.dpa.specs.Frame.{longestFrame}
+use Rattle.batch.specs.Batch.{All}
+use Rattle.scene.specs.declared.book.Content.{Content}
+use Rattle.scene.specs.declared.step.Step.{Step}
+use Rattle.scene.specs.Book.{content, countOf, contentsOf, chained, bookOk, stepsIn, sceneOf}
+use Rattle.scene.specs.Step.{badFrom}
+use Rattle.scene.specs.Group.{joined}
+use Rattle.scene.specs.Compile.{joins, fills, entriesOf, batchesOf, requestBytes, requestsOf, compiled, entryLimit, listLimit}
+use Rattle.scene.specs.Call.{lengths, output, cut, requestsIn, outputRoom, Compiled, written, addressOk, compileSteps, compileOf}
+use Rattle.scene.proofs.Faults.{Good, no-bad}
+use Rattle.scene.proofs.Groups.{length-group}
+use Rattle.scene.proofs.Sizes.{Frame-sized, compiled-fit}
+
+-- ---- the requests are read back
+
+pub lengths-length : (rs : List (List ℕ)) → length (lengths rs) ≡ length rs
+lengths-length [] = refl
+lengths-length (r ∷ rs) = ap suc (lengths-length rs)
+
+cut-back : (rs : List (List ℕ)) (t : List ℕ) → cut (lengths rs) (joined rs ++ t) ≡ rs
+cut-back [] t = refl
+cut-back (r ∷ rs) t =
+    rw (append-assoc r (joined rs) t, take-append-seam r (joined rs ++ t), drop-append-seam r (joined rs ++ t), cut-back rs t)
+
+-- the output read back is the list of requests, whatever follows it
+pub requests-back : (rs : List (List ℕ)) (t : List ℕ) → requestsIn (output rs ++ t) ≡ rs
+unfolding requestsIn
+requests-back rs t =
+    rw (
+      append-assoc (lengths rs) (joined rs) t,
+      take-at (lengths rs) (joined rs ++ t) (length rs) (lengths-length rs),
+      drop-at (lengths rs) (joined rs ++ t) (length rs) (lengths-length rs),
+    )
+    (cut-back rs t)
+
+-- ---- the output fits its buffer
+
+pub output-length : (rs : List (List ℕ)) → length (output rs) ≡ suc (length rs + length (joined rs))
+output-length rs = omega (arith, length-append (lengths rs) (joined rs), lengths-length rs)
+
+joined-length : (rs : List (List ℕ)) → All Frame-sized rs → length (joined rs) ≤ longestFrame * length rs
+joined-length [] a = omega arith
+joined-length (r ∷ rs) a = omega (arith, a .0 .1, length-append r (joined rs), joined-length rs (a .1))
+
+pub map-length : {A B : Type 0} (f : A → B) (xs : List A) → length (map f xs) ≡ length xs
+map-length f [] = refl
+map-length f (x ∷ xs) = ap suc (map-length f xs)
+
+-- there are no more requests than steps
+pub requests-few : (entryMost listMost pcmd : ℕ) (front : List ℕ) (a h : ℕ) (ss : List Step)
+    → length (requestsOf entryMost listMost pcmd front a h ss) ≤ length ss
+requests-few entryMost listMost pcmd front a h ss =
+    omega (
+      arith,
+      map-length (requestBytes pcmd front a h) (batchesOf entryMost listMost h ss),
+      length-group (fills listMost h) (entriesOf entryMost ss),
+      length-group (joins entryMost) ss,
+    )
+
+-- at most 64 requests of at most 62 bytes
+pub output-fits : (a h : ℕ) (ss : List Step) → length ss ≤ 64 → All Good ss → length (output (compiled a h ss)) ≤ outputRoom
+output-fits a h ss l g =
+    let rs = compiled a h ss in
+    omega (arith, output-length rs, joined-length rs (compiled-fit a h ss g), requests-few entryLimit listLimit 0x05 [] a h ss)
+
+-- ---- a scene of a well-formed book has at most 64 steps
+
+chained-count : (start : ℕ) (cs : List Content) (end i : ℕ) → chained start cs end ≡ true → getD cs i (content 0 0) .steps ≤ 64
+unfolding chained
+chained-count start [] end i e = omega arith
+chained-count start (c ∷ cs) end zero e = leb-true _ _ (and-right (eqb (c .offset) start) _ (and-left _ _ e))
+chained-count start (c ∷ cs) end (suc i) e =
+    chained-count (start + 4 * c .steps) cs end i (and-right (eqb (c .offset) start && leb (c .steps) 64) _ e)
+
+pub steps-length : (n : ℕ) (bs : List ℕ) → length (stepsIn n bs) ≡ n
+steps-length zero bs = refl
+steps-length (suc n) bs = ap suc (steps-length n (drop 4 bs))
+
+pub scene-length : (b : List ℕ) (k : ℕ) → bookOk b ≡ true → length (sceneOf b k) ≤ 64
+unfolding bookOk sceneOf
+scene-length b k e =
+    let c = getD (contentsOf b) k (content 0 0) in
+    rw (steps-length (c .steps) (drop (c .offset) b))
+    (chained-count (1 + 3 * countOf b) (contentsOf b) (length b) k
+    (and-right (leb 1 (length b) && leb (countOf b) 16 && leb (1 + 3 * countOf b) (length b)) _ e))
+
+-- ---- what is refused
+
+-- a book and a scene's number without faults
+pub record Faultless (b : List ℕ) (k : ℕ) : Type 0 where
+  pub book : bookOk b ≡ true
+  pub number : k < countOf b
+  pub steps : badFrom 0 (sceneOf b k) ≡ none
+
+-- every output fits its buffer
+pub scene-fits : (b : List ℕ) (k a h : ℕ) → Faultless b k → length (output (compiled a h (sceneOf b k))) ≤ outputRoom
+scene-fits b k a h f = output-fits a h (sceneOf b k) (scene-length b k (f .book)) (no-bad (sceneOf b k) .0 (f .steps))
+
+module _ (b : List ℕ) (k a h : ℕ) (out : List ℕ) where
+  -- with address and room in range, a call without faults is not refused: it writes the output
+  pub written-whole : addressOk a ≡ true → outputRoom ≤ length out → Faultless b k
+      → compileOf b k a h out ≡ written (output (compiled a h (sceneOf b k))) out
+  unfolding compileOf
+  written-whole ad room f =
+      rw (ad, f .book, lt-leb (countOf b) k (f .number), f .steps, le-ltb (length out) outputRoom room)
+
+  abbrev Whole : Compiled → Type 0
+  Whole r = r .refusal ≡ 0 → Faultless b k
+
+  steps-whole : bookOk b ≡ true → k < countOf b → (o : Option ℕ) → badFrom 0 (sceneOf b k) ≡ o → Whole (compileSteps o a h (sceneOf b k) out)
+  steps-whole ok below (some j) e = λ z. absurd (omega arith)
+  steps-whole ok below none e = λ z. record { book = ok; number = below; steps = e }
+
+  -- a call that is not refused has no faults
+  pub refused-none : compileOf b k a h out .refusal ≡ 0 → Faultless b k
+  unfolding compileOf
+  refused-none =
+      by-cond Whole (not (addressOk a)) _ _ (λ _ z. absurd (omega arith))
+      (λ _. by-cond Whole (not (bookOk b)) _ _ (λ _ z. absurd (omega arith))
+      (λ ok. by-cond Whole (leb (countOf b) k) _ _ (λ _ z. absurd (omega arith))
+      (λ below. steps-whole (not-false _ ok) (leb-false _ _ below) (badFrom 0 (sceneOf b k)) refl)))
+
+  -- refusal 0 exactly without faults, where address and room are in range
+  pub refusal-exact : addressOk a ≡ true → outputRoom ≤ length out → (compileOf b k a h out .refusal ≡ 0) ↔ Faultless b k
+  refusal-exact ad room = (refused-none, λ f. ap (λ (r : Compiled). r .refusal) (written-whole ad room f))
+
+  -- and what it wrote is read back as the requests
+  pub buffer-back : addressOk a ≡ true → outputRoom ≤ length out → Faultless b k
+      → requestsIn (compileOf b k a h out .buffer) ≡ compiled a h (sceneOf b k)
+  buffer-back ad room f =
+      let rs = compiled a h (sceneOf b k) in
+      ap (λ (r : Compiled). requestsIn (r .buffer)) (written-whole ad room f) ∙ requests-back rs (drop (length (output rs)) out)

@@ -1,0 +1,77 @@
+-- What joining and filling make: entries whose steps are good and follow one another, and lists within their limit.
+use mathlib.Core.Bool.{true}
+use mathlib.Core.List.{List, [], _∷_, _++_}
+use mathlib.Core.Path.{_≡_}
+use Prim.Native.Nat.{ℕ, _+_, _≤_}
+use native.Mathlib.Omega.{arith}
+use lib.Dec.{eqb, ltb}
+use lib.ListN.{length, length-append}
+use borrow.Author.Tests.{leb-true}
+use Rattle.dpa.proofs.Bool.{by-test, and-left, and-right}
+use Rattle.batch.specs.Batch.{All, entriesBytes, entryBytes}
+use Rattle.scene.specs.declared.step.Step.{Step}
+use Rattle.scene.specs.Group.{joined}
+use Rattle.scene.specs.Compile.{powerBytes, entryData, lastOf, follows, joins, fills, listOf, entriesOf, batchesOf}
+use Rattle.scene.proofs.Groups.{all-snoc, joined-group, all-group}
+use Rattle.scene.proofs.Faults.{Good}
+
+-- each step is good and follows the one before
+abbrev pub Linked : Step → List Step → Type 0
+Linked p [] = Unit
+Linked p (s ∷ ss) = Good s × (follows p s ≡ true) × Linked s ss
+
+-- the steps of an entry whose PData is at most `most`
+abbrev pub Run : ℕ → List Step → Type 0
+Run most [] = ⊥
+Run most (s ∷ ss) = Good s × Linked s ss × (length (entryData s ss) ≤ most)
+
+linked-snoc : (p : Step) (ss : List Step) (x : Step) → Linked p ss → Good x → follows (lastOf p ss) x ≡ true → Linked p (ss ++ (x ∷ []))
+linked-snoc p [] x l g f = (g, f, tt)
+linked-snoc p (s ∷ ss) x l g f = (l .0, l .1, linked-snoc s ss x (l .2) g f)
+
+-- an entry of one step is short
+one-length : (s : Step) → length (entryData s []) ≤ 6
+unfolding entryData powerBytes
+one-length s =
+    by-test (ltb (s .kind) 3)
+    (λ e. rw e (by-test (eqb (s .time) 0) (λ t. rw t (omega arith)) (λ t. rw t (omega arith))))
+    (λ e. rw e (omega arith))
+
+module _ (entryMost : ℕ) (six : 6 ≤ entryMost) where
+  run-one : (s : Step) → Good s → Run entryMost (s ∷ [])
+  run-one s g = (g, tt, omega (arith, one-length s))
+
+  run-more : (cur : List Step) (x : Step) → Run entryMost cur → Good x → joins entryMost cur x ≡ true → Run entryMost (cur ++ (x ∷ []))
+  run-more [] x r g j = absurd r
+  run-more (p ∷ ps) x r g j =
+      (r .0, linked-snoc p ps x (r .1) g (and-left _ _ j), leb-true _ _ (and-right (follows (lastOf p ps) x) _ j))
+
+  -- joining makes such entries of good steps
+  pub runs : (ss : List Step) → All Good ss → All (Run entryMost) (entriesOf entryMost ss)
+  runs = all-group (joins entryMost) (Run entryMost) Good run-one run-more
+
+  module _ (listMost : ℕ) (one : entryMost + 6 ≤ listMost) (h : ℕ) where
+    -- the entries of a list that is at most `listMost`
+    pub record Filling (rs : List (List Step)) : Type 0 where
+      pub entries : All (Run entryMost) rs
+      pub size : length (listOf h rs) ≤ listMost
+
+    filling-one : (r : List Step) → Run entryMost r → Filling (r ∷ [])
+    unfolding entriesBytes entryBytes
+    filling-one [] r = absurd r
+    filling-one (s ∷ ss) r = record { entries = (r, tt); size = simp length-append (omega (arith, r .2)) }
+
+    filling-more : (rs : List (List Step)) (r : List Step) → Filling rs → Run entryMost r → fills listMost h rs r ≡ true → Filling (rs ++ (r ∷ []))
+    filling-more rs r b q f = record { entries = all-snoc (Run entryMost) rs r (b .entries) q; size = leb-true _ _ f }
+
+    -- filling makes such lists
+    pub fillings : (ss : List Step) → All Good ss → All Filling (batchesOf entryMost listMost h ss)
+    fillings ss a = all-group (fills listMost h) Filling (Run entryMost) filling-one filling-more (entriesOf entryMost ss) (runs ss a)
+
+-- joining keeps the steps' order and loses none
+pub joining-keeps : (entryMost : ℕ) (ss : List Step) → joined (entriesOf entryMost ss) ≡ ss
+joining-keeps entryMost = joined-group (joins entryMost)
+
+-- filling keeps the entries
+pub filling-keeps : (entryMost listMost h : ℕ) (ss : List Step) → joined (batchesOf entryMost listMost h ss) ≡ entriesOf entryMost ss
+filling-keeps entryMost listMost h ss = joined-group (fills listMost h) (entriesOf entryMost ss)

@@ -1,0 +1,90 @@
+-- How long entries, lists and requests are: each request fits a frame.
+use mathlib.Core.List.{List, [], _∷_, _++_, map, append-assoc, append-nil}
+use mathlib.Core.Path.{_≡_, refl, sym, ap, _∙_}
+use Prim.Native.Nat.{ℕ, _+_, _≤_}
+use native.Mathlib.Omega.{arith}
+use lib.Dec.{eqb, ltb}
+use lib.ListN.{length, length-append}
+use Rattle.dpa.proofs.Bool.{by-test}
+use Rattle.dpa.specs.Frame.{headerSize, pdataMax, longestFrame}
+use Rattle.batch.proofs.RoundTrip.{entry-length}
+use Rattle.batch.specs.Batch.{All, entryBytes, entriesBytes}
+use Rattle.scene.specs.declared.step.Step.{Step}
+use Rattle.scene.specs.Compile.{powerBytes, powersBytes, values, entryData, runData, itemOf, itemsOf, listOf, batchesOf, requestBytes, requestsOf, entryLimit, listLimit, compiled}
+use Rattle.scene.specs.Run.{powerSize, stepSize}
+use Rattle.scene.proofs.Faults.{Good}
+use Rattle.scene.proofs.Runs.{Filling, fillings}
+
+pub power-length : (s : Step) → length (powerBytes s) ≡ powerSize s
+unfolding powerBytes powerSize
+power-length s = by-test (eqb (s .time) 0) (λ e. rw e) (λ e. rw e)
+
+powers-length : (ss : List Step) (x : Step) → length (powersBytes (ss ++ (x ∷ []))) ≡ length (powersBytes ss) + powerSize x
+powers-length [] x = omega (arith, power-length x, length-append (powerBytes x) [])
+powers-length (s ∷ ss) x =
+    omega (arith, length-append (powerBytes s) (powersBytes (ss ++ (x ∷ []))), length-append (powerBytes s) (powersBytes ss), powers-length ss x)
+
+values-more : (ss : List Step) (x : Step) → length (values (ss ++ (x ∷ []))) ≡ length (values ss) + 1
+values-more [] x = refl
+values-more (s ∷ ss) x = omega (arith, values-more ss x)
+
+-- a step more in an entry
+pub data-length : (p : Step) (ps : List Step) (x : Step) → length (runData ((p ∷ ps) ++ (x ∷ []))) ≡ length (runData (p ∷ ps)) + stepSize (p .kind) x
+unfolding entryData stepSize
+data-length p ps x =
+    by-test (ltb (p .kind) 3)
+    (λ e. rw e (omega (arith, powers-length (p ∷ ps) x)))
+    (λ e. rw e (omega (arith, values-more (p ∷ ps) x)))
+
+-- an entry more in a list
+pub entries-snoc : (h : ℕ) (rs : List (List Step)) (r : List Step)
+    → entriesBytes (itemsOf h (rs ++ (r ∷ []))) ≡ entriesBytes (itemsOf h rs) ++ entryBytes (itemOf h r)
+unfolding entriesBytes
+entries-snoc h [] r = append-nil (entryBytes (itemOf h r))
+entries-snoc h (x ∷ rs) r =
+    ap (λ (t : List ℕ). entryBytes (itemOf h x) ++ t) (entries-snoc h rs r)
+    ∙ sym (append-assoc (entryBytes (itemOf h x)) (entriesBytes (itemsOf h rs)) (entryBytes (itemOf h r)))
+
+pub list-snoc : (h : ℕ) (rs : List (List Step)) (r : List Step)
+    → length (listOf h (rs ++ (r ∷ []))) ≡ length (listOf h rs) + (5 + length (runData r))
+list-snoc h rs r =
+    omega (
+      arith,
+      length-append (entriesBytes (itemsOf h (rs ++ (r ∷ [])))) (0 ∷ []),
+      length-append (entriesBytes (itemsOf h rs)) (0 ∷ []),
+      ap length (entries-snoc h rs r),
+      length-append (entriesBytes (itemsOf h rs)) (entryBytes (itemOf h r)),
+      entry-length (itemOf h r),
+    )
+
+pub list-one : (h : ℕ) (r : List Step) → length (listOf h (r ∷ [])) ≡ 6 + length (runData r)
+unfolding entriesBytes entryBytes
+list-one h r = simp length-append (omega arith)
+
+-- a header, bytes in front of the list, the list
+pub request-length : (pcmd : ℕ) (front : List ℕ) (a h : ℕ) (rs : List (List Step))
+    → length (requestBytes pcmd front a h rs) ≡ headerSize + (length front + length (listOf h rs))
+request-length pcmd front a h rs = omega (arith, length-append front (listOf h rs))
+
+abbrev pub Frame-sized : List ℕ → Type 0
+Frame-sized r = (headerSize ≤ length r) × (length r ≤ longestFrame)
+
+-- every request fits a frame where the bytes in front and the longest list do
+module _ (entryMost listMost : ℕ) (six : 6 ≤ entryMost) (one : entryMost + 6 ≤ listMost)
+    (pcmd : ℕ) (front : List ℕ) (fits : length front + listMost ≤ pdataMax) (a h : ℕ) where
+  pub filling-fits : (rs : List (List Step)) → Filling entryMost six listMost one h rs → Frame-sized (requestBytes pcmd front a h rs)
+  filling-fits rs b =
+      let n = request-length pcmd front a h rs in
+      let s = b .size in
+      (omega arith, omega arith)
+
+  pub requests-fit : (ss : List Step) → All Good ss → All Frame-sized (requestsOf entryMost listMost pcmd front a h ss)
+  requests-fit ss g = each (batchesOf entryMost listMost h ss) (fillings entryMost six listMost one h ss g)
+    where
+      each : (bs : List (List (List Step))) → All (Filling entryMost six listMost one h) bs → All Frame-sized (map (requestBytes pcmd front a h) bs)
+      each [] a = tt
+      each (b ∷ bs) a = (filling-fits b (a .0), each bs (a .1))
+
+-- with the paper's limits
+pub compiled-fit : (a h : ℕ) (ss : List Step) → All Good ss → All Frame-sized (compiled a h ss)
+compiled-fit a h = requests-fit entryLimit listLimit (omega arith) (omega arith) 0x05 [] (omega arith) a h

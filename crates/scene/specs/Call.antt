@@ -1,0 +1,76 @@
+-- Document 01, "Scenes" and "Frames": the compile call, its refusals and its output.
+use mathlib.Core.Bool.{Bool, cond, not, _&&_, _||_}
+use mathlib.Core.List.{List, [], _∷_, _++_}
+use mathlib.Core.Option.{Option, none, some}
+use Prim.Native.Nat.{ℕ, suc}
+use lib.Dec.{ltb, leb, eqb}
+use lib.ListN.{length, getD, take, drop}
+use Rattle.dpa.specs.Lists.{over}
+use Rattle.scene.specs.declared.compile.CompileAnswer.{CompileAnswer}
+use Rattle.scene.specs.declared.step.Step.{Step}
+use Rattle.scene.specs.Book.{countOf, bookOk, sceneOf}
+use Rattle.scene.specs.Step.{badFrom}
+use Rattle.scene.specs.Group.{joined}
+use Rattle.scene.specs.Compile.{compiled}
+
+-- ---- the output
+
+abbrev pub lengths : List (List ℕ) → List ℕ
+lengths [] = []
+lengths (r ∷ rs) = length r ∷ lengths rs
+
+-- request count, one length byte each, the requests
+abbrev pub output : List (List ℕ) → List ℕ
+output rs = length rs ∷ (lengths rs ++ joined rs)
+
+-- bytes cut into parts of these lengths
+abbrev pub cut : List ℕ → List ℕ → List (List ℕ)
+cut [] bs = []
+cut (n ∷ ns) bs = take n bs ∷ cut ns (drop n bs)
+
+-- the requests that an output holds (proofs/Outputs: `requests-back`)
+unfoldable pub requestsIn : List ℕ → List (List ℕ)
+requestsIn o = cut (take (getD o 0 0) (drop 1 o)) (drop (suc (getD o 0 0)) o)
+
+-- the output buffer has at least this many bytes (proofs/Outputs: `output-fits`)
+abbrev pub outputRoom : ℕ
+outputRoom = 4096
+
+-- ---- the call
+
+-- what it leaves: the refusal, a bad step's number, the output's length, and the buffer
+pub record Compiled : Type 0 where
+  pub refusal : ℕ
+  pub step : ℕ
+  pub length : ℕ
+  pub buffer : List ℕ
+
+abbrev pub compiledAs : CompileAnswer → List ℕ → Compiled
+compiledAs r out = record { refusal = r .refusal; step = r .step; length = r .length; buffer = out }
+
+-- refused: nothing is written
+abbrev pub refusedAt : ℕ → ℕ → List ℕ → Compiled
+refusedAt r s out = record { refusal = r; step = s; length = 0; buffer = out }
+
+-- an output at the front of the buffer; later bytes stay
+abbrev pub written : List ℕ → List ℕ → Compiled
+written o out = record { refusal = 0; step = 0; length = length o; buffer = over o out }
+
+-- a node's address, or 255
+unfoldable pub addressOk : ℕ → Bool
+addressOk a = eqb a 255 || (leb 1 a && leb a 239)
+
+-- steps of which this one is the first bad one
+abbrev pub compileSteps : Option ℕ → ℕ → ℕ → List Step → List ℕ → Compiled
+compileSteps (some j) a h ss out = refusedAt 8 j out
+compileSteps none a h ss out =
+    cond (ltb (length out) outputRoom) (refusedAt 9 0 out)
+    (written (output (compiled a h ss)) out)
+
+-- a book, a scene's number, an address, a profile, and the output buffer
+unfoldable pub compileOf : List ℕ → ℕ → ℕ → ℕ → List ℕ → Compiled
+compileOf b k a h out =
+    cond (not (addressOk a)) (refusedAt 1 0 out)
+    (cond (not (bookOk b)) (refusedAt 6 0 out)
+    (cond (leb (countOf b) k) (refusedAt 7 0 out)
+    (compileSteps (badFrom 0 (sceneOf b k)) a h (sceneOf b k) out)))
