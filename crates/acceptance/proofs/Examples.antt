@@ -1,0 +1,39 @@
+-- The worked examples, computed from the definitions.
+use mathlib.Core.Path.{refl}
+use lib.ListN.{length}
+use borrow.Author.Tests.{le-ltb}
+use Rattle.lights.specs.Bits.{bits, bitmap}
+use Rattle.lights.specs.Lamp.{actualLevel}
+use Rattle.lights.specs.Lights.{powerOk, timeOk, secondsOf, lampAfter, lampsAfter, levelsBefore, changeLamps, lightsRequest}
+use Rattle.checksum.specs.Sums.{around, addByte, sums}
+use Rattle.batch.specs.Batch.{entryBytes, entriesBytes, nextOf, readFrom}
+use Rattle.timing.specs.Slot.{baseOf, extraOf, slotOf, wayOf, earliestOf, sendOf}
+use Rattle.handler.specs.Request.{perform, forNode, batchOf, osOf, carryOut}
+use Rattle.scene.specs.Book.{chained, bookOk, sceneOf}
+use Rattle.scene.specs.Step.{stepTimeOk, lampFault, byteFault, stepFault}
+use Rattle.scene.specs.Compile.{powerBytes, entryData, pnumOf, pcmdOf, follows}
+use Rattle.scene.specs.Call.{addressOk, compileOf}
+use Rattle.acceptance.specs.Examples.{WorkedExamples}
+
+pub worked-examples : WorkedExamples
+unfolding bits bitmap actualLevel powerOk timeOk secondsOf lampAfter lampsAfter levelsBefore changeLamps lightsRequest around addByte sums nextOf readFrom baseOf extraOf slotOf wayOf earliestOf sendOf perform forNode batchOf osOf carryOut entryBytes entriesBytes chained bookOk sceneOf stepTimeOk lampFault byteFault stepFault powerBytes entryData pnumOf pcmdOf follows addressOk compileOf
+worked-examples =
+    record {
+      set-answers = refl;
+      raise-answers = refl;
+      raise-leaves = refl;
+      table-requested = refl;
+      table-actual = refl;
+      power-65 = refl;
+      power-64 = refl;
+      time-80 = refl;
+      sum-00 = refl;
+      sum-FF = refl;
+      sum-FE = refl;
+      sum-64-zeros = refl;
+      sum-20-zeros = refl;
+      batch-00 = refl;
+      batch-04-00 = refl;
+      wait-340 = refl;
+      book-compiles = λ out room. rw (le-ltb (length out) 4096 room);
+    }

@@ -1,0 +1,102 @@
+-- What the scene theorem asks for can be met: by a node with lit lamps, running timers and filled memories, and a book with
+-- steps of every kind. Then what the theorem says of them, in figures.
+use mathlib.Core.Path.{_≡_, refl, _∙_}
+use mathlib.Core.Logic.{inl, inr}
+use mathlib.Core.List.{List, [], _∷_, _++_}
+use Prim.Native.Nat.{ℕ}
+use native.Mathlib.Omega.{arith}
+use lib.ListN.{length, replicate}
+use Rattle.dpa.specs.Lists.{allBelow}
+use Rattle.dpa.specs.Settings.{stepOk, settingsOk}
+use Rattle.batch.specs.Batch.{entryBytes, entriesBytes}
+use Rattle.lights.specs.declared.lamp.Lamp.{Lamp}
+use Rattle.lights.specs.Lamp.{lamp, off, lampOk, lampZero, lampFits}
+use Rattle.node.specs.Node.{shapeOk, lampsOk, nodeOk}
+use Rattle.handler.specs.Request.{State, state}
+use Rattle.scene.specs.Book.{chained, bookOk, sceneOf}
+use Rattle.scene.specs.Step.{stepTimeOk, lampFault, byteFault, stepFault}
+use Rattle.scene.specs.Machine.{machineLevel, machineSeconds, machineLamps, machineEffect, machineStep, machine}
+use Rattle.scene.specs.Compile.{powerBytes, entryData, pnumOf, pcmdOf, follows, compiled}
+use Rattle.acceptance.specs.SceneTheorem.{Given, Obeyed, afterCalls}
+use Rattle.acceptance.proofs.Scenes.{scene-theorem}
+
+-- five lamps on step 10; the RAM's and the EEPROM's last bytes stand apart
+abbrev nodeWith : List Lamp → List ℕ → List ℕ → State
+nodeWith lamps ram eeprom =
+    state (record {
+      settings = record { address = 7; hwpid = 0x2471; «dpa_value» = 3; «lamp_count» = 5; step = 10 };
+      lamps = lamps ++ replicate 27 off;
+      ram = replicate 44 0xAA ++ ram;
+    }) (replicate 190 0x55 ++ eeprom) (replicate 16384 0x11)
+
+abbrev before : State
+before =
+    nodeWith (lamp 30 90 ∷ lamp 0 0 ∷ lamp 100 7620 ∷ lamp 15 0 ∷ lamp 1 1 ∷ [])
+    (1 ∷ 2 ∷ 3 ∷ 4 ∷ []) (5 ∷ 6 ∷ [])
+
+-- a book with an empty scene and one of ten steps: +80 at lamp 0; +5 for 2 minutes at lamp 2; lamp 2 to 0 for 5 seconds;
+-- lamps 3 and 31 to 40 for 7 seconds; -1 at lamp 4; two RAM bytes next to each other; two EEPROM bytes, the later one first
+abbrev book : List ℕ
+book =
+    0x02 ∷ 0x07 ∷ 0x00 ∷ 0x00 ∷ 0x07 ∷ 0x00 ∷ 0x0A
+    ∷ 1 ∷ 0 ∷ 80 ∷ 0 ∷ 1 ∷ 2 ∷ 5 ∷ 2 ∷ 0 ∷ 2 ∷ 0 ∷ 0x85
+    ∷ 0 ∷ 3 ∷ 40 ∷ 0x87 ∷ 0 ∷ 31 ∷ 40 ∷ 0x87 ∷ 2 ∷ 4 ∷ 1 ∷ 0
+    ∷ 3 ∷ 45 ∷ 0x21 ∷ 0 ∷ 3 ∷ 46 ∷ 0x22 ∷ 0 ∷ 4 ∷ 191 ∷ 0x23 ∷ 0 ∷ 4 ∷ 190 ∷ 0x24 ∷ 0 ∷ []
+
+-- a buffer for each call, no two alike
+abbrev buffers : ℕ → List ℕ
+buffers k = k ∷ replicate 63 0xEE
+
+-- every hypothesis holds, for its own address and profile
+pub given-own : Given before buffers book 1 7 0x2471
+unfolding nodeOk shapeOk settingsOk stepOk lampsOk allBelow lampFits lampOk lampZero bookOk chained sceneOf stepFault lampFault byteFault stepTimeOk
+given-own =
+    record {
+      sound = record { node-ok = refl; eeprom-size = refl; external-size = refl };
+      room = λ k. omega arith;
+      well-formed = refl;
+      known = omega arith;
+      no-fault = (refl, (refl, (refl, (refl, (refl, (refl, (refl, (refl, (refl, (refl, tt))))))))));
+      address = inl refl;
+      profile = inl refl;
+    }
+
+-- and for those of all nodes
+pub given-all : Given before buffers book 1 255 0xFFFF
+given-all =
+    let g = given-own in
+    record {
+      sound = g .sound;
+      room = g .room;
+      well-formed = g .well-formed;
+      known = g .known;
+      no-fault = g .no-fault;
+      address = inr refl;
+      profile = inr refl;
+    }
+
+-- it compiles to two requests
+pub two-requests : length (compiled 7 0x2471 (sceneOf book 1)) ≡ 2
+unfolding sceneOf powerBytes entryData pnumOf pcmdOf follows entryBytes entriesBytes
+two-requests = refl
+
+-- what the step machine leaves
+abbrev afterwards : State
+afterwards =
+    nodeWith (lamp 100 0 ∷ lamp 0 0 ∷ lamp 0 0 ∷ lamp 40 7 ∷ lamp 0 0 ∷ [])
+    (1 ∷ 0x21 ∷ 0x22 ∷ 4 ∷ []) (0x24 ∷ 0x23 ∷ [])
+
+machine-leaves : machine (sceneOf book 1) before ≡ afterwards
+unfolding sceneOf stepFault lampFault byteFault stepTimeOk machineLevel machineSeconds machineLamps machineEffect machineStep
+machine-leaves = refl
+
+-- both lists of requests succeed call by call
+pub obeyed-own : Obeyed 0x05 7 buffers (compiled 7 0x2471 (sceneOf book 1)) (sceneOf book 1) before
+obeyed-own = scene-theorem before buffers book 1 7 0x2471 given-own
+
+pub obeyed-all : Obeyed 0x05 255 buffers (compiled 255 0xFFFF (sceneOf book 1)) (sceneOf book 1) before
+obeyed-all = scene-theorem before buffers book 1 255 0xFFFF given-all
+
+-- and the node ends with these lamps, timers and bytes
+pub calls-leave : afterCalls buffers (compiled 7 0x2471 (sceneOf book 1)) before ≡ afterwards
+calls-leave = obeyed-own .final ∙ machine-leaves

@@ -1,0 +1,312 @@
+-- A lights request whose bitmap marks ascending lamps: each of these lamps takes its own entry, one after the other.
+use mathlib.Core.Path.{_≡_, refl, sym, ap, _∙_}
+use mathlib.Core.Bool.{true, cond}
+use mathlib.Core.List.{List, [], _∷_, _++_, map}
+use Prim.Native.Nat.{ℕ, zero, suc, _+_, _*_, _-_, _/_, _%_, _^_, _≤_, _<_}
+use native.Mathlib.Omega.{arith}
+use native.Mathlib.Nat.{le-refl, sub-zero, two-pow-succ}
+use lib.ListN.{length, getD, set}
+use lib.Dec.{ltb, eqb}
+use lib.Pow.{pow-mono}
+use borrow.Author.Tests.{lt-ltb, le-ltb, ltb-true, ltb-false, eqb-true, eqb-false, le-leb, ne-eqb}
+use Rattle.dpa.specs.Number.{low, high}
+use Rattle.dpa.specs.Lists.{Bytes}
+use Rattle.dpa.specs.Served.{served, within}
+use Rattle.dpa.specs.declared.settings.Settings.{Settings}
+use Rattle.dpa.proofs.Bool.{by-test}
+use Rattle.lights.specs.Bits.{bits, count, bitmap}
+use Rattle.lights.specs.Lamp.{off}
+use Rattle.lights.specs.Lights.{powerOk, timeOk, secondsOf, change, good, entries, newLevel, lampAfter, lampsAfter, levelsBefore, changeLamps, lightsRequest}
+use Rattle.lights.proofs.Bits.{bits-mask}
+use Rattle.lights.specs.declared.apply.Command.{Command}
+use Rattle.lights.specs.declared.apply.Command.the-variants.{Set, Raise, Lower}
+use Rattle.lights.specs.declared.lamp.Lamp.{Lamp}
+use Rattle.lights.specs.declared.entry.Change.{Change}
+use Rattle.node.specs.Node.{withLamps}
+use Rattle.handler.specs.Request.{State, nodeIs, perform}
+use Rattle.handler.proofs.Performing.{perform-lights}
+use Rattle.scene.specs.declared.step.Step.{Step}
+use Rattle.scene.specs.Step.{stepTimeOk}
+use Rattle.scene.specs.Machine.{machineLevel, machineSeconds, machineLamp, machineLamps, machineEffect, machineStep, machine}
+use Rattle.scene.specs.Compile.{bitmapOf, fourBytes, powerBytes, powersBytes, pnumOf, pcmdOf}
+use Rattle.scene.proofs.Faults.{Good, LampGood, lamp-good}
+
+-- ---- binary digits
+
+digit-one : (n m h : ℕ) → m ≡ 1 + 2 * h → bits (suc n) m ≡ 1 ∷ bits n h
+unfolding bits
+digit-one n m h e =
+    let q : m / 2 ≡ h = omega arith in
+    let r : m % 2 ≡ 1 = omega arith in
+    rw (q, r)
+
+digit-zero : (n m h : ℕ) → m ≡ 2 * h → bits (suc n) m ≡ 0 ∷ bits n h
+unfolding bits
+digit-zero n m h e =
+    let q : m / 2 ≡ h = omega arith in
+    let r : m % 2 ≡ 0 = omega arith in
+    rw (q, r)
+
+module _ {A : Type 0} (target : A → ℕ) where
+  -- targets that ascend from i on and are below 32
+  abbrev pub Ascending : ℕ → List A → Type 0
+  Ascending i [] = Unit {0}
+  Ascending i (s ∷ ss) = (i ≤ target s) × (target s < 32) × Ascending (suc (target s)) ss
+
+  -- the number whose one-digits are the targets; lamp i has the lowest digit
+  abbrev pub maskFrom : ℕ → List A → ℕ
+  maskFrom i [] = 0
+  maskFrom i (s ∷ ss) = 2 ^ (target s - i) + maskFrom i ss
+
+  mask-double : (i j : ℕ) (ss : List A) → i < j → Ascending j ss → maskFrom i ss ≡ 2 * maskFrom (suc i) ss
+  mask-double i j [] h a = refl
+  mask-double i j (s ∷ ss) h a =
+      let e : target s - i ≡ suc (target s - suc i) = omega (arith, a .0) in
+      rw (e, mask-double i (suc (target s)) ss (omega (arith, a .0)) (a .2)) (omega arith)
+
+  -- the digits from lamp i on
+  digits-none : (n i : ℕ) → bits (suc n) (maskFrom i []) ≡ 0 ∷ bits n (maskFrom (suc i) [])
+  digits-none n i = digit-zero n 0 0 refl
+
+  digits-first : (n i : ℕ) (s : A) (ss : List A) → target s ≡ i → Ascending i (s ∷ ss)
+      → bits (suc n) (maskFrom i (s ∷ ss)) ≡ 1 ∷ bits n (maskFrom (suc i) ss)
+  digits-first n i s ss e a =
+      let z : target s - i ≡ 0 = omega arith in
+      digit-one n (maskFrom i (s ∷ ss)) (maskFrom (suc i) ss) (rw (z, mask-double i (suc (target s)) ss (omega arith) (a .2)))
+
+  digits-later : (n i : ℕ) (s : A) (ss : List A) → i < target s → Ascending i (s ∷ ss)
+      → bits (suc n) (maskFrom i (s ∷ ss)) ≡ 0 ∷ bits n (maskFrom (suc i) (s ∷ ss))
+  digits-later n i s ss h a =
+      digit-zero n (maskFrom i (s ∷ ss)) (maskFrom (suc i) (s ∷ ss)) (mask-double i (target s) (s ∷ ss) h (le-refl (target s), a .1, a .2))
+
+  -- as many ones as targets
+  pub mask-count : (n i : ℕ) (ss : List A) → n + i ≡ 32 → Ascending i ss → count (bits n (maskFrom i ss)) ≡ length ss
+  unfolding bits
+  mask-count zero i [] h a = refl
+  mask-count zero i (s ∷ ss) h a = absurd (omega (arith, a .0, a .1))
+  mask-count (suc n) i [] h a = ap count (digits-none n i) ∙ mask-count n (suc i) [] (omega arith) tt
+  mask-count (suc n) i (s ∷ ss) h a =
+      by-test (eqb (target s) i)
+      (λ t. let e : target s ≡ i = eqb-true (target s) i t in
+      ap count (digits-first n i s ss e a) ∙ ap suc (mask-count n (suc i) ss (omega arith) (rw e at (a .2))))
+      (λ t. let l : i < target s = omega (arith, eqb-false (target s) i t, a .0) in
+      ap count (digits-later n i s ss l a) ∙ mask-count n (suc i) (s ∷ ss) (omega arith) (l, a .1, a .2))
+
+  -- thirty-two digits hold the mask
+  mask-room : (ss : List A) (j : ℕ) → Ascending j ss → j ≤ 32 → maskFrom 0 ss + 2 ^ j ≤ 2 ^ 32
+  mask-room [] j a h = omega (arith, pow-mono h)
+  mask-room (s ∷ ss) j a h =
+      rw (sub-zero (target s)) (omega (arith, pow-mono (a .0), mask-room ss (suc (target s)) (a .2) (a .1), two-pow-succ (target s)))
+
+  pub mask-max : (ss : List A) → Ascending 0 ss → maskFrom 0 ss < 2 ^ 32
+  mask-max ss a = omega (arith, mask-room ss 0 a (omega arith))
+
+  module _ (change : A → Change) (c : Command) where
+    -- lamp `target s - i` of n implemented ones takes its entry
+    abbrev pub taken : ℕ → ℕ → A → List Lamp → List Lamp
+    taken n i s ls =
+        cond (ltb (target s - i) n)
+        (set ls (target s - i) (lampAfter c (getD ls (target s - i) off) (change s .power) (change s .seconds)))
+        ls
+
+    -- the entries one after the other
+    abbrev pub inTurn : ℕ → ℕ → List A → List Lamp → List Lamp
+    inTurn n i [] ls = ls
+    inTurn n i (s ∷ ss) ls = inTurn n i ss (taken n i s ls)
+
+    taken-later : (n i : ℕ) (s : A) (l : Lamp) (ls : List Lamp) → i < target s → taken n i s (l ∷ ls) ≡ l ∷ taken (n - 1) (suc i) s ls
+    taken-later n i s l ls h =
+        let e : target s - i ≡ suc (target s - suc i) = omega arith in
+        by-test (ltb (target s - suc i) (n - 1))
+        (λ t. rw (e, t, lt-ltb (suc (target s - suc i)) n (omega (arith, ltb-true (target s - suc i) (n - 1) t))))
+        (λ t. rw (e, t, le-ltb (suc (target s - suc i)) n (omega (arith, ltb-false (target s - suc i) (n - 1) t))))
+
+    -- entries of later lamps leave the first
+    turns-later : (n i j : ℕ) (ss : List A) (l : Lamp) (ls : List Lamp) → i < j → Ascending j ss → inTurn n i ss (l ∷ ls) ≡ l ∷ inTurn (n - 1) (suc i) ss ls
+    turns-later n i j [] l ls h a = refl
+    turns-later n i j (s ∷ ss) l ls h a =
+        ap (inTurn n i ss) (taken-later n i s l ls (omega (arith, a .0)))
+        ∙ turns-later n i (suc (target s)) ss l (taken (n - 1) (suc i) s ls) (omega (arith, a .0)) (a .2)
+
+    -- all entries at once are the entries in turn
+    pub lamps-in-turn : (m n i : ℕ) (ss : List A) (ls : List Lamp) → m + i ≡ 32 → length ls ≡ m → Ascending i ss
+        → lampsAfter c n (bits m (maskFrom i ss)) (map change ss) ls ≡ inTurn n i ss ls
+    unfolding lampsAfter bits
+    lamps-in-turn zero n i [] ls h k a = refl
+    lamps-in-turn zero n i (s ∷ ss) ls h k a = absurd (omega (arith, a .0, a .1))
+    lamps-in-turn (suc m) n i ss [] h k a = absurd (omega arith)
+    lamps-in-turn (suc m) n i [] (l ∷ ls) h k a =
+        ap (λ (bs : List ℕ). lampsAfter c n bs [] (l ∷ ls)) (digits-none m i)
+        ∙ ap (λ (xs : List Lamp). l ∷ xs) (lamps-in-turn m (n - 1) (suc i) [] ls (omega arith) (omega arith) tt)
+    lamps-in-turn (suc m) n i (s ∷ ss) (l ∷ ls) h k a =
+        by-test (eqb (target s) i)
+        (λ t. let e : target s ≡ i = eqb-true (target s) i t in
+        let z : target s - i ≡ 0 = omega arith in
+        let x = cond (ltb 0 n) (lampAfter c l (change s .power) (change s .seconds)) l in
+        ap (λ (bs : List ℕ). lampsAfter c n bs (map change (s ∷ ss)) (l ∷ ls)) (digits-first m i s ss e a)
+        ∙ ap (λ (xs : List Lamp). x ∷ xs) (lamps-in-turn m (n - 1) (suc i) ss ls (omega arith) (omega arith) (rw e at (a .2)))
+        ∙ sym (turns-later n i (suc (target s)) ss x ls (omega arith) (a .2))
+        ∙ ap (inTurn n i ss) (sym (taken-first n i s l ls z)))
+        (λ t. let g : i < target s = omega (arith, eqb-false (target s) i t, a .0) in
+        ap (λ (bs : List ℕ). lampsAfter c n bs (map change (s ∷ ss)) (l ∷ ls)) (digits-later m i s ss g a)
+        ∙ ap (λ (xs : List Lamp). l ∷ xs) (lamps-in-turn m (n - 1) (suc i) (s ∷ ss) ls (omega arith) (omega arith) (g, a .1, a .2))
+        ∙ sym (turns-later n i (target s) (s ∷ ss) l ls g (le-refl (target s), a .1, a .2)))
+      where
+        taken-first : (n i : ℕ) (s : A) (l : Lamp) (ls : List Lamp) → target s - i ≡ 0
+            → taken n i s (l ∷ ls) ≡ cond (ltb 0 n) (lampAfter c l (change s .power) (change s .seconds)) l ∷ ls
+        taken-first n i s l ls z = rw z (by-test (ltb 0 n) (λ t. rw t) (λ t. rw t))
+
+-- ---- bytes
+
+four-bytes : (a b d e : ℕ) → a < 256 → b < 256 → d < 256 → e < 256 → Bytes (a ∷ b ∷ d ∷ e ∷ [])
+four-bytes a b d e p q r s zero = p
+four-bytes a b d e p q r s (suc zero) = q
+four-bytes a b d e p q r s (suc (suc zero)) = r
+four-bytes a b d e p q r s (suc (suc (suc zero))) = s
+four-bytes a b d e p q r s (suc (suc (suc (suc i)))) = omega arith
+
+-- the bitmap of a number's four bytes
+pub bitmap-bytes : (m a b d e : ℕ) (rest : List ℕ) → a < 256 → b < 256 → d < 256 → e < 256
+    → m ≡ a + 256 * b + 65536 * (d + 256 * e) → bitmap (a ∷ b ∷ d ∷ e ∷ rest) ≡ bits 32 m
+unfolding bitmap
+bitmap-bytes m a b d e rest p q r s w =
+    sym (bits-mask (a ∷ b ∷ d ∷ e ∷ []) (four-bytes a b d e p q r s)) ∙ ap (bits 32) (sym w)
+
+-- a level without a time, in front of entries that are all valid
+pub entry-level : (n v : ℕ) (xs : List ℕ) (es : List Change) → v ≤ 100 → entries n xs ≡ good es → entries (suc n) (v ∷ xs) ≡ good (change v 0 ∷ es)
+unfolding powerOk
+entry-level n v xs es h e =
+    let q : v % 128 ≡ v = omega arith in
+    rw (q, le-leb v 100 h, lt-ltb v 128 (omega arith), e)
+
+-- a level with a time
+pub entry-timed : (n v t : ℕ) (xs : List ℕ) (es : List Change) → v ≤ 100 → timeOk t ≡ true → entries n xs ≡ good es
+    → entries (suc n) ((v + 128) ∷ t ∷ xs) ≡ good (change v (secondsOf t) ∷ es)
+unfolding powerOk
+entry-timed n v t xs es h k e =
+    let q : (v + 128) % 128 ≡ v = omega arith in
+    rw (q, le-leb v 100 h, le-ltb (v + 128) 128 (omega arith), k, e)
+
+-- ---- steps
+
+-- good steps of a lamp kind, on lamps that ascend from i on
+abbrev pub LampRun : ℕ → ℕ → List Step → Type 0
+LampRun k i [] = Unit {0}
+LampRun k i (s ∷ ss) = Good s × (s .kind ≡ k) × (i ≤ s .target) × LampRun k (suc (s .target)) ss
+
+abbrev targetOf : Step → ℕ
+targetOf s = s .target
+
+-- the entry of a step
+abbrev changeOf : Step → Change
+changeOf s = change (s .value) (secondsOf (s .time))
+
+-- the command of a lamp kind
+abbrev commandOf : ℕ → Command
+commandOf zero = Set
+commandOf (suc zero) = Raise
+commandOf (suc (suc k)) = Lower
+
+-- the step machine's level and seconds are those of the request
+machine-level : (k level value : ℕ) → k < 3 → machineLevel k level value ≡ newLevel (commandOf k) level value
+unfolding machineLevel
+machine-level zero level value h = refl
+machine-level (suc zero) level value h = omega arith
+machine-level (suc (suc zero)) level value h = refl
+machine-level (suc (suc (suc k))) level value h = absurd (omega arith)
+
+machine-seconds : (time level : ℕ) → machineSeconds time level ≡ cond (eqb level 0) 0 (secondsOf time)
+unfolding machineSeconds secondsOf
+machine-seconds time level =
+    by-test (eqb time 0)
+    (λ t. let z : time ≡ 0 = eqb-true time 0 t in rw z (by-test (eqb level 0) (λ u. rw u) (λ u. rw u)))
+    (λ t. rw t)
+
+module _ (k : ℕ) (lamp : k < 3) where
+  parts : (s : Step) → Good s → s .kind ≡ k → LampGood s
+  parts s g e = lamp-good s g (omega arith)
+
+  machine-lamp : (s : Step) (l : Lamp) → Good s → s .kind ≡ k → machineLamp s l ≡ lampAfter (commandOf k) l (changeOf s .power) (changeOf s .seconds)
+  unfolding lampAfter
+  machine-lamp s l g e =
+      rw (e, machine-level k (l .level) (s .value) lamp, machine-seconds, ne-eqb (s .value) 127 (omega (arith, parts s g e .value-max)))
+
+  machine-lamp-step : (s : Step) (st : State) → Good s → s .kind ≡ k
+      → machineStep s st ≡ nodeIs st (withLamps (st .node) (taken targetOf changeOf (commandOf k) (st .node .settings .«lamp_count») 0 s (st .node .lamps)))
+  unfolding machineStep machineEffect machineLamps
+  machine-lamp-step s st g e =
+      rw (g, machine-lamp s (getD (st .node .lamps) (s .target) off) g e, e, lt-ltb k 3 lamp, sub-zero (s .target))
+
+  -- the step machine over such steps
+  pub machine-lamp-run : (i : ℕ) (ss : List Step) (st : State) → LampRun k i ss
+      → machine ss st ≡ nodeIs st (withLamps (st .node) (inTurn targetOf changeOf (commandOf k) (st .node .settings .«lamp_count») 0 ss (st .node .lamps)))
+  machine-lamp-run i [] st r = refl
+  machine-lamp-run i (s ∷ ss) st r = rw (machine-lamp-step s st (r .0) (r .1)) (machine-lamp-run (suc (s .target)) ss _ (r .3))
+
+  run-ascends : (i : ℕ) (ss : List Step) → LampRun k i ss → Ascending targetOf i ss
+  run-ascends i [] r = tt
+  run-ascends i (s ∷ ss) r = (r .2, parts s (r .0) (r .1) .target-max, run-ascends (suc (s .target)) ss (r .3))
+
+  bitmap-mask : (ss : List Step) → bitmapOf ss ≡ maskFrom targetOf 0 ss
+  bitmap-mask [] = refl
+  bitmap-mask (s ∷ ss) = rw (sub-zero (s .target), bitmap-mask ss)
+
+  -- the entry's bitmap has a one-digit for each step
+  run-digits : (ss : List Step) (rest : List ℕ) → LampRun k 0 ss → bitmap (fourBytes (bitmapOf ss) ++ rest) ≡ bits 32 (maskFrom targetOf 0 ss)
+  run-digits ss rest r =
+      let m = bitmapOf ss in
+      let max : m < 2 ^ 32 = omega (arith, bitmap-mask ss, mask-max targetOf ss (run-ascends 0 ss r)) in
+      bitmap-bytes m (low m) (low (high m)) (low (high (high m))) (low (high (high (high m)))) rest
+      (omega arith) (omega arith) (omega arith) (omega arith) (omega arith)
+      ∙ ap (bits 32) (bitmap-mask ss)
+
+  -- the power bytes are read as the steps' entries
+  run-entries : (i : ℕ) (ss : List Step) → LampRun k i ss → entries (length ss) (powersBytes ss) ≡ good (map changeOf ss)
+  unfolding powerBytes stepTimeOk timeOk secondsOf
+  run-entries i [] r = refl
+  run-entries i (s ∷ ss) r =
+      let fine = parts s (r .0) (r .1) in
+      let ih = run-entries (suc (s .target)) ss (r .3) in
+      by-test (eqb (s .time) 0)
+      (λ t. let z : s .time ≡ 0 = eqb-true (s .time) 0 t in
+      rw (t, z) (entry-level (length ss) (s .value) (powersBytes ss) (map changeOf ss) (fine .value-max) ih))
+      (λ t. rw t (entry-timed (length ss) (s .value) (s .time) (powersBytes ss) (map changeOf ss) (fine .value-max) (rw t at (fine .time-valid)) ih))
+
+  request-command : (s : Settings) (xs : List ℕ) (ls : List Lamp) → lightsRequest s k xs ls ≡ changeLamps s (commandOf k) xs ls
+  unfolding lightsRequest
+  request-command s xs ls = go k lamp
+    where
+      go : (j : ℕ) → j < 3 → lightsRequest s j xs ls ≡ changeLamps s (commandOf j) xs ls
+      go zero h = refl
+      go (suc zero) h = refl
+      go (suc (suc zero)) h = refl
+      go (suc (suc (suc j))) h = absurd (omega arith)
+
+  entry-lights : (d : List ℕ) (st : State)
+      → perform (pnumOf k) (pcmdOf k) d st
+      ≡ within (nodeIs st) (within (withLamps (st .node)) (changeLamps (st .node .settings) (commandOf k) d (st .node .lamps)))
+  unfolding pnumOf pcmdOf
+  entry-lights d st = rw (lt-ltb k 3 lamp) (perform-lights 0x71 k d st refl ∙ rw (request-command (st .node .settings) d (st .node .lamps)))
+
+  -- the request of such steps
+  request-run : (s : Settings) (ss : List Step) (ls : List Lamp) → length ls ≡ 32 → LampRun k 0 ss
+      → changeLamps s (commandOf k) (fourBytes (bitmapOf ss) ++ powersBytes ss) ls
+      ≡ served (inTurn targetOf changeOf (commandOf k) (s .«lamp_count») 0 ss ls) 0 (levelsBefore s (s .«lamp_count») (bits 32 (maskFrom targetOf 0 ss)) ls)
+  unfolding changeLamps
+  request-run s ss ls full r =
+      let a = run-ascends 0 ss r in
+      rw (
+        le-ltb (suc (suc (suc (suc (length (powersBytes ss)))))) 4 (omega arith),
+        run-digits ss (powersBytes ss) r,
+        mask-count targetOf 32 0 ss refl a,
+        run-entries 0 ss r,
+        lamps-in-turn targetOf changeOf (commandOf k) 32 (s .«lamp_count») 0 ss ls refl full a,
+      )
+
+  -- an entry of such steps: no error, and the step machine's state
+  pub entry-lamp-run : (ss : List Step) (st : State) → length (st .node .lamps) ≡ 32 → LampRun k 0 ss
+      → perform (pnumOf k) (pcmdOf k) (fourBytes (bitmapOf ss) ++ powersBytes ss) st
+      ≡ served (machine ss st) 0 (levelsBefore (st .node .settings) (st .node .settings .«lamp_count») (bits 32 (maskFrom targetOf 0 ss)) (st .node .lamps))
+  entry-lamp-run ss st full r =
+      entry-lights (fourBytes (bitmapOf ss) ++ powersBytes ss) st
+      ∙ rw (request-run (st .node .settings) ss (st .node .lamps) full r, machine-lamp-run 0 ss st r)

@@ -1,0 +1,11 @@
+pub mod Lamps
+pub mod Memories
+pub mod Runs
+pub mod Batches
+pub mod Calls
+pub mod Sessions
+pub mod Scenes
+pub mod Instance
+pub mod Examples
+pub mod Taken
+pub mod Running

@@ -1,0 +1,112 @@
+-- A scene run on a node ends as the step machine does.
+use mathlib.Core.Path.{_≡_, refl, sym, ap, _∙_}
+use mathlib.Core.Logic.{inl}
+use mathlib.Core.Bool.{true, false}
+use mathlib.Core.List.{List, _++_}
+use Prim.Native.Nat.{ℕ, _≤_}
+use native.Mathlib.Omega.{arith}
+use lib.Dec.{ltb}
+use lib.ListN.{length, drop}
+use borrow.Author.Tests.{eq-eqb, ne-eqb, eqb-true, lt-leb, ltb-false}
+use Rattle.dpa.proofs.Bool.{by-test}
+use Rattle.node.specs.Node.{nodeOk}
+use Rattle.handler.specs.Request.{State, StateRule}
+use Rattle.scene.specs.declared.step.Step.{Step}
+use Rattle.scene.specs.Book.{countOf, sceneOf}
+use Rattle.scene.specs.Step.{stepFault}
+use Rattle.scene.specs.Machine.{machine}
+use Rattle.scene.specs.Compile.{compiled}
+use Rattle.scene.specs.Call.{Compiled, output, outputRoom, requestsIn, addressOk, refusedAt, compileOf}
+use Rattle.scene.proofs.Groups.{all-weaken}
+use Rattle.scene.proofs.Faults.{Good, no-bad}
+use Rattle.scene.proofs.Outputs.{Faultless, refused-none, written-whole, buffer-back}
+use Rattle.acceptance.specs.SceneTheorem.{Given, afterCalls}
+use Rattle.acceptance.specs.RunScene.{blank, Holds, notRun, afterCompile, runScene}
+use Rattle.acceptance.proofs.Scenes.{address-taken, scene-theorem}
+use Rattle.acceptance.proofs.Taken.{output-holds}
+
+-- a call that is not refused has room
+room-there : (b : List ℕ) (k a h : ℕ) (out : List ℕ) → addressOk a ≡ true → compileOf b k a h out .refusal ≡ 0 → outputRoom ≤ length out
+unfolding compileOf
+room-there b k a h out ad e =
+    let f = refused-none b k a h out e in
+    by-test (ltb (length out) outputRoom)
+    (λ t. let z : compileOf b k a h out ≡ refusedAt 9 0 out = rw (ad, f .book, lt-leb (countOf b) k (f .number), f .steps, t) in
+    absurd (omega (arith, sym e ∙ ap (λ (c : Compiled). c .refusal) z)))
+    (λ t. ltb-false _ _ t)
+
+module _ (book : List ℕ) (k : ℕ) (st : State) (out : List ℕ) where
+  pub run-broken : nodeOk (st .node) ≡ false → notRun 1 0 st out ≡ runScene book k st out
+  unfolding runScene
+  run-broken e = rw e
+
+  module _ (ok : nodeOk (st .node) ≡ true) where
+    pub run-eeprom : (length (st .eeprom) ≡ 192 → ⊥) → notRun 4 0 st out ≡ runScene book k st out
+    unfolding runScene
+    run-eeprom n = rw (ok, ne-eqb (length (st .eeprom)) 192 n)
+
+    module _ (e : length (st .eeprom) ≡ 192) where
+      pub run-external : (length (st .external) ≡ 16384 → ⊥) → notRun 4 0 st out ≡ runScene book k st out
+      unfolding runScene
+      run-external n = rw (ok, eq-eqb (length (st .eeprom)) 192 e, ne-eqb (length (st .external)) 16384 n)
+
+      -- what the compiler answered, with node and memories as they are to be
+      module _ (x : length (st .external) ≡ 16384) (c : Compiled)
+          (q : c ≡ compileOf book k (st .node .settings .address) (st .node .settings .hwpid) out) where
+        rule : StateRule st
+        rule = record { node-ok = ok; eeprom-size = e; external-size = x }
+
+        compiled-first : runScene book k st out ≡ afterCompile c st (machine (sceneOf book k) st)
+        unfolding runScene
+        compiled-first =
+            rw (ok, eq-eqb (length (st .eeprom)) 192 e, eq-eqb (length (st .external)) 16384 x)
+            (ap (λ (d : Compiled). afterCompile d st (machine (sceneOf book k) st)) (sym q))
+
+        pub run-refused : (c .refusal ≡ 0 → ⊥) → notRun (c .refusal) (c .step) st (c .buffer) ≡ runScene book k st out
+        unfolding afterCompile
+        run-refused n = sym (compiled-first ∙ rw (ne-eqb (c .refusal) 0 n))
+
+        module _ (z : c .refusal ≡ 0) where
+          accepted : compileOf book k (st .node .settings .address) (st .node .settings .hwpid) out .refusal ≡ 0
+          accepted = sym (ap (λ (d : Compiled). d .refusal) q) ∙ z
+
+          own-address : addressOk (st .node .settings .address) ≡ true
+          own-address = address-taken st (st .node .settings .address) rule (inl refl)
+
+          faultless : Faultless book k
+          faultless = refused-none book k (st .node .settings .address) (st .node .settings .hwpid) out accepted
+
+          room : outputRoom ≤ length out
+          room = room-there book k (st .node .settings .address) (st .node .settings .hwpid) out own-address accepted
+
+          pub run-holds : Holds (c .buffer)
+          run-holds =
+              let rs = compiled (st .node .settings .address) (st .node .settings .hwpid) (sceneOf book k) in
+              let w : c .buffer ≡ output rs ++ drop (length (output rs)) out =
+              ap (λ (d : Compiled). d .buffer) (q ∙ written-whole book k (st .node .settings .address) (st .node .settings .hwpid) out own-address room faultless) in
+              rw w (output-holds rs (drop (length (output rs)) out))
+
+          given : Given st (λ _. blank) book k (st .node .settings .address) (st .node .settings .hwpid)
+          given =
+              record {
+                sound = rule;
+                room = λ _. omega arith;
+                well-formed = faultless .book;
+                known = faultless .number;
+                no-fault =
+                    all-weaken Good (λ (s : Step). stepFault s ≡ 0) (λ s g. eqb-true _ _ g) (sceneOf book k) (no-bad (sceneOf book k) .0 (faultless .steps));
+                address = inl refl;
+                profile = inl refl;
+              }
+
+          -- node and memories after the requests are those of the step machine
+          pub run-done : (done : State) → done ≡ afterCalls (λ _. blank) (requestsIn (c .buffer)) st → notRun 0 0 done (c .buffer) ≡ runScene book k st out
+          unfolding afterCompile
+          run-done done d =
+              let a = st .node .settings .address in
+              let h = st .node .settings .hwpid in
+              let back : requestsIn (c .buffer) ≡ compiled a h (sceneOf book k) =
+              ap (λ (y : Compiled). requestsIn (y .buffer)) q ∙ buffer-back book k a h out own-address room faultless in
+              let end : done ≡ machine (sceneOf book k) st =
+              d ∙ ap (λ (rs : List (List ℕ)). afterCalls (λ _. blank) rs st) back ∙ scene-theorem st (λ _. blank) book k a h given .final in
+              sym (compiled-first ∙ rw (eq-eqb (c .refusal) 0 z) (ap (λ (y : State). notRun 0 0 y (c .buffer)) (sym end)))

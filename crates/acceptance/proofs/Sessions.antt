@@ -1,0 +1,83 @@
+-- The requests of a scene, taken one after the other: each succeeds, and together they do the scene's steps.
+use mathlib.Core.Path.{_≡_, refl, sym, ap, subst, _∙_}
+use mathlib.Core.Logic.{_⊎_}
+use mathlib.Core.List.{List, [], _∷_, _++_, map}
+use mathlib.Core.Bool.{true}
+use Prim.Native.Nat.{ℕ, suc, _+_, _≤_}
+use lib.ListN.{length}
+use Rattle.dpa.specs.declared.settings.Settings.{Settings}
+use Rattle.dpa.specs.Frame.{pdataMax}
+use Rattle.batch.specs.Batch.{item, listBytes, All}
+use Rattle.handler.specs.Request.{State, StateRule, forNode, batchOf, carryOut, requestOf}
+use Rattle.scene.specs.declared.step.Step.{Step}
+use Rattle.scene.specs.Group.{joined}
+use Rattle.scene.specs.Machine.{machine}
+use Rattle.scene.specs.Compile.{itemsOf, batchesOf, requestBytes, requestsOf}
+use Rattle.scene.proofs.Groups.{joined-append}
+use Rattle.scene.proofs.Places.{machine-append, machine-stays}
+use Rattle.scene.proofs.Faults.{Good}
+use Rattle.scene.proofs.Runs.{Run, Filling, fillings, joining-keeps, filling-keeps}
+use Rattle.scene.proofs.Sizes.{filling-fits}
+use Rattle.acceptance.specs.SceneTheorem.{Success, AllSucceed, afterCalls, Obeyed}
+use Rattle.acceptance.proofs.Batches.{AllPerform, entries-perform, batch-performs}
+use Rattle.acceptance.proofs.Calls.{call-leaves, call-sound, call-succeeds}
+
+-- a call of a list of requests is as it is to be, leaves these steps done, and leaves a sound node
+pub record Done (pcmd a : ℕ) (s : Settings) (request : List ℕ) (steps : List Step) (st : State) (o : List ℕ) : Type 0 where
+  pub success : Success pcmd a s request st o
+  pub after : requestOf request st o .after ≡ machine steps st
+  pub sound : StateRule (requestOf request st o .after)
+
+-- Two limits; a PCMD of OS 02 and bytes in front of the list, which a node with settings s carries out as the list alone.
+module _ (entryMost listMost : ℕ) (six : 6 ≤ entryMost) (one : entryMost + 6 ≤ listMost)
+    (pcmd : ℕ) (front : List ℕ) (fits : length front + listMost ≤ pdataMax) (a h : ℕ) (s : Settings)
+    (mine : (a ≡ s .address) ⊎ (a ≡ 255)) (ours : forNode s h ≡ true)
+    (carried : (list : List ℕ) (st : State) → st .node .settings ≡ s → carryOut (item 2 pcmd h (front ++ list)) st ≡ batchOf list st)
+    (performs : AllPerform h (Run entryMost)) where
+  -- a request of entries that joining and filling make
+  pub request-done : (runs : List (List Step)) (st : State) (o : List ℕ) → Filling entryMost six listMost one h runs
+      → StateRule st → st .node .settings ≡ s → 64 ≤ length o → Done pcmd a s (requestBytes pcmd front a h runs) (joined runs) st o
+  request-done runs st o b k e room =
+      let list = listBytes (itemsOf h runs) in
+      let own : forNode (st .node .settings) h ≡ true = ap (λ (n : Settings). forNode n h) e ∙ ours in
+      let to : (a ≡ st .node .settings .address) ⊎ (a ≡ 255) = subst (λ (n : Settings). (a ≡ n .address) ⊎ (a ≡ 255)) (sym e) mine in
+      let did = carried list st e ∙ batch-performs h (Run entryMost) performs runs st (b .entries) k own in
+      let short = filling-fits entryMost listMost six one pcmd front fits a h runs b .1 in
+      record {
+        success =
+            subst (λ (n : Settings). Success pcmd a n (requestBytes pcmd front a h runs) st o) e
+            (call-succeeds pcmd a h (front ++ list) st o k short room to did
+            (entries-perform h (Run entryMost) performs runs st (b .entries) k own .0));
+        after = call-leaves pcmd a h (front ++ list) st o k short room to did;
+        sound = call-sound pcmd a h (front ++ list) st o k short room to did;
+      }
+
+  session : (bs : List (List (List Step))) (buffers : ℕ → List ℕ) (st : State)
+      → All (Filling entryMost six listMost one h) bs → StateRule st → st .node .settings ≡ s → ((k : ℕ) → 64 ≤ length (buffers k))
+      → AllSucceed pcmd a s buffers (map (requestBytes pcmd front a h) bs) st
+      × (afterCalls buffers (map (requestBytes pcmd front a h) bs) st ≡ machine (joined (joined bs)) st)
+  session [] buffers st b k e room = (tt, refl)
+  session (runs ∷ bs) buffers st b k e room =
+      let first = request-done runs st (buffers 0) (b .0) k e (room 0) in
+      let next = requestOf (requestBytes pcmd front a h runs) st (buffers 0) .after in
+      let same : next .node .settings ≡ s = ap (λ (t : State). t .node .settings) (first .after) ∙ machine-stays (joined runs) st .settings ∙ e in
+      let rest = session bs (λ j. buffers (suc j)) next (b .1) (first .sound) same (λ j. room (suc j)) in (
+        (first .success, rest .0),
+        rest .1
+            ∙ ap (machine (joined (joined bs))) (first .after)
+            ∙ sym (machine-append (joined runs) (joined (joined bs)) st)
+            ∙ sym (ap (λ (l : List Step). machine l st) (joined-append runs (joined bs))),
+      )
+
+  -- steps of which none is bad
+  pub steps-obeyed : (steps : List Step) (buffers : ℕ → List ℕ) (st : State)
+      → All Good steps → StateRule st → st .node .settings ≡ s → ((k : ℕ) → 64 ≤ length (buffers k))
+      → Obeyed pcmd a buffers (requestsOf entryMost listMost pcmd front a h steps) steps st
+  steps-obeyed steps buffers st good k e room =
+      let bs = batchesOf entryMost listMost h steps in
+      let did = session bs buffers st (fillings entryMost six listMost one h steps good) k e room in
+      let whole : joined (joined bs) ≡ steps = ap joined (filling-keeps entryMost listMost h steps) ∙ joining-keeps entryMost steps in
+      record {
+        calls = subst (λ (n : Settings). AllSucceed pcmd a n buffers (requestsOf entryMost listMost pcmd front a h steps) st) (sym e) (did .0);
+        final = did .1 ∙ ap (λ (l : List Step). machine l st) whole;
+      }

@@ -1,0 +1,115 @@
+use borrow.Author.Needs.{needs}
+use mathlib.Core.Path.{ap, sym, _∙_}
+use borrow.Author.Tests.{not-true, not-false}
+use Rattle.handler.specs.Request.{state}
+use Rattle.scene.specs.Call.{compiledAs}
+use Rattle.acceptance.specs.declared.run.SceneAnswer.{SceneAnswer}
+use Rattle.acceptance.specs.RunScene.{ranAs}
+use Rattle.acceptance.proofs.Running.{run-broken, run-eeprom, run-external, run-refused, run-holds, run-done}
+use Rattle.acceptance.proofs.run.run_scene.Statement.{statement}
+use Rattle.acceptance.proofs.run.run_scene.Tie as tie
+use Rattle.acceptance.proofs.run.run_scene.Reads as reads
+use Rattle.acceptance.proofs.run.run_scene.Lts as lts
+use Rattle.acceptance.proofs.run.answer.Reads as answer-reads
+use Rattle.acceptance.proofs.run.take_output.Reads as take-output-reads
+use Rattle.memory.proofs.block.size_of.Reads as size-of-reads
+use Rattle.node.proofs.record.node_ok.Reads as node-ok-reads
+use Rattle.scene.proofs.compile.compile.Reads as compile-reads
+
+node-ok-requires : tie.Need-node-ok-requires
+node-ok-requires c κs = search needs
+
+answer-requires : tie.Need-answer-requires
+answer-requires c κs = search needs
+
+returns : tie.Need-returns
+returns c =
+    let a = c .before .before .before .before .before .before .before .args in
+    ap (λ (r : SceneAnswer). ranAs r (a .eeprom .now) (a .external .now) (a .out .now)) (c .answer .ensures)
+    ∙ run-broken (a .book .now) (a .scene) (state (a .node) (a .eeprom .now) (a .external .now)) (a .out .now) (sym (c .before .before .node-ok .ensures) ∙ not-true _ (c .before .if1 .taken))
+
+size-of-requires : tie.Need-size-of-requires
+size-of-requires c κs = search needs
+
+answer-requires-2 : tie.Need-answer-requires-2
+answer-requires-2 c κs = search needs
+
+returns-2 : tie.Need-returns-2
+returns-2 c =
+    let a = c .before .before .before .before .before .before .before .before .before .args in
+    ap (λ (r : SceneAnswer). ranAs r (a .eeprom .now) (a .external .now) (a .out .now)) (c .answer2 .ensures)
+    ∙ run-eeprom (a .book .now) (a .scene) (state (a .node) (a .eeprom .now) (a .external .now)) (a .out .now) (sym (c .before .before .before .before .node-ok .ensures) ∙ not-false _ (c .before .before .before .if1 .left)) (λ z. c .before .if2 .taken (z ∙ sym (c .before .before .size-of .ensures .0)))
+
+size-of-requires-2 : tie.Need-size-of-requires-2
+size-of-requires-2 c κs = search needs
+
+answer-requires-3 : tie.Need-answer-requires-3
+answer-requires-3 c κs = search needs
+
+returns-3 : tie.Need-returns-3
+returns-3 c =
+    let a = c .before .before .before .before .before .before .before .before .before .before .before .args in
+    ap (λ (r : SceneAnswer). ranAs r (a .eeprom .now) (a .external .now) (a .out .now)) (c .answer3 .ensures)
+    ∙ run-external (a .book .now) (a .scene) (state (a .node) (a .eeprom .now) (a .external .now)) (a .out .now) (sym (c .before .before .before .before .before .before .node-ok .ensures) ∙ not-false _ (c .before .before .before .before .before .if1 .left)) (c .before .before .before .if2 .left ∙ c .before .before .before .before .size-of .ensures .0) (λ z. c .before .if3 .taken (z ∙ sym (c .before .before .size-of2 .ensures .0)))
+
+compile-requires : tie.Need-compile-requires
+compile-requires c κs = search needs
+
+answer-requires-4 : tie.Need-answer-requires-4
+answer-requires-4 c κs = search needs
+
+same-length : tie.Need-same-length
+same-length c = search needs
+
+returns-4 : tie.Need-returns-4
+returns-4 c =
+    let a = c .before .before .before .before .before .before .before .before .before .before .before .before .before .before .before .before .before .before .args in
+    ap (λ (r : SceneAnswer). ranAs r (a .eeprom .now) (a .external .now) (c .before .before .before .before .before .compile .last .1 .1 .1 .1 .0)) (c .answer4 .ensures)
+    ∙ run-refused (a .book .now) (a .scene) (state (a .node) (a .eeprom .now) (a .external .now)) (a .out .now) (sym (c .before .before .before .before .before .before .before .before .before .before .before .before .before .node-ok .ensures) ∙ not-false _ (c .before .before .before .before .before .before .before .before .before .before .before .before .if1 .left)) (c .before .before .before .before .before .before .before .before .before .before .if2 .left ∙ c .before .before .before .before .before .before .before .before .before .before .before .size-of .ensures .0) (c .before .before .before .before .before .before .before .before .if3 .left ∙ c .before .before .before .before .before .before .before .before .before .size-of2 .ensures .0) (compiledAs (c .before .before .before .before .before .compile .result) (c .before .before .before .before .before .compile .last .1 .1 .1 .1 .0)) (c .before .before .before .before .before .compile .ensures) (c .before .if4 .taken)
+
+take-output-requires : tie.Need-take-output-requires
+take-output-requires c κs =
+    let a = c .before .before .before .before .before .before .before .before .before .before .before .before .before .before .before .before .before .before .before .before .args in
+    run-holds (a .book .now) (a .scene) (state (a .node) (a .eeprom .now) (a .external .now)) (a .out .now) (sym (c .before .before .before .before .before .before .before .before .before .before .before .before .before .before .before .node-ok .ensures) ∙ not-false _ (c .before .before .before .before .before .before .before .before .before .before .before .before .before .before .if1 .left)) (c .before .before .before .before .before .before .before .before .before .before .before .before .if2 .left ∙ c .before .before .before .before .before .before .before .before .before .before .before .before .before .size-of .ensures .0) (c .before .before .before .before .before .before .before .before .before .before .if3 .left ∙ c .before .before .before .before .before .before .before .before .before .before .before .size-of2 .ensures .0) (compiledAs (c .before .before .before .before .before .before .before .compile .result) (c .before .before .before .before .before .before .before .compile .last .1 .1 .1 .1 .0)) (c .before .before .before .before .before .before .before .compile .ensures) (c .before .before .before .if4 .left)
+
+answer-requires-5 : tie.Need-answer-requires-5
+answer-requires-5 c κs = search needs
+
+same-length-2 : tie.Need-same-length-2
+same-length-2 c = search needs
+
+same-length-3 : tie.Need-same-length-3
+same-length-3 c = search needs
+
+same-length-4 : tie.Need-same-length-4
+same-length-4 c = search needs
+
+returns-5 : tie.Need-returns-5
+returns-5 c =
+    let a = c .before .before .before .before .before .before .before .before .before .before .before .before .before .before .before .before .before .before .before .before .before .before .before .before .before .before .args in
+    ap (λ (r : SceneAnswer). ranAs r (c .before .before .before .before .before .take-output .last .1 .1 .0) (c .before .before .before .before .before .take-output .last .1 .1 .1 .0) (c .before .before .before .before .before .before .before .before .before .before .before .before .before .compile .last .1 .1 .1 .1 .0)) (c .answer5 .ensures)
+    ∙ run-done (a .book .now) (a .scene) (state (a .node) (a .eeprom .now) (a .external .now)) (a .out .now) (sym (c .before .before .before .before .before .before .before .before .before .before .before .before .before .before .before .before .before .before .before .before .before .node-ok .ensures) ∙ not-false _ (c .before .before .before .before .before .before .before .before .before .before .before .before .before .before .before .before .before .before .before .before .if1 .left)) (c .before .before .before .before .before .before .before .before .before .before .before .before .before .before .before .before .before .before .if2 .left ∙ c .before .before .before .before .before .before .before .before .before .before .before .before .before .before .before .before .before .before .before .size-of .ensures .0) (c .before .before .before .before .before .before .before .before .before .before .before .before .before .before .before .before .if3 .left ∙ c .before .before .before .before .before .before .before .before .before .before .before .before .before .before .before .before .before .size-of2 .ensures .0) (compiledAs (c .before .before .before .before .before .before .before .before .before .before .before .before .before .compile .result) (c .before .before .before .before .before .before .before .before .before .before .before .before .before .compile .last .1 .1 .1 .1 .0)) (c .before .before .before .before .before .before .before .before .before .before .before .before .before .compile .ensures) (c .before .before .before .before .before .before .before .before .before .if4 .left) _ (c .before .before .before .before .before .take-output .ensures)
+
+pub run-scene-spec : {M : Type 1} → statement M
+run-scene-spec =
+    tie.close
+    (tie.spec
+    node-ok-requires
+    answer-requires
+    returns
+    size-of-requires
+    answer-requires-2
+    returns-2
+    size-of-requires-2
+    answer-requires-3
+    returns-3
+    compile-requires
+    answer-requires-4
+    same-length
+    returns-4
+    take-output-requires
+    answer-requires-5
+    same-length-2
+    same-length-3
+    same-length-4
+    returns-5)

@@ -1,0 +1,93 @@
+-- Document 01, "Worked examples": all that are marked P, of the meanings that the contracts give the calls, under one
+-- statement. proofs/Examples computes them.
+use Prim.Native.Nat.{ℕ, _≤_}
+use mathlib.Core.Path.{_≡_}
+use mathlib.Core.Bool.{false}
+use mathlib.Core.List.{List, [], _∷_, map}
+use lib.ListN.{length, getD, take, replicate}
+use Rattle.dpa.specs.declared.settings.Settings.{Settings}
+use Rattle.lights.specs.Lamp.{lamp, off, actualLevel}
+use Rattle.checksum.specs.Sums.{sums, start, checksum}
+use Rattle.batch.specs.Batch.{item}
+use Rattle.timing.specs.declared.slot.Network.the-variants.{Std}
+use Rattle.timing.specs.Slot.{sendOf}
+use Rattle.node.specs.Node.{fresh}
+use Rattle.handler.specs.Request.{State, state, Outcome, carryOut}
+use Rattle.scene.specs.Call.{outputRoom, written, compileOf}
+
+-- node 1 as it is started, with memories of zeros
+abbrev pub settings : ℕ → ℕ → Settings
+settings lamps step = record { address = 1; hwpid = 0x2471; «dpa_value» = 0; «lamp_count» = lamps; step = step }
+
+abbrev pub freshState : ℕ → ℕ → State
+freshState lamps step = state (fresh (settings lamps step)) (replicate 192 0) (replicate 16384 0)
+
+-- a lights request and a batch at such a node
+abbrev pub lights : ℕ → List ℕ → State → Outcome
+lights pcmd pdata st = carryOut (item 0x71 pcmd 0x2471 pdata) st
+
+abbrev pub batch : List ℕ → State → Outcome
+batch pdata st = carryOut (item 0x02 0x05 0x2471 pdata) st
+
+-- three lamps, step 1: a set, then a raise
+abbrev pub afterSet : Outcome
+afterSet = lights 0x00 (0x05 ∷ 0x00 ∷ 0x00 ∷ 0x00 ∷ 0x0A ∷ 0xE4 ∷ 0x02 ∷ []) (freshState 3 1)
+
+abbrev pub afterRaise : Outcome
+afterRaise = lights 0x01 (0x03 ∷ 0x00 ∷ 0x00 ∷ 0x00 ∷ 0x8A ∷ 0x03 ∷ 0x32 ∷ []) (afterSet .after)
+
+-- one lamp, step 10: a PCMD and a power byte each, in order, and the requested level after each
+pub record Ask : Type 0 where
+  pub pcmd : ℕ
+  pub power : ℕ
+
+abbrev ask : ℕ → ℕ → Ask
+ask c p = record { pcmd = c; power = p }
+
+abbrev pub levelsAfter : List Ask → State → List ℕ
+levelsAfter [] st = []
+levelsAfter (a ∷ rest) st =
+    let next = lights (a .pcmd) (0x01 ∷ 0x00 ∷ 0x00 ∷ 0x00 ∷ a .power ∷ []) st .after in
+    getD (next .node .lamps) 0 off .level ∷ levelsAfter rest next
+
+-- set 15, +6, -10, -9, -100, +0
+abbrev pub sixLevels : List ℕ
+sixLevels = levelsAfter (ask 0 15 ∷ ask 1 6 ∷ ask 2 10 ∷ ask 2 9 ∷ ask 2 100 ∷ ask 1 0 ∷ []) (freshState 1 10)
+
+-- the ErrN of a set at lamp 0 with these bytes behind the bitmap
+abbrev pub setError : List ℕ → ℕ
+setError entry = lights 0x00 (0x01 ∷ 0x00 ∷ 0x00 ∷ 0x00 ∷ entry) (freshState 3 1) .error
+
+-- the checksum of bytes from a first value
+abbrev pub sumFrom : ℕ → List ℕ → ℕ
+sumFrom first bytes = checksum (sums (start first) bytes)
+
+-- a scene book, and its scene 0 compiled
+abbrev pub book : List ℕ
+book = 0x01 ∷ 0x04 ∷ 0x00 ∷ 0x02 ∷ 0x00 ∷ 0x00 ∷ 0x0A ∷ 0x00 ∷ 0x00 ∷ 0x02 ∷ 0x64 ∷ 0x02 ∷ []
+
+abbrev pub bookOutput : List ℕ
+bookOutput =
+    0x01 ∷ 0x13 ∷ 0x01 ∷ 0x00 ∷ 0x02 ∷ 0x05 ∷ 0xFF ∷ 0xFF ∷ 0x0C ∷ 0x71 ∷ 0x00 ∷ 0xFF ∷ 0xFF
+    ∷ 0x05 ∷ 0x00 ∷ 0x00 ∷ 0x00 ∷ 0x0A ∷ 0xE4 ∷ 0x02 ∷ 0x00 ∷ []
+
+pub record WorkedExamples : Type 0 where
+  pub set-answers : afterSet .bytes ≡ 0x00 ∷ 0x00 ∷ []
+  pub raise-answers : afterRaise .bytes ≡ 0x0A ∷ 0x00 ∷ []
+  pub raise-leaves : take 3 (afterRaise .after .node .lamps) ≡ lamp 20 180 ∷ lamp 50 0 ∷ lamp 100 120 ∷ []
+  pub table-requested : sixLevels ≡ 15 ∷ 21 ∷ 11 ∷ 2 ∷ 0 ∷ 0 ∷ []
+  pub table-actual : map (actualLevel (settings 1 10)) sixLevels ≡ 20 ∷ 30 ∷ 20 ∷ 10 ∷ 0 ∷ 0 ∷ []
+  pub power-65 : setError (0x65 ∷ []) ≡ 6
+  pub power-64 : setError (0x64 ∷ []) ≡ 0
+  pub time-80 : setError (0x80 ∷ 0x80 ∷ []) ≡ 6
+  pub sum-00 : sumFrom 1 (0x00 ∷ []) ≡ 0x0101
+  pub sum-FF : sumFrom 1 (0xFF ∷ []) ≡ 0x0101
+  pub sum-FE : sumFrom 1 (0xFE ∷ []) ≡ 0xFFFF
+  pub sum-64-zeros : sumFrom 1 (replicate 64 0x00) ≡ 0x4001
+  pub sum-20-zeros : sumFrom 3 (replicate 20 0x00) ≡ 0x3C03
+  pub batch-00 : batch (0x00 ∷ []) (freshState 3 1) .error ≡ 0
+  pub batch-04-00 : batch (0x04 ∷ 0x00 ∷ []) (freshState 3 1) .error ≡ 6
+  -- hops 2 and 3, PData 5 and 20, delay 20
+  pub wait-340 : sendOf 2 5 20 3 20 Std false ≡ record { refusal = 0; milliseconds = 340 }
+  -- scene 0 for address 1, HWPID left out, in any buffer with room
+  pub book-compiles : (out : List ℕ) → outputRoom ≤ length out → compileOf book 0 1 0xFFFF out ≡ written bookOutput out

@@ -1,0 +1,3 @@
+pub mod SceneTheorem
+pub mod Examples
+pub mod RunScene

@@ -1,0 +1,55 @@
+-- A scene run on a node: compiled for the node's own address and profile, its requests taken one after the other.
+use Prim.Native.Nat.{ℕ, suc, _+_, _≤_}
+use mathlib.Core.List.{List, [], _∷_}
+use mathlib.Core.Bool.{cond}
+use lib.ListN.{length, getD, take, drop, replicate}
+use lib.Dec.{eqb}
+use Rattle.memory.specs.declared.block.Memory.the-variants.{Eeprom, External}
+use Rattle.memory.specs.Block.{sizeOf}
+use Rattle.node.specs.Node.{nodeOk}
+use Rattle.handler.specs.Request.{State, state}
+use Rattle.scene.specs.Book.{sceneOf}
+use Rattle.scene.specs.Machine.{machine}
+use Rattle.scene.specs.Call.{Compiled, compileOf}
+use Rattle.acceptance.specs.declared.run.SceneAnswer.{SceneAnswer}
+
+-- the response buffer of each call
+abbrev pub blank : List ℕ
+blank = replicate 64 0
+
+abbrev pub total : List ℕ → ℕ
+total [] = 0
+total (n ∷ ns) = n + total ns
+
+-- an output that is as long as its length bytes say
+pub record Holds (o : List ℕ) : Type 0 where
+  pub counted : suc (getD o 0 0) ≤ length o
+  pub whole : total (take (getD o 0 0) (drop 1 o)) ≤ length (drop (suc (getD o 0 0)) o)
+
+-- what running a scene leaves: the refusal, a bad step's number, node and memories, and the compiler's buffer
+pub record Ran : Type 0 where
+  pub refusal : ℕ
+  pub step : ℕ
+  pub after : State
+  pub out : List ℕ
+
+abbrev pub ranAs : SceneAnswer → List ℕ → List ℕ → List ℕ → Ran
+ranAs r e x o = record { refusal = r .refusal; step = r .step; after = state (r .node) e x; out = o }
+
+abbrev pub notRun : ℕ → ℕ → State → List ℕ → Ran
+notRun refusal step st out = record { refusal = refusal; step = step; after = st; out = out }
+
+-- refused by the compiler, or done as the step machine does the scene's steps
+unfoldable pub afterCompile : Compiled → State → State → Ran
+afterCompile c st done = cond (eqb (c .refusal) 0) (notRun 0 0 done (c .buffer)) (notRun (c .refusal) (c .step) st (c .buffer))
+
+-- the node and the memories are tested first: 1, 4
+unfoldable pub runScene : List ℕ → ℕ → State → List ℕ → Ran
+runScene book k st out =
+    cond (nodeOk (st .node))
+    (cond (eqb (length (st .eeprom)) (sizeOf Eeprom))
+    (cond (eqb (length (st .external)) (sizeOf External))
+    (afterCompile (compileOf book k (st .node .settings .address) (st .node .settings .hwpid) out) st (machine (sceneOf book k) st))
+    (notRun 4 0 st out))
+    (notRun 4 0 st out))
+    (notRun 1 0 st out)

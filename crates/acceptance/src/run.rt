@@ -1,0 +1,104 @@
+// A scene run on a node: compiled into a lent buffer, and its requests taken one after the other.
+use dpa::number::wide;
+use dpa::refusal;
+use handler::request::handle_request;
+use memory::block::Memory;
+use memory::block::size_of;
+use node::record::Node;
+use node::record::node_ok;
+use scene::compile::compile;
+ghost use mathlib.Core.Path.{_≡_};
+ghost use Prim.Native.Nat.{_≤_};
+ghost use lib.ListN.{length};
+ghost use Rattle.scene.specs.Call.{cut, requestsIn};
+ghost use Rattle.handler.specs.Request.{state, requestOf};
+ghost use Rattle.acceptance.specs.SceneTheorem.{afterCalls};
+ghost use Rattle.acceptance.specs.RunScene.{blank, total, Holds, runScene, ranAs};
+
+// A refusal's number, or 0; with 8 the number of the bad step; the node afterwards.
+#[repr(C)]
+pub struct SceneAnswer {
+    pub refusal: u8,
+    pub step: u8,
+    pub node: Node,
+}
+
+// One request. Its answer goes to an array of its own.
+fn take_request(node: Node, frame: &[u8], eeprom: &mut [u8], external: &mut [u8]) -> Node
+    ensures { λ r. ⌜ state r (now (eeprom .exit)) (now (external .exit))
+        ≡ requestOf (now (frame .entry)) (state node (now (eeprom .entry)) (now (external .entry))) blank .after ⌝ }
+{
+    let mut response = [0u8; 64];
+    let taken = handle_request(node, frame, eeprom, external, &mut response);
+    taken.node
+}
+
+// Requests of these lengths, one behind the other.
+fn take_requests(
+    node: Node,
+    lengths: &[u8],
+    requests: &[u8],
+    eeprom: &mut [u8],
+    external: &mut [u8],
+) -> Node
+    requires { ⌜ total (now lengths) ≤ length (now requests) ⌝ }
+    ensures { λ r. ⌜ state r (now (eeprom .exit)) (now (external .exit))
+        ≡ afterCalls (λ _. blank) (cut (now (lengths .entry)) (now (requests .entry))) (state node (now (eeprom .entry)) (now (external .entry))) ⌝ }
+{
+    if lengths.len() == 0 {
+        return node;
+    }
+    let len = wide(lengths[0]);
+    let next = take_request(node, &requests[..len], eeprom, external);
+    take_requests(next, &lengths[1..], &requests[len..], eeprom, external)
+}
+
+// The requests that a compiled output holds.
+fn take_output(node: Node, output: &[u8], eeprom: &mut [u8], external: &mut [u8]) -> Node
+    requires { ⌜ Holds (now output) ⌝ }
+    ensures { λ r. ⌜ state r (now (eeprom .exit)) (now (external .exit))
+        ≡ afterCalls (λ _. blank) (requestsIn (now (output .entry))) (state node (now (eeprom .entry)) (now (external .entry))) ⌝ }
+{
+    let from = 1 + wide(output[0]);
+    take_requests(node, &output[1..from], &output[from..], eeprom, external)
+}
+
+fn answer(refusal: u8, step: u8, node: Node) -> SceneAnswer
+    ensures { λ r. ⌜ r ≡ record { refusal = refusal; step = step; node = node } ⌝ }
+{
+    SceneAnswer {
+        refusal,
+        step,
+        node,
+    }
+}
+
+// Runs a scene of a book on a node, compiled for the node's own address and profile.
+pub fn run_scene(
+    node: Node,
+    book: &[u8],
+    scene: usize,
+    eeprom: &mut [u8],
+    external: &mut [u8],
+    out: &mut [u8],
+) -> SceneAnswer
+    ensures { λ r. ⌜ ranAs r (now (eeprom .exit)) (now (external .exit)) (now (out .exit))
+        ≡ runScene (now (book .entry)) scene (state node (now (eeprom .entry)) (now (external .entry))) (now (out .entry)) ⌝ }
+{
+    if !node_ok(node) {
+        return answer(refusal::NODE, 0, node);
+    }
+    if eeprom.len() != size_of(Memory::Eeprom) {
+        return answer(refusal::MEMORY, 0, node);
+    }
+    if external.len() != size_of(Memory::External) {
+        return answer(refusal::MEMORY, 0, node);
+    }
+    let settings = node.settings;
+    let compiled = compile(book, scene, settings.address, settings.hwpid, out);
+    if compiled.refusal != refusal::NONE {
+        return answer(compiled.refusal, compiled.step, node);
+    }
+    let next = take_output(node, out, eeprom, external);
+    answer(refusal::NONE, 0, next)
+}
