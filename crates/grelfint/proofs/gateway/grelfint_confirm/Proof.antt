@@ -1,0 +1,25 @@
+use mathlib.Core.Path.{ap, _∙_}
+use borrow.Author.Needs.{needs}
+use Rattle.timing.specs.declared.slot.Network.{Network}
+use Rattle.timing.specs.Confirm.{confirmOf}
+use Rattle.grelfint.proofs.gateway.grelfint_confirm.Statement.{statement}
+use Rattle.grelfint.proofs.gateway.grelfint_confirm.Tie as tie
+
+network-of-requires : tie.Need-network-of-requires
+network-of-requires c κs = search needs
+
+confirm-requires : tie.Need-confirm-requires
+confirm-requires c κs = search needs
+
+same-length : tie.Need-same-length
+same-length c = search needs
+
+returns : tie.Need-returns
+returns c =
+    let a = c .before .before .before .before .before .before .before .args in
+    c .before .before .confirm .ensures
+    ∙ ap (λ (n : Network). confirmOf (a .frame .now) (a .dpa-value) (a .hops) (a .response-hops) n (a .out .now)) (c .before .before .before .before .network-of .ensures)
+
+pub grelfint-confirm-spec : {M : Type 1} → statement M
+grelfint-confirm-spec =
+    tie.close (tie.spec network-of-requires confirm-requires same-length returns)

@@ -1,0 +1,22 @@
+use mathlib.Core.Path.{ap, _∙_}
+use borrow.Author.Needs.{needs}
+use Rattle.timing.specs.declared.slot.Network.{Network}
+use Rattle.timing.specs.Slot.{sendOf}
+use Rattle.grelfint.proofs.gateway.grelfint_earliest_send.Statement.{statement}
+use Rattle.grelfint.proofs.gateway.grelfint_earliest_send.Tie as tie
+
+network-of-requires : tie.Need-network-of-requires
+network-of-requires c κs = search needs
+
+earliest-send-requires : tie.Need-earliest-send-requires
+earliest-send-requires c κs = search needs
+
+returns : tie.Need-returns
+returns c =
+    let a = c .before .before .args in
+    c .earliest-send .ensures
+    ∙ ap (λ (n : Network). sendOf (a .hops) (a .request-length) (a .delay) (a .response-hops) (a .response-length) n (a .broadcast)) (c .before .network-of .ensures)
+
+pub grelfint-earliest-send-spec : {M : Type 1} → statement M
+grelfint-earliest-send-spec =
+    tie.close (tie.spec network-of-requires earliest-send-requires returns)

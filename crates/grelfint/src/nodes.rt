@@ -1,0 +1,48 @@
+// A node for C: its start, a second passing, and FRC.
+use dpa::settings::Settings;
+use node::frc::FrcAnswer;
+use node::frc::frc;
+use node::record::Node;
+use node::record::NodeAnswer;
+use node::start::start;
+use node::tick::tick;
+ghost use mathlib.Core.Path.{_≡_};
+ghost use Rattle.node.specs.Node.{startOf, tickOf};
+ghost use Rattle.node.specs.Frc.{frcOf};
+
+#[no_mangle]
+pub extern "C" fn grelfint_start(settings: Settings) -> NodeAnswer
+    ensures { λ r. ⌜ r ≡ startOf settings ⌝ }
+{
+    start(settings)
+}
+
+#[no_mangle]
+pub extern "C" fn grelfint_tick(node: Node) -> NodeAnswer
+    ensures { λ r. ⌜ r ≡ tickOf node ⌝ }
+{
+    tick(node)
+}
+
+// The node stands in the caller's memory and is changed there.
+#[no_mangle]
+pub extern "C" fn grelfint_tick_in_place(node: &mut Node) -> u8
+    ensures { λ r. ⌜ (r ≡ tickOf (now (node .entry)) .refusal) × (now (node .exit) ≡ tickOf (now (node .entry)) .node) ⌝ }
+{
+    let ticked = tick(*node);
+    *node = ticked.node;
+    ticked.refusal
+}
+
+#[no_mangle]
+pub extern "C" fn grelfint_frc(
+    node: Node,
+    command: u8,
+    user_data: &[u8],
+    stuck: u32,
+    alarm: u32,
+) -> FrcAnswer
+    ensures { λ r. ⌜ r ≡ frcOf node command (now («user_data» .entry)) stuck alarm ⌝ }
+{
+    frc(node, command, user_data, stuck, alarm)
+}

@@ -1,0 +1,36 @@
+// Requests and the read view for C.
+use handler::answer::RequestAnswer;
+use handler::request::handle_request;
+use memory::view::view_status;
+use node::record::Node;
+ghost use mathlib.Core.Path.{_≡_};
+ghost use Rattle.memory.specs.View.{viewStatus};
+ghost use Rattle.handler.specs.Request.{state, called, requestOf};
+
+#[no_mangle]
+pub extern "C" fn grelfint_handle_request(
+    node: Node,
+    frame: &[u8],
+    eeprom: &mut [u8],
+    external: &mut [u8],
+    response: &mut [u8],
+) -> RequestAnswer
+    ensures { λ r. ⌜ called r (now (eeprom .exit)) (now (external .exit)) (now (response .exit))
+        ≡ requestOf (now (frame .entry)) (state node (now (eeprom .entry)) (now (external .entry))) (now (response .entry)) ⌝ }
+{
+    handle_request(node, frame, eeprom, external, response)
+}
+
+// With 0 the caller reads the part in its own memory, so no reference is handed out.
+#[no_mangle]
+pub extern "C" fn grelfint_view_status(
+    eeprom: &[u8],
+    external: &[u8],
+    pnum: u8,
+    start: usize,
+    length: usize,
+) -> u8
+    ensures { λ r. ⌜ r ≡ viewStatus (now (eeprom .entry)) (now (external .entry)) pnum start length ⌝ }
+{
+    view_status(eeprom, external, pnum, start, length)
+}

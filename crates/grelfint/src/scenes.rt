@@ -1,0 +1,31 @@
+// The compiler's calls for C.
+use scene::compile::CompileAnswer;
+use scene::compile::compile;
+use scene::compile::compile_default;
+ghost use mathlib.Core.Path.{_≡_};
+ghost use Rattle.scene.specs.Call.{compileOf, compiledAs};
+
+#[no_mangle]
+pub extern "C" fn grelfint_compile(
+    book: &[u8],
+    scene: usize,
+    address: u16,
+    hwpid: u16,
+    out: &mut [u8],
+) -> CompileAnswer
+    ensures { λ r. ⌜ compiledAs r (now (out .exit)) ≡ compileOf (now (book .entry)) scene address hwpid (now (out .entry)) ⌝ }
+{
+    compile(book, scene, address, hwpid, out)
+}
+
+#[no_mangle]
+pub extern "C" fn grelfint_compile_default(
+    book: &[u8],
+    scene: usize,
+    address: u16,
+    out: &mut [u8],
+) -> CompileAnswer
+    ensures { λ r. ⌜ compiledAs r (now (out .exit)) ≡ compileOf (now (book .entry)) scene address 0xFFFF (now (out .entry)) ⌝ }
+{
+    compile_default(book, scene, address, out)
+}

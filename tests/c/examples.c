@@ -1,0 +1,241 @@
+/* The worked examples of document 01 from C, against include/grelfint.h.
+ *
+ *   gcc -std=c11 -Wall -Wextra -Werror -I../include c/examples.c \
+ *       ../target/staticlib/libgrelfint.a -o examples && ./examples
+ *
+ * Prints what fails, then `N passed` (or `N passed, M failed`, status 1). */
+#include <stdio.h>
+#include <string.h>
+
+#include "grelfint.h"
+
+static int passed = 0;
+static int failed = 0;
+
+static void check(const char *name, bool holds)
+{
+    if (holds) {
+        passed++;
+    } else {
+        failed++;
+        printf("failed: %s\n", name);
+    }
+}
+
+/* Layout: the fields lie where the library expects them. */
+_Static_assert(sizeof(grelfint_settings) == 8, "settings");
+_Static_assert(sizeof(grelfint_lamp) == 4, "lamp");
+_Static_assert(sizeof(grelfint_node) == 8 + 32 * 4 + 48, "node");
+_Static_assert(offsetof(grelfint_node, lamps) == 8, "lamps");
+_Static_assert(offsetof(grelfint_node, ram) == 136, "ram");
+
+static grelfint_node node;
+static uint8_t eeprom[GRELFINT_EEPROM];
+static uint8_t external[GRELFINT_EXTERNAL];
+static uint8_t response[GRELFINT_RESPONSE + 8];
+static bool load_mark;
+
+static void fresh(uint8_t lamp_count, uint8_t step)
+{
+    grelfint_settings settings = {1, 0x2471, 7, lamp_count, step};
+    grelfint_node_answer answer = grelfint_start(settings);
+    check("start", answer.refusal == 0);
+    node = answer.node;
+    memset(eeprom, 0, sizeof eeprom);
+    memset(external, 0, sizeof external);
+}
+
+/* Sends one request to node 1 and compares ErrN and data. */
+static void request(const char *name, uint8_t pnum, uint8_t pcmd,
+                    const uint8_t *pdata, size_t pdata_length,
+                    uint8_t error, const uint8_t *data, size_t data_length)
+{
+    uint8_t frame[62] = {1, 0, pnum, pcmd, 0xFF, 0xFF};
+    uint8_t want[sizeof response];
+    const uint8_t header[8] = {1, 0, pnum, (uint8_t)(pcmd | 0x80), 0x71, 0x24, error, 7};
+    grelfint_request_answer answer;
+
+    if (pdata_length > 0)
+        memcpy(frame + 6, pdata, pdata_length);
+    memset(response, 0xEE, sizeof response);
+    memset(want, 0xEE, sizeof want);
+    memcpy(want, header, sizeof header);
+    if (data_length > 0)
+        memcpy(want + 8, data, data_length);
+    answer = grelfint_handle_request(node, frame, 6 + pdata_length, eeprom, sizeof eeprom,
+                                     external, sizeof external, response, GRELFINT_RESPONSE);
+    check(name, answer.refusal == 0 && answer.length == 8 + data_length &&
+                    memcmp(response, want, sizeof want) == 0);
+    node = answer.node;
+    load_mark = answer.load;
+}
+
+#define BYTES(...) (const uint8_t[]){__VA_ARGS__}, sizeof((const uint8_t[]){__VA_ARGS__})
+#define NO_BYTES NULL, 0
+
+static bool lamp_is(int i, uint8_t level, uint16_t seconds)
+{
+    return node.lamps[i].level == level && node.lamps[i].seconds == seconds;
+}
+
+static void lamps(void)
+{
+    static const struct {
+        uint8_t pcmd, value, requested, actual, previous;
+    } table[] = {
+        {0, 15, 15, 20, 0}, {1, 6, 21, 30, 20}, {2, 10, 11, 20, 30},
+        {2, 9, 2, 10, 20},  {2, 100, 0, 0, 10}, {1, 0, 0, 0, 0},
+    };
+    size_t i;
+
+    fresh(3, 1);
+    request("enumerate", 0x71, 0x3E, NO_BYTES, 0, BYTES(3));
+    request("set", 0x71, 0, BYTES(5, 0, 0, 0, 0x0A, 0xE4, 2), 0, BYTES(0, 0));
+    request("raise", 0x71, 1, BYTES(3, 0, 0, 0, 0x8A, 3, 0x32), 0, BYTES(0x0A, 0));
+    check("levels and seconds", lamp_is(0, 20, 180) && lamp_is(1, 50, 0) && lamp_is(2, 100, 120));
+
+    fresh(1, 10);
+    for (i = 0; i < sizeof table / sizeof table[0]; i++) {
+        request("step table", 0x71, table[i].pcmd, BYTES(1, 0, 0, 0, table[i].value), 0,
+                BYTES(table[i].previous));
+        check("requested level", node.lamps[0].level == table[i].requested);
+        request("actual level", 0x71, 0, BYTES(1, 0, 0, 0, 127), 0, BYTES(table[i].actual));
+    }
+
+    fresh(1, 1);
+    request("level 101", 0x71, 0, BYTES(1, 0, 0, 0, 0x65), 6, NO_BYTES);
+    check("nothing changed", lamp_is(0, 0, 0));
+    request("level 100", 0x71, 0, BYTES(1, 0, 0, 0, 0x64), 0, BYTES(0));
+    request("time 80", 0x71, 0, BYTES(1, 0, 0, 0, 0x80, 0x80), 6, NO_BYTES);
+    check("level 100 stays", lamp_is(0, 100, 0));
+}
+
+static void ticks(void)
+{
+    grelfint_node_answer answer;
+
+    fresh(3, 1);
+    request("two seconds", 0x71, 0, BYTES(1, 0, 0, 0, 0x8A, 0x82), 0, BYTES(0));
+    answer = grelfint_tick(node);
+    node = answer.node;
+    check("tick", answer.refusal == 0 && lamp_is(0, 10, 1));
+    check("tick in place", grelfint_tick_in_place(&node) == 0 && lamp_is(0, 0, 0));
+    node.settings.step = 3;
+    check("broken record", grelfint_tick(node).refusal == 1 && grelfint_tick_in_place(&node) == 1);
+}
+
+static void memories_and_code(void)
+{
+    fresh(3, 1);
+    external[0x3FFF] = 0x5C;
+    request("external, length 1", 4, 2, BYTES(0xFF, 0x3F, 1), 0, BYTES(0x5C));
+    request("external, length 2", 4, 2, BYTES(0xFF, 0x3F, 2), 4, NO_BYTES);
+    request("EEPROM write", 3, 1, BYTES(190, 1, 2), 0, NO_BYTES);
+    check("EEPROM bytes", eeprom[190] == 1 && eeprom[191] == 2);
+    request("EEPROM read", 3, 0, BYTES(190, 2), 0, BYTES(1, 2));
+    request("RAM write", 5, 1, BYTES(47, 9), 0, NO_BYTES);
+    check("RAM byte", node.ram[47] == 9);
+    check("view", grelfint_view_status(eeprom, sizeof eeprom, external, sizeof external, 4, 0x3FFF, 1) == 0);
+    check("view past the end", grelfint_view_status(eeprom, sizeof eeprom, external, sizeof external, 4, 0x3FFF, 2) == 16);
+    check("view too long", grelfint_view_status(eeprom, sizeof eeprom, external, sizeof external, 3, 0, 56) == 15);
+    check("view of RAM", grelfint_view_status(eeprom, sizeof eeprom, external, sizeof external, 5, 0, 1) == 10);
+    check("view of a short memory", grelfint_view_status(eeprom, 191, external, sizeof external, 3, 0, 1) == 4);
+
+    request("64 zeros", 2, 0x0A, BYTES(0, 0, 0, 64, 0, 0x01, 0x40), 0, BYTES(1));
+    check("no load mark", !load_mark);
+    request("64 zeros, load", 2, 0x0A, BYTES(1, 0, 0, 64, 0, 0x01, 0x40), 0, BYTES(1));
+    check("load mark", load_mark);
+    request("20 zeros", 2, 0x0A, BYTES(2, 0, 0, 20, 0, 0x03, 0x3C), 0, BYTES(1));
+    request("no match", 2, 0x0A, BYTES(1, 0, 0, 64, 0, 0x02, 0x40), 0, BYTES(0));
+    check("no load mark without a match", !load_mark);
+}
+
+static void batches(void)
+{
+    fresh(3, 1);
+    request("batch of nothing", 2, 5, BYTES(0), 0, NO_BYTES);
+    request("batch with a short entry", 2, 5, BYTES(4, 0), 6, NO_BYTES);
+    request("batch", 2, 5,
+            BYTES(10, 0x71, 0, 0xFF, 0xFF, 1, 0, 0, 0, 10, 10, 0x71, 1, 0xFF, 0xFF, 2, 0, 0, 0, 20, 0),
+            0, NO_BYTES);
+    check("both entries", lamp_is(0, 10, 0) && lamp_is(1, 20, 0) && lamp_is(2, 0, 0));
+}
+
+static void frc(void)
+{
+    const uint8_t second[2] = {0x71, 1};
+    grelfint_frc_answer answer;
+
+    fresh(3, 1);
+    answer = grelfint_frc(node, 0x10, second, sizeof second, 0, 0);
+    check("off", answer.refusal == 0 && answer.value == 2);
+    check("stuck", grelfint_frc(node, 0x10, second, sizeof second, 2, 0).value == 3);
+    check("alarm", grelfint_frc(node, 0x11, second, sizeof second, 0, 2).value == 3);
+    check("not implemented", grelfint_frc(node, 0x12, second, sizeof second, 2, 2).value == 1);
+}
+
+static void gateway(void)
+{
+    const uint8_t frame[6] = {0x0A, 0, 7, 1, 0xFF, 0xFF};
+    const uint8_t want[12] = {0x0A, 0, 7, 1, 0xFF, 0xFF, 0xFF, 7, 6, 4, 6, 0xEE};
+    uint8_t out[64];
+    grelfint_length_answer answer;
+    grelfint_send_answer send;
+
+    memset(out, 0xEE, sizeof out);
+    answer = grelfint_confirm(frame, sizeof frame, 7, 6, 6, false, out, sizeof out);
+    check("confirmation", answer.refusal == 0 && answer.length == 11 && memcmp(out, want, sizeof want) == 0);
+    check("no room", grelfint_confirm(frame, sizeof frame, 7, 6, 6, false, out, 63).refusal == 3);
+    check("short frame", grelfint_confirm(frame, 5, 7, 6, 6, false, out, sizeof out).refusal == 2);
+    check("timeslots", grelfint_timeslot(16, false).slot == 4 && grelfint_timeslot(17, false).slot == 5 &&
+                           grelfint_timeslot(41, true).slot == 10 && grelfint_timeslot(57, true).refusal == 5);
+    send = grelfint_earliest_send(2, 5, 20, 3, 20, false, false);
+    check("340 ms", send.refusal == 0 && send.milliseconds == 340);
+    check("broadcast", grelfint_earliest_send(2, 5, 20, 3, 20, false, true).milliseconds == 140);
+}
+
+static void scenes(void)
+{
+    static const uint8_t book[] = {1, 4, 0, 2, 0, 0, 0x0A, 0, 0, 2, 0x64, 2};
+    static const uint8_t bad[] = {1, 4, 0, 2, 0, 0, 0x0A, 0, 5, 2, 0x64, 2};
+    static const uint8_t want[] = {1, 0x13, 1, 0, 2, 5, 0xFF, 0xFF, 0x0C, 0x71, 0, 0xFF,
+                                   0xFF, 5, 0, 0, 0, 0x0A, 0xE4, 2, 0, 0xEE};
+    static uint8_t out[GRELFINT_COMPILED];
+    grelfint_compile_answer answer;
+    grelfint_request_answer taken;
+
+    memset(out, 0xEE, sizeof out);
+    answer = grelfint_compile_default(book, sizeof book, 0, 1, out, sizeof out);
+    check("compile", answer.refusal == 0 && answer.length == sizeof want - 1 && memcmp(out, want, sizeof want) == 0);
+    fresh(3, 1);
+    taken = grelfint_handle_request(node, out + 2, out[1], eeprom, sizeof eeprom, external,
+                                    sizeof external, response, GRELFINT_RESPONSE);
+    node = taken.node;
+    check("taken", taken.refusal == 0 && taken.length == 8 && response[6] == 0);
+    check("as the steps", lamp_is(0, 10, 0) && lamp_is(1, 0, 0) && lamp_is(2, 100, 120));
+    answer = grelfint_compile(book, sizeof book, 0, 255, 0x2471, out, sizeof out);
+    check("broadcast", answer.refusal == 0 && out[2] == 0xFF && out[3] == 0 && out[6] == 0x71 && out[7] == 0x24);
+    answer = grelfint_compile_default(bad, sizeof bad, 0, 1, out, sizeof out);
+    check("bad step", answer.refusal == 8 && answer.step == 1 && answer.length == 0);
+    check("address 240", grelfint_compile_default(book, sizeof book, 0, 240, out, sizeof out).refusal == 1);
+    check("cut book", grelfint_compile_default(book, sizeof book - 1, 0, 1, out, sizeof out).refusal == 6);
+    check("no such scene", grelfint_compile_default(book, sizeof book, 1, 1, out, sizeof out).refusal == 7);
+    check("no room", grelfint_compile_default(book, sizeof book, 0, 1, out, 4095).refusal == 9);
+}
+
+int main(void)
+{
+    lamps();
+    ticks();
+    memories_and_code();
+    batches();
+    frc();
+    gateway();
+    scenes();
+    if (failed > 0) {
+        printf("%d passed, %d failed\n", passed, failed);
+        return 1;
+    }
+    printf("%d passed\n", passed);
+    return 0;
+}

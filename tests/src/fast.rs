@@ -1,0 +1,445 @@
+//! Document 01's rules written for speed and without allocation: the other
+//! side of the benchmark. `sessions.rs` compares it with the plain reference.
+use super::ffi::{CompileAnswer, Node, NodeAnswer, RequestAnswer};
+
+fn sound(node: &Node) -> bool {
+    let s = &node.settings;
+    if s.address.wrapping_sub(1) > 238 || s.lamp_count.wrapping_sub(1) > 31 {
+        return false;
+    }
+    if !matches!(s.step, 1 | 2 | 4 | 5 | 10 | 20 | 25 | 50 | 100) {
+        return false;
+    }
+    let mut bad = false;
+    for l in &node.lamps {
+        bad |= (l.level > 100) | (l.seconds > 7620) | ((l.level == 0) & (l.seconds != 0));
+    }
+    for l in &node.lamps[s.lamp_count as usize..] {
+        bad |= (l.level != 0) | (l.seconds != 0);
+    }
+    !bad
+}
+
+#[inline(never)]
+pub extern "C" fn tick(mut node: Node) -> NodeAnswer {
+    if !sound(&node) {
+        return NodeAnswer { refusal: 1, node };
+    }
+    for l in node.lamps.iter_mut() {
+        let left = l.seconds.saturating_sub(1);
+        if l.seconds != 0 && left == 0 {
+            l.level = 0;
+        }
+        l.seconds = left;
+    }
+    NodeAnswer { refusal: 0, node }
+}
+
+struct Memories<'a> {
+    eeprom: &'a mut [u8; 192],
+    external: &'a mut [u8; 16384],
+}
+
+#[inline(never)]
+pub fn handle_request(
+    mut node: Node,
+    frame: &[u8],
+    eeprom: &mut [u8],
+    external: &mut [u8],
+    response: &mut [u8],
+) -> RequestAnswer {
+    let refusal = if !sound(&node) {
+        1
+    } else if frame.len() < 6 || frame.len() > 62 {
+        2
+    } else if response.len() < 64 {
+        3
+    } else if eeprom.len() != 192 || external.len() != 16384 {
+        4
+    } else {
+        0
+    };
+    if refusal != 0 {
+        return RequestAnswer { refusal, length: 0, load: false, node };
+    }
+    let nadr = u16::from_le_bytes([frame[0], frame[1]]);
+    let broadcast = nadr == 0xFF;
+    if !broadcast && nadr != node.settings.address {
+        return RequestAnswer { refusal: 0, length: 0, load: false, node };
+    }
+    let mut memories =
+        Memories { eeprom: eeprom.try_into().unwrap(), external: external.try_into().unwrap() };
+    let mut scratch = [0u8; 56];
+    let data: &mut [u8; 56] = if broadcast {
+        &mut scratch
+    } else {
+        (&mut response[8..64]).try_into().unwrap()
+    };
+    let mut load = false;
+    let (error, length) =
+        match one(&mut node, &mut memories, &frame[2..6], &frame[6..], Some(data), &mut load) {
+            Ok(length) => (0, length),
+            Err(error) => (error, 0),
+        };
+    if broadcast {
+        return RequestAnswer { refusal: 0, length: 0, load, node };
+    }
+    let s = &node.settings;
+    let a = s.address.to_le_bytes();
+    let h = s.hwpid.to_le_bytes();
+    response[..8].copy_from_slice(&[
+        a[0],
+        a[1],
+        frame[2],
+        frame[3] | 0x80,
+        h[0],
+        h[1],
+        error,
+        s.dpa_value,
+    ]);
+    RequestAnswer { refusal: 0, length: 8 + length, load, node }
+}
+
+/// `data` is none for an entry of a batch: nobody reads its answer.
+#[inline]
+fn one(
+    node: &mut Node,
+    m: &mut Memories,
+    head: &[u8],
+    p: &[u8],
+    data: Option<&mut [u8; 56]>,
+    load: &mut bool,
+) -> Result<usize, u8> {
+    let hwpid = u16::from_le_bytes([head[2], head[3]]);
+    if hwpid != node.settings.hwpid && hwpid != 0xFFFF {
+        return Err(7);
+    }
+    match (head[0], head[1]) {
+        (0x71, c @ 0..=2) => lights(node, c, p, data),
+        (0x71, 0x3E) => {
+            if !p.is_empty() {
+                return Err(5);
+            }
+            if let Some(data) = data {
+                data[0] = node.settings.lamp_count;
+            }
+            Ok(1)
+        }
+        (0x03, 0) => read(&m.eeprom[..], 1, 55, p, data),
+        (0x05, 0) => read(&node.ram[..], 1, 48, p, data),
+        (0x04, 2) => read(&m.external[..], 2, 54, p, data),
+        (0x03, 1) => write(&mut m.eeprom[..], 1, 55, p),
+        (0x05, 1) => write(&mut node.ram[..], 1, 48, p),
+        (0x04, 3) => write(&mut m.external[..], 2, 54, p),
+        (0x02, c) => {
+            let Some(data) = data else { return Err(3) };
+            match c {
+                0x05 => batch(node, m, p),
+                0x0A => code_check(m, p, data, load),
+                _ => Err(2),
+            }
+        }
+        (0x03, _) | (0x04, _) | (0x05, _) | (0x71, _) => Err(2),
+        _ => Err(3),
+    }
+}
+
+#[inline]
+fn at(width: usize, p: &[u8]) -> usize {
+    if width == 1 {
+        p[0] as usize
+    } else {
+        p[0] as usize | (p[1] as usize) << 8
+    }
+}
+
+#[inline]
+fn read(
+    bytes: &[u8],
+    width: usize,
+    longest: usize,
+    p: &[u8],
+    data: Option<&mut [u8; 56]>,
+) -> Result<usize, u8> {
+    if p.len() != width + 1 || p[width] as usize > longest {
+        return Err(5);
+    }
+    let start = at(width, p);
+    let length = p[width] as usize;
+    if start >= bytes.len() || start + length > bytes.len() {
+        return Err(4);
+    }
+    if let Some(data) = data {
+        data[..length].copy_from_slice(&bytes[start..start + length]);
+    }
+    Ok(length)
+}
+
+#[inline]
+fn write(bytes: &mut [u8], width: usize, longest: usize, p: &[u8]) -> Result<usize, u8> {
+    if p.len() < width + 1 || p.len() - width > longest {
+        return Err(5);
+    }
+    let start = at(width, p);
+    let from = &p[width..];
+    if start >= bytes.len() || start + from.len() > bytes.len() {
+        return Err(4);
+    }
+    bytes[start..start + from.len()].copy_from_slice(from);
+    Ok(0)
+}
+
+#[inline]
+fn actual(level: u8, step: u8) -> u8 {
+    if step == 1 {
+        level
+    } else {
+        level.div_ceil(step) * step
+    }
+}
+
+fn lights(node: &mut Node, pcmd: u8, p: &[u8], data: Option<&mut [u8; 56]>) -> Result<usize, u8> {
+    let Some((bitmap, entries)) = p.split_first_chunk::<4>() else { return Err(6) };
+    let mask = u32::from_le_bytes(*bitmap);
+    let ones = mask.count_ones() as usize;
+    // test all entries first
+    let mut i = 0;
+    for _ in 0..ones {
+        let Some(&b) = entries.get(i) else { return Err(6) };
+        let power = b & 0x7F;
+        if power > 100 && power != 127 {
+            return Err(6);
+        }
+        i += 1;
+        if b >= 0x80 {
+            let Some(&t) = entries.get(i) else { return Err(6) };
+            if t & 0x7F == 0 {
+                return Err(6);
+            }
+            i += 1;
+        }
+    }
+    if i != entries.len() {
+        return Err(6);
+    }
+    let mut none = [0u8; 56];
+    let data = data.unwrap_or(&mut none);
+    let count = node.settings.lamp_count as usize;
+    let step = node.settings.step;
+    let mut rest = mask;
+    let mut i = 0;
+    let mut k = 0;
+    while rest != 0 {
+        let lamp = rest.trailing_zeros() as usize;
+        rest &= rest - 1;
+        let b = entries[i];
+        i += 1;
+        let mut seconds = 0;
+        if b >= 0x80 {
+            let t = entries[i];
+            i += 1;
+            seconds = if t >= 0x80 { (t & 0x7F) as u16 } else { 60 * t as u16 };
+        }
+        if lamp < count {
+            let l = &mut node.lamps[lamp & 31];
+            data[k] = actual(l.level, step);
+            let power = b & 0x7F;
+            if power != 127 {
+                l.level = match pcmd {
+                    0 => power,
+                    1 => (l.level + power).min(100),
+                    _ => l.level.saturating_sub(power),
+                };
+                l.seconds = if l.level == 0 { 0 } else { seconds };
+            }
+        } else {
+            data[k] = 0;
+        }
+        k += 1;
+    }
+    Ok(ones)
+}
+
+fn batch(node: &mut Node, m: &mut Memories, p: &[u8]) -> Result<usize, u8> {
+    if p.is_empty() {
+        return Err(5);
+    }
+    let mut i = 0;
+    loop {
+        let Some(&l) = p.get(i) else { return Err(6) };
+        let l = l as usize;
+        if l == 0 {
+            if i + 1 != p.len() {
+                return Err(6);
+            }
+            break;
+        }
+        if l < 5 || i + l > p.len() {
+            return Err(6);
+        }
+        i += l;
+    }
+    let mut i = 0;
+    while p[i] != 0 {
+        let entry = &p[i..i + p[i] as usize];
+        let _ = one(node, m, &entry[1..5], &entry[5..], None, &mut false);
+        i += entry.len();
+    }
+    Ok(0)
+}
+
+fn code_check(m: &Memories, p: &[u8], data: &mut [u8; 56], load: &mut bool) -> Result<usize, u8> {
+    let Ok(p): Result<&[u8; 7], _> = p.try_into() else { return Err(5) };
+    let address = u16::from_le_bytes([p[1], p[2]]) as usize;
+    let length = u16::from_le_bytes([p[3], p[4]]) as usize;
+    let sum = u16::from_le_bytes([p[5], p[6]]);
+    if p[0] & 0xFC != 0 {
+        return Err(1);
+    }
+    let bad = if p[0] & 2 == 0 { length % 64 != 0 } else { length % 20 != 0 };
+    if length == 0 || bad {
+        return Err(6);
+    }
+    if address + length > 16384 {
+        return Err(4);
+    }
+    let mut low: u8 = if p[0] & 2 == 0 { 1 } else { 3 };
+    let mut high: u8 = 0;
+    for &b in &m.external[address..address + length] {
+        let (s, c) = low.overflowing_add(b);
+        low = s + c as u8;
+        let (s, c) = high.overflowing_add(low);
+        high = s + c as u8;
+    }
+    let same = u16::from_le_bytes([low, high]) == sum;
+    data[0] = same as u8;
+    *load = same && p[0] & 1 != 0;
+    Ok(1)
+}
+
+fn good(s: &[u8]) -> bool {
+    match s[0] {
+        0..=2 => s[1] < 32 && s[2] <= 100 && s[3] != 0x80,
+        3 => s[1] < 48 && s[3] == 0,
+        4 => s[1] < 192 && s[3] == 0,
+        _ => false,
+    }
+}
+
+/// One pass over the steps: requests are written behind room for as many
+/// length bytes as there can be, then moved up.
+#[inline(never)]
+pub fn compile(book: &[u8], scene: usize, address: u16, hwpid: u16, out: &mut [u8]) -> CompileAnswer {
+    let refused = |refusal, step| CompileAnswer { refusal, step, length: 0 };
+    if address.wrapping_sub(1) > 238 && address != 255 {
+        return refused(1, 0);
+    }
+    let Some(&n) = book.first() else { return refused(6, 0) };
+    let n = n as usize;
+    if n > 16 || book.len() < 1 + 3 * n {
+        return refused(6, 0);
+    }
+    let mut end = 1 + 3 * n;
+    let mut body = 0..0;
+    for (i, c) in book[1..1 + 3 * n].chunks_exact(3).enumerate() {
+        if c[2] > 64 || (c[0] as usize | (c[1] as usize) << 8) != end {
+            return refused(6, 0);
+        }
+        let next = end + 4 * c[2] as usize;
+        if i == scene {
+            body = end..next;
+        }
+        end = next;
+    }
+    if end != book.len() {
+        return refused(6, 0);
+    }
+    if scene >= n {
+        return refused(7, 0);
+    }
+    let steps = &book[body];
+    for (i, s) in steps.chunks_exact(4).enumerate() {
+        if !good(s) {
+            return refused(8, i as u8);
+        }
+    }
+    if out.len() < 4096 {
+        return refused(9, 0);
+    }
+    let a = address.to_le_bytes();
+    let h = hwpid.to_le_bytes();
+    let mut area = [0u8; 2048];
+    let mut lengths = [0u8; 64];
+    let mut count = 0usize;
+    let mut used = 0usize; // bytes of area
+    let mut list = 0usize; // bytes of the open list
+    let mut rest = steps;
+    while !rest.is_empty() {
+        let mut e = [0u8; 64];
+        let kind = rest[0];
+        let lamps = kind <= 2;
+        let mut size; // PData of the entry
+        if lamps {
+            size = 4;
+        } else {
+            e[5] = rest[1];
+            size = 1;
+        }
+        let mut taken = 0;
+        let mut before = 0u8;
+        for s in rest.chunks_exact(4) {
+            let more = if lamps && s[3] != 0 { 2 } else { 1 };
+            if taken != 0 {
+                let follows = if lamps { s[1] > before } else { s[1] == before + 1 };
+                if s[0] != kind || !follows || size + more > 50 {
+                    break;
+                }
+            }
+            before = s[1];
+            if lamps {
+                e[5 + (s[1] / 8) as usize] |= 1 << (s[1] % 8);
+                if more == 2 {
+                    e[5 + size] = s[2] | 0x80;
+                    e[6 + size] = s[3];
+                } else {
+                    e[5 + size] = s[2];
+                }
+            } else {
+                e[5 + size] = s[2];
+            }
+            size += more;
+            taken += 4;
+        }
+        rest = &rest[taken..];
+        let (pnum, pcmd) = match kind {
+            3 => (5, 1),
+            4 => (3, 1),
+            k => (0x71, k),
+        };
+        e[..5].copy_from_slice(&[5 + size as u8, pnum, pcmd, h[0], h[1]]);
+        let size = size + 5;
+        if count == 0 || list + size + 1 > 56 {
+            if count != 0 {
+                area[used] = 0;
+                used += 1;
+                lengths[count - 1] = (6 + list + 1) as u8;
+            }
+            area[used..used + 6].copy_from_slice(&[a[0], a[1], 2, 5, h[0], h[1]]);
+            used += 6;
+            count += 1;
+            list = 0;
+        }
+        area[used..used + size].copy_from_slice(&e[..size]);
+        used += size;
+        list += size;
+    }
+    if count != 0 {
+        area[used] = 0;
+        used += 1;
+        lengths[count - 1] = (6 + list + 1) as u8;
+    }
+    out[0] = count as u8;
+    out[1..1 + count].copy_from_slice(&lengths[..count]);
+    out[1 + count..1 + count + used].copy_from_slice(&area[..used]);
+    CompileAnswer { refusal: 0, step: 0, length: 1 + count + used }
+}

@@ -1,0 +1,291 @@
+//! The C interface of libgrelfint.a (DESIGN, "C interface"), and safe
+//! wrappers over it. A slice is a pointer and a length.
+
+#[repr(C)]
+#[derive(Clone, Copy, Debug, PartialEq, Eq, Default)]
+pub struct Settings {
+    pub address: u16,
+    pub hwpid: u16,
+    pub dpa_value: u8,
+    pub lamp_count: u8,
+    pub step: u8,
+}
+
+#[repr(C)]
+#[derive(Clone, Copy, Debug, PartialEq, Eq, Default)]
+pub struct Lamp {
+    pub level: u8,
+    pub seconds: u16,
+}
+
+#[repr(C)]
+#[derive(Clone, Copy, Debug, PartialEq, Eq)]
+pub struct Node {
+    pub settings: Settings,
+    pub lamps: [Lamp; 32],
+    pub ram: [u8; 48],
+}
+
+impl Node {
+    pub const ZERO: Node = Node {
+        settings: Settings { address: 0, hwpid: 0, dpa_value: 0, lamp_count: 0, step: 0 },
+        lamps: [Lamp { level: 0, seconds: 0 }; 32],
+        ram: [0; 48],
+    };
+}
+
+#[repr(C)]
+#[derive(Clone, Copy, Debug, PartialEq, Eq)]
+pub struct NodeAnswer {
+    pub refusal: u8,
+    pub node: Node,
+}
+
+#[repr(C)]
+#[derive(Clone, Copy, Debug, PartialEq, Eq)]
+pub struct RequestAnswer {
+    pub refusal: u8,
+    pub length: usize,
+    pub load: bool,
+    pub node: Node,
+}
+
+#[repr(C)]
+#[derive(Clone, Copy, Debug, PartialEq, Eq)]
+pub struct FrcAnswer {
+    pub refusal: u8,
+    pub value: u8,
+}
+
+#[repr(C)]
+#[derive(Clone, Copy, Debug, PartialEq, Eq)]
+pub struct LengthAnswer {
+    pub refusal: u8,
+    pub length: usize,
+}
+
+#[repr(C)]
+#[derive(Clone, Copy, Debug, PartialEq, Eq)]
+pub struct SlotAnswer {
+    pub refusal: u8,
+    pub slot: u8,
+}
+
+#[repr(C)]
+#[derive(Clone, Copy, Debug, PartialEq, Eq)]
+pub struct SendAnswer {
+    pub refusal: u8,
+    pub milliseconds: u32,
+}
+
+#[repr(C)]
+#[derive(Clone, Copy, Debug, PartialEq, Eq)]
+pub struct CompileAnswer {
+    pub refusal: u8,
+    pub step: u8,
+    pub length: usize,
+}
+
+mod raw {
+    use super::*;
+    extern "C" {
+        pub fn grelfint_start(settings: Settings) -> NodeAnswer;
+        pub fn grelfint_tick(node: Node) -> NodeAnswer;
+        pub fn grelfint_tick_in_place(node: *mut Node) -> u8;
+        pub fn grelfint_handle_request(
+            node: Node,
+            frame: *const u8,
+            frame_length: usize,
+            eeprom: *mut u8,
+            eeprom_length: usize,
+            external: *mut u8,
+            external_length: usize,
+            response: *mut u8,
+            response_length: usize,
+        ) -> RequestAnswer;
+        pub fn grelfint_view_status(
+            eeprom: *const u8,
+            eeprom_length: usize,
+            external: *const u8,
+            external_length: usize,
+            pnum: u8,
+            start: usize,
+            length: usize,
+        ) -> u8;
+        pub fn grelfint_frc(
+            node: Node,
+            command: u8,
+            user_data: *const u8,
+            user_data_length: usize,
+            stuck: u32,
+            alarm: u32,
+        ) -> FrcAnswer;
+        pub fn grelfint_confirm(
+            frame: *const u8,
+            frame_length: usize,
+            dpa_value: u8,
+            hops: u8,
+            response_hops: u8,
+            lp: bool,
+            out: *mut u8,
+            out_length: usize,
+        ) -> LengthAnswer;
+        pub fn grelfint_timeslot(pdata_length: usize, lp: bool) -> SlotAnswer;
+        pub fn grelfint_earliest_send(
+            hops: u8,
+            request_length: usize,
+            delay: u16,
+            response_hops: u8,
+            response_length: usize,
+            lp: bool,
+            broadcast: bool,
+        ) -> SendAnswer;
+        pub fn grelfint_compile(
+            book: *const u8,
+            book_length: usize,
+            scene: usize,
+            address: u16,
+            hwpid: u16,
+            out: *mut u8,
+            out_length: usize,
+        ) -> CompileAnswer;
+        pub fn grelfint_compile_default(
+            book: *const u8,
+            book_length: usize,
+            scene: usize,
+            address: u16,
+            out: *mut u8,
+            out_length: usize,
+        ) -> CompileAnswer;
+    }
+}
+
+// SAFETY, for each wrapper: the slices are live for the call, mutable ones
+// are not shared, and their true lengths are passed.
+
+pub fn start(settings: Settings) -> NodeAnswer {
+    unsafe { raw::grelfint_start(settings) }
+}
+
+pub fn tick(node: Node) -> NodeAnswer {
+    unsafe { raw::grelfint_tick(node) }
+}
+
+pub fn tick_in_place(node: &mut Node) -> u8 {
+    unsafe { raw::grelfint_tick_in_place(node) }
+}
+
+pub fn handle_request(
+    node: Node,
+    frame: &[u8],
+    eeprom: &mut [u8],
+    external: &mut [u8],
+    response: &mut [u8],
+) -> RequestAnswer {
+    unsafe {
+        raw::grelfint_handle_request(
+            node,
+            frame.as_ptr(),
+            frame.len(),
+            eeprom.as_mut_ptr(),
+            eeprom.len(),
+            external.as_mut_ptr(),
+            external.len(),
+            response.as_mut_ptr(),
+            response.len(),
+        )
+    }
+}
+
+pub fn view_status(eeprom: &[u8], external: &[u8], pnum: u8, start: usize, length: usize) -> u8 {
+    unsafe {
+        raw::grelfint_view_status(
+            eeprom.as_ptr(),
+            eeprom.len(),
+            external.as_ptr(),
+            external.len(),
+            pnum,
+            start,
+            length,
+        )
+    }
+}
+
+pub fn frc(node: Node, command: u8, user_data: &[u8], stuck: u32, alarm: u32) -> FrcAnswer {
+    unsafe { raw::grelfint_frc(node, command, user_data.as_ptr(), user_data.len(), stuck, alarm) }
+}
+
+pub fn confirm(
+    frame: &[u8],
+    dpa_value: u8,
+    hops: u8,
+    response_hops: u8,
+    lp: bool,
+    out: &mut [u8],
+) -> LengthAnswer {
+    unsafe {
+        raw::grelfint_confirm(
+            frame.as_ptr(),
+            frame.len(),
+            dpa_value,
+            hops,
+            response_hops,
+            lp,
+            out.as_mut_ptr(),
+            out.len(),
+        )
+    }
+}
+
+pub fn timeslot(pdata_length: usize, lp: bool) -> SlotAnswer {
+    unsafe { raw::grelfint_timeslot(pdata_length, lp) }
+}
+
+pub fn earliest_send(
+    hops: u8,
+    request_length: usize,
+    delay: u16,
+    response_hops: u8,
+    response_length: usize,
+    lp: bool,
+    broadcast: bool,
+) -> SendAnswer {
+    unsafe {
+        raw::grelfint_earliest_send(
+            hops,
+            request_length,
+            delay,
+            response_hops,
+            response_length,
+            lp,
+            broadcast,
+        )
+    }
+}
+
+pub fn compile(book: &[u8], scene: usize, address: u16, hwpid: u16, out: &mut [u8]) -> CompileAnswer {
+    unsafe {
+        raw::grelfint_compile(
+            book.as_ptr(),
+            book.len(),
+            scene,
+            address,
+            hwpid,
+            out.as_mut_ptr(),
+            out.len(),
+        )
+    }
+}
+
+pub fn compile_default(book: &[u8], scene: usize, address: u16, out: &mut [u8]) -> CompileAnswer {
+    unsafe {
+        raw::grelfint_compile_default(
+            book.as_ptr(),
+            book.len(),
+            scene,
+            address,
+            out.as_mut_ptr(),
+            out.len(),
+        )
+    }
+}

@@ -1,0 +1,745 @@
+//! Document 01, "Exact rules and what to build", written again in the
+//! plainest way: no cleverness, no speed. Each part names its section.
+use super::ffi::{
+    CompileAnswer, FrcAnswer, Lamp, LengthAnswer, Node, NodeAnswer, RequestAnswer, SendAnswer,
+    Settings, SlotAnswer,
+};
+
+// ---- Frames: ErrN ----
+pub const FAIL: u8 = 1;
+pub const PCMD: u8 = 2;
+pub const PNUM: u8 = 3;
+pub const ADDR: u8 = 4;
+pub const DATA_LEN: u8 = 5;
+pub const DATA: u8 = 6;
+pub const HWPID: u8 = 7;
+
+pub const EEPROM_SIZE: usize = 192;
+pub const EXTERNAL_SIZE: usize = 16_384;
+pub const STEPS: [u8; 9] = [1, 2, 4, 5, 10, 20, 25, 50, 100];
+
+fn word(low: u8, high: u8) -> u16 {
+    low as u16 + 256 * high as u16
+}
+
+// ---- Node and lamps ----
+pub fn settings_in_range(s: &Settings) -> bool {
+    s.address >= 1
+        && s.address <= 239
+        && s.lamp_count >= 1
+        && s.lamp_count <= 32
+        && STEPS.contains(&s.step)
+}
+
+pub fn node_rule(node: &Node) -> bool {
+    if !settings_in_range(&node.settings) {
+        return false;
+    }
+    for (i, lamp) in node.lamps.iter().enumerate() {
+        if lamp.level > 100 || lamp.seconds > 7620 {
+            return false;
+        }
+        if lamp.level == 0 && lamp.seconds != 0 {
+            return false;
+        }
+        if i >= node.settings.lamp_count as usize && (lamp.level != 0 || lamp.seconds != 0) {
+            return false;
+        }
+    }
+    true
+}
+
+/// The smallest multiple of the step not below the requested level.
+pub fn actual_level(level: u8, step: u8) -> u8 {
+    let mut multiple = 0u16;
+    while multiple < level as u16 {
+        multiple += step as u16;
+    }
+    multiple as u8
+}
+
+pub fn start(settings: Settings) -> NodeAnswer {
+    if !settings_in_range(&settings) {
+        return NodeAnswer { refusal: 1, node: Node::ZERO };
+    }
+    NodeAnswer { refusal: 0, node: Node { settings, ..Node::ZERO } }
+}
+
+pub fn tick(node: Node) -> NodeAnswer {
+    if !node_rule(&node) {
+        return NodeAnswer { refusal: 1, node };
+    }
+    let mut after = node;
+    for lamp in after.lamps.iter_mut() {
+        if lamp.seconds != 0 {
+            lamp.seconds -= 1;
+            if lamp.seconds == 0 {
+                lamp.level = 0;
+            }
+        }
+    }
+    NodeAnswer { refusal: 0, node: after }
+}
+
+pub fn tick_in_place(node: &mut Node) -> u8 {
+    let answer = tick(*node);
+    *node = answer.node;
+    answer.refusal
+}
+
+// ---- Taking a request ----
+/// What a request works on.
+pub struct State<'a> {
+    pub node: Node,
+    pub eeprom: &'a mut [u8],
+    pub external: &'a mut [u8],
+}
+
+/// Data of the answer and the load mark.
+type Outcome = Result<(Vec<u8>, bool), u8>;
+
+pub fn handle_request(
+    node: Node,
+    frame: &[u8],
+    eeprom: &mut [u8],
+    external: &mut [u8],
+    response: &mut [u8],
+) -> RequestAnswer {
+    let refused = |refusal| RequestAnswer { refusal, length: 0, load: false, node };
+    if !node_rule(&node) {
+        return refused(1);
+    }
+    if frame.len() < 6 || frame.len() > 62 {
+        return refused(2);
+    }
+    if response.len() < 64 {
+        return refused(3);
+    }
+    if eeprom.len() != EEPROM_SIZE || external.len() != EXTERNAL_SIZE {
+        return refused(4);
+    }
+    let nadr = word(frame[0], frame[1]);
+    if nadr != node.settings.address && nadr != 0x00FF {
+        return refused(0); // not mine
+    }
+    let mut state = State { node, eeprom, external };
+    let outcome = carry_out(
+        &mut state,
+        frame[2],
+        frame[3],
+        word(frame[4], frame[5]),
+        &frame[6..],
+        false,
+        &mut Vec::new(),
+    );
+    let (error, data, load) = match outcome {
+        Ok((data, load)) => (0, data, load),
+        Err(error) => (error, Vec::new(), false),
+    };
+    let mut length = 0;
+    if nadr != 0x00FF {
+        let s = &state.node.settings;
+        let mut bytes = vec![
+            (s.address % 256) as u8,
+            (s.address / 256) as u8,
+            frame[2],
+            frame[3] | 0x80,
+            (s.hwpid % 256) as u8,
+            (s.hwpid / 256) as u8,
+            error,
+            s.dpa_value,
+        ];
+        bytes.extend_from_slice(&data);
+        length = bytes.len();
+        response[..length].copy_from_slice(&bytes);
+    }
+    RequestAnswer { refusal: 0, length, load, node: state.node }
+}
+
+/// A request or a batch entry. `entry_errors` gets the ErrN of each entry of
+/// a batch, which no answer shows.
+pub fn carry_out(
+    state: &mut State,
+    pnum: u8,
+    pcmd: u8,
+    hwpid: u16,
+    pdata: &[u8],
+    in_batch: bool,
+    entry_errors: &mut Vec<u8>,
+) -> Outcome {
+    if hwpid != state.node.settings.hwpid && hwpid != 0xFFFF {
+        return Err(HWPID);
+    }
+    if in_batch && pnum == 0x02 {
+        return Err(PNUM); // the papers decide only that it is an error
+    }
+    match pnum {
+        0x02 => match pcmd {
+            0x05 => batch(state, pdata, entry_errors),
+            0x0A => code_check(state, pdata),
+            _ => Err(PCMD),
+        },
+        0x03 | 0x05 => match pcmd {
+            0x00 => memory_read(state, pnum, 1, pdata),
+            0x01 => memory_write(state, pnum, 1, pdata),
+            _ => Err(PCMD),
+        },
+        0x04 => match pcmd {
+            0x02 => memory_read(state, pnum, 2, pdata),
+            0x03 => memory_write(state, pnum, 2, pdata),
+            _ => Err(PCMD),
+        },
+        0x71 => match pcmd {
+            0x00..=0x02 => lights(state, pcmd, pdata),
+            0x3E => {
+                if !pdata.is_empty() {
+                    return Err(DATA_LEN);
+                }
+                Ok((vec![state.node.settings.lamp_count], false))
+            }
+            _ => Err(PCMD),
+        },
+        _ => Err(PNUM),
+    }
+}
+
+// ---- Memories ----
+fn memory<'a>(state: &'a mut State, pnum: u8) -> &'a mut [u8] {
+    match pnum {
+        0x03 => &mut state.eeprom[..],
+        0x04 => &mut state.external[..],
+        _ => &mut state.node.ram[..],
+    }
+}
+
+fn longest_block(pnum: u8) -> usize {
+    match pnum {
+        0x03 => 55,
+        0x04 => 54,
+        _ => 48,
+    }
+}
+
+fn start_address(width: usize, pdata: &[u8]) -> usize {
+    if width == 1 {
+        pdata[0] as usize
+    } else {
+        word(pdata[0], pdata[1]) as usize
+    }
+}
+
+fn memory_read(state: &mut State, pnum: u8, width: usize, pdata: &[u8]) -> Outcome {
+    if pdata.len() != width + 1 {
+        return Err(DATA_LEN);
+    }
+    let start = start_address(width, pdata);
+    let length = pdata[width] as usize;
+    if length > longest_block(pnum) {
+        return Err(DATA_LEN);
+    }
+    let bytes = memory(state, pnum);
+    if start >= bytes.len() || start + length > bytes.len() {
+        return Err(ADDR);
+    }
+    Ok((bytes[start..start + length].to_vec(), false))
+}
+
+fn memory_write(state: &mut State, pnum: u8, width: usize, pdata: &[u8]) -> Outcome {
+    if pdata.len() < width + 1 {
+        return Err(DATA_LEN);
+    }
+    let start = start_address(width, pdata);
+    let data = &pdata[width..];
+    if data.len() > longest_block(pnum) {
+        return Err(DATA_LEN);
+    }
+    let bytes = memory(state, pnum);
+    if start >= bytes.len() || start + data.len() > bytes.len() {
+        return Err(ADDR);
+    }
+    bytes[start..start + data.len()].copy_from_slice(data);
+    Ok((Vec::new(), false))
+}
+
+pub fn view_status(eeprom: &[u8], external: &[u8], pnum: u8, start: usize, length: usize) -> u8 {
+    if eeprom.len() != EEPROM_SIZE || external.len() != EXTERNAL_SIZE {
+        return 4;
+    }
+    if pnum != 0x03 && pnum != 0x04 {
+        return 10;
+    }
+    if length > longest_block(pnum) {
+        return 15;
+    }
+    let size = if pnum == 0x03 { EEPROM_SIZE } else { EXTERNAL_SIZE };
+    if start >= size || start + length > size {
+        return 16;
+    }
+    0
+}
+
+// ---- Lights ----
+/// Seconds of a valid time byte.
+pub fn seconds_of(time: u8) -> Option<u16> {
+    match time {
+        0x00 | 0x80 => None,
+        0x01..=0x7F => Some(60 * time as u16),
+        0x81..=0xFF => Some((time & 0x7F) as u16),
+    }
+}
+
+/// One selected lamp: its index, the low seven bits of the power byte, and
+/// the seconds if there is a time byte.
+struct Entry {
+    lamp: usize,
+    power: u8,
+    seconds: Option<u16>,
+}
+
+fn read_lamp_entries(pdata: &[u8]) -> Option<Vec<Entry>> {
+    if pdata.len() < 4 {
+        return None;
+    }
+    let mut entries = Vec::new();
+    let mut at = 4;
+    for lamp in 0..32 {
+        if pdata[lamp / 8] & (1 << (lamp % 8)) == 0 {
+            continue;
+        }
+        let byte = *pdata.get(at)?;
+        at += 1;
+        let power = byte & 0x7F;
+        if power > 100 && power != 127 {
+            return None;
+        }
+        let mut seconds = None;
+        if byte & 0x80 != 0 {
+            let time = *pdata.get(at)?;
+            at += 1;
+            seconds = Some(seconds_of(time)?);
+        }
+        entries.push(Entry { lamp, power, seconds });
+    }
+    if at != pdata.len() {
+        return None;
+    }
+    Some(entries)
+}
+
+fn lights(state: &mut State, pcmd: u8, pdata: &[u8]) -> Outcome {
+    let entries = match read_lamp_entries(pdata) {
+        Some(entries) => entries,
+        None => return Err(DATA),
+    };
+    let settings = state.node.settings;
+    let mut previous = Vec::new();
+    for entry in entries {
+        if entry.lamp >= settings.lamp_count as usize {
+            previous.push(0);
+            continue;
+        }
+        let lamp = state.node.lamps[entry.lamp];
+        previous.push(actual_level(lamp.level, settings.step));
+        if entry.power == 127 {
+            continue;
+        }
+        let level = new_level(pcmd, lamp.level, entry.power);
+        let seconds = if level == 0 { 0 } else { entry.seconds.unwrap_or(0) };
+        state.node.lamps[entry.lamp] = Lamp { level, seconds };
+    }
+    Ok((previous, false))
+}
+
+/// 0 set, 1 raise, 2 lower.
+fn new_level(kind: u8, level: u8, value: u8) -> u8 {
+    let sum = match kind {
+        0 => value as i32,
+        1 => level as i32 + value as i32,
+        _ => level as i32 - value as i32,
+    };
+    sum.clamp(0, 100) as u8
+}
+
+// ---- OS ----
+/// PNUM, PCMD, HWPID and PData of each entry; none if the list is malformed.
+pub fn read_batch(list: &[u8]) -> Option<Vec<(u8, u8, u16, &[u8])>> {
+    let mut entries = Vec::new();
+    let mut at = 0;
+    loop {
+        let length = *list.get(at)? as usize; // none: the zero is missing
+        if length == 0 {
+            // the zero is the last byte
+            return if at + 1 == list.len() { Some(entries) } else { None };
+        }
+        if length < 5 || at + length > list.len() {
+            return None;
+        }
+        let e = &list[at..at + length];
+        entries.push((e[1], e[2], word(e[3], e[4]), &e[5..]));
+        at += length;
+    }
+}
+
+fn batch(state: &mut State, pdata: &[u8], entry_errors: &mut Vec<u8>) -> Outcome {
+    if pdata.is_empty() {
+        return Err(DATA_LEN);
+    }
+    let entries = match read_batch(pdata) {
+        Some(entries) => entries,
+        None => return Err(DATA),
+    };
+    for (pnum, pcmd, hwpid, data) in entries {
+        let error = match carry_out(state, pnum, pcmd, hwpid, data, true, &mut Vec::new()) {
+            Ok(_) => 0,
+            Err(error) => error,
+        };
+        entry_errors.push(error);
+    }
+    Ok((Vec::new(), false))
+}
+
+fn byte_sum(a: u8, b: u8) -> u8 {
+    let sum = a as u16 + b as u16;
+    if sum > 255 {
+        (sum - 256 + 1) as u8
+    } else {
+        sum as u8
+    }
+}
+
+pub fn checksum(first: u8, bytes: &[u8]) -> u16 {
+    let mut low = first;
+    let mut high = 0;
+    for &b in bytes {
+        low = byte_sum(low, b);
+        high = byte_sum(high, low);
+    }
+    word(low, high)
+}
+
+fn code_check(state: &mut State, pdata: &[u8]) -> Outcome {
+    if pdata.len() != 7 {
+        return Err(DATA_LEN);
+    }
+    let flags = pdata[0];
+    let address = word(pdata[1], pdata[2]) as usize;
+    let length = word(pdata[3], pdata[4]) as usize;
+    let sum = word(pdata[5], pdata[6]);
+    if flags & 0xFC != 0 {
+        return Err(FAIL);
+    }
+    let (unit, first) = if flags & 2 == 0 { (64, 1) } else { (20, 3) };
+    if length == 0 || length % unit != 0 {
+        return Err(DATA);
+    }
+    if address + length > EXTERNAL_SIZE {
+        return Err(ADDR);
+    }
+    let matches = checksum(first, &state.external[address..address + length]) == sum;
+    Ok((vec![matches as u8], matches && flags & 1 != 0))
+}
+
+// ---- FRC ----
+pub fn frc(node: Node, command: u8, user_data: &[u8], stuck: u32, alarm: u32) -> FrcAnswer {
+    if !node_rule(&node) {
+        return FrcAnswer { refusal: 1, value: 0 };
+    }
+    let none = FrcAnswer { refusal: 0, value: 1 };
+    if command != 0x10 && command != 0x11 {
+        return none;
+    }
+    if user_data.len() < 2 || user_data[0] != 0x71 {
+        return none;
+    }
+    let lamp = (user_data[1] & 0x1F) as usize;
+    if lamp >= node.settings.lamp_count as usize {
+        return none;
+    }
+    let bit = |mask: u32| mask & (1u32 << lamp) != 0;
+    let yes = if command == 0x10 {
+        actual_level(node.lamps[lamp].level, node.settings.step) != 0 || bit(stuck)
+    } else {
+        bit(alarm)
+    };
+    FrcAnswer { refusal: 0, value: if yes { 3 } else { 2 } }
+}
+
+// ---- Confirmation and waiting ----
+fn slot(pdata_length: usize, lp: bool) -> u8 {
+    let std = if pdata_length < 17 {
+        4
+    } else if pdata_length <= 40 {
+        5
+    } else {
+        6
+    };
+    if lp {
+        std + 4
+    } else {
+        std
+    }
+}
+
+pub fn timeslot(pdata_length: usize, lp: bool) -> SlotAnswer {
+    if pdata_length > 56 {
+        return SlotAnswer { refusal: 5, slot: 0 };
+    }
+    SlotAnswer { refusal: 0, slot: slot(pdata_length, lp) }
+}
+
+pub fn confirm(
+    frame: &[u8],
+    dpa_value: u8,
+    hops: u8,
+    response_hops: u8,
+    lp: bool,
+    out: &mut [u8],
+) -> LengthAnswer {
+    if frame.len() < 6 || frame.len() > 62 {
+        return LengthAnswer { refusal: 2, length: 0 };
+    }
+    if out.len() < 64 {
+        return LengthAnswer { refusal: 3, length: 0 };
+    }
+    out[..6].copy_from_slice(&frame[..6]);
+    out[6] = 0xFF;
+    out[7] = dpa_value;
+    out[8] = hops;
+    out[9] = slot(frame.len() - 6, lp);
+    out[10] = if word(frame[0], frame[1]) == 0x00FF { 0 } else { response_hops };
+    LengthAnswer { refusal: 0, length: 11 }
+}
+
+pub fn earliest_send(
+    hops: u8,
+    request_length: usize,
+    delay: u16,
+    response_hops: u8,
+    response_length: usize,
+    lp: bool,
+    broadcast: bool,
+) -> SendAnswer {
+    if request_length > 56 || response_length > 56 {
+        return SendAnswer { refusal: 5, milliseconds: 0 };
+    }
+    let there = (hops as u32 + 1) * slot(request_length, lp) as u32 * 10;
+    let back = (response_hops as u32 + 1) * slot(response_length, lp) as u32 * 10;
+    let milliseconds = there + delay as u32 + if broadcast { 0 } else { back };
+    SendAnswer { refusal: 0, milliseconds }
+}
+
+// ---- Scenes ----
+pub type Step = [u8; 4]; // kind, target, value, time
+
+/// The scenes of a well-formed book, none of an ill-formed one.
+pub fn read_book(book: &[u8]) -> Option<Vec<Vec<Step>>> {
+    let count = *book.first()? as usize;
+    if count > 16 || book.len() < 1 + 3 * count {
+        return None;
+    }
+    let mut scenes = Vec::new();
+    let mut at = 1 + 3 * count;
+    for i in 0..count {
+        let offset = word(book[1 + 3 * i], book[2 + 3 * i]) as usize;
+        let steps = book[3 + 3 * i] as usize;
+        if steps > 64 || offset != at || at + 4 * steps > book.len() {
+            return None;
+        }
+        let body = &book[at..at + 4 * steps];
+        scenes.push(body.chunks(4).map(|s| [s[0], s[1], s[2], s[3]]).collect());
+        at += 4 * steps;
+    }
+    if at != book.len() {
+        return None;
+    }
+    Some(scenes)
+}
+
+pub fn step_is_good(step: Step) -> bool {
+    let [kind, target, value, time] = step;
+    match kind {
+        0..=2 => target < 32 && value <= 100 && (time == 0 || seconds_of(time).is_some()),
+        3 => target < 48 && time == 0,
+        4 => (target as usize) < EEPROM_SIZE && time == 0,
+        _ => false,
+    }
+}
+
+/// One step done singly.
+pub fn do_step(state: &mut State, step: Step) {
+    if !step_is_good(step) {
+        return;
+    }
+    let [kind, target, value, time] = step;
+    let target = target as usize;
+    match kind {
+        0..=2 => {
+            if target >= state.node.settings.lamp_count as usize {
+                return;
+            }
+            let level = new_level(kind, state.node.lamps[target].level, value);
+            let seconds = if time == 0 || level == 0 { 0 } else { seconds_of(time).unwrap() };
+            state.node.lamps[target] = Lamp { level, seconds };
+        }
+        3 => state.node.ram[target] = value,
+        _ => state.eeprom[target] = value,
+    }
+}
+
+/// The entries that the joining rule makes: kind and the steps of each.
+fn join(steps: &[Step]) -> Vec<Vec<Step>> {
+    let mut entries: Vec<Vec<Step>> = Vec::new();
+    for &step in steps {
+        if let Some(entry) = entries.last_mut() {
+            let before = entry[entry.len() - 1];
+            let follows = if step[0] <= 2 {
+                step[1] > before[1]
+            } else {
+                step[1] as usize == before[1] as usize + 1
+            };
+            let mut longer = entry.clone();
+            longer.push(step);
+            if step[0] == before[0] && follows && entry_pdata(&longer).len() <= 50 {
+                *entry = longer;
+                continue;
+            }
+        }
+        entries.push(vec![step]);
+    }
+    entries
+}
+
+fn entry_pdata(steps: &[Step]) -> Vec<u8> {
+    let mut pdata = Vec::new();
+    if steps[0][0] <= 2 {
+        let mut bitmap = [0u8; 4];
+        for s in steps {
+            bitmap[s[1] as usize / 8] |= 1 << (s[1] % 8);
+        }
+        pdata.extend_from_slice(&bitmap);
+        for s in steps {
+            if s[3] == 0 {
+                pdata.push(s[2]);
+            } else {
+                pdata.push(s[2] | 0x80);
+                pdata.push(s[3]);
+            }
+        }
+    } else {
+        pdata.push(steps[0][1]);
+        for s in steps {
+            pdata.push(s[2]);
+        }
+    }
+    pdata
+}
+
+fn entry_bytes(steps: &[Step], hwpid: u16) -> Vec<u8> {
+    let (pnum, pcmd) = match steps[0][0] {
+        3 => (0x05, 0x01),
+        4 => (0x03, 0x01),
+        kind => (0x71, kind),
+    };
+    let pdata = entry_pdata(steps);
+    let mut bytes = vec![
+        5 + pdata.len() as u8,
+        pnum,
+        pcmd,
+        (hwpid % 256) as u8,
+        (hwpid / 256) as u8,
+    ];
+    bytes.extend_from_slice(&pdata);
+    bytes
+}
+
+/// The requests of a scene of good steps.
+pub fn requests(steps: &[Step], address: u16, hwpid: u16) -> Vec<Vec<u8>> {
+    let mut lists: Vec<Vec<u8>> = Vec::new();
+    for entry in join(steps) {
+        let bytes = entry_bytes(&entry, hwpid);
+        match lists.last_mut() {
+            Some(list) if list.len() + bytes.len() + 1 <= 56 => list.extend_from_slice(&bytes),
+            _ => lists.push(bytes),
+        }
+    }
+    let mut all = Vec::new();
+    for list in lists {
+        let mut request = vec![
+            (address % 256) as u8,
+            (address / 256) as u8,
+            0x02,
+            0x05,
+            (hwpid % 256) as u8,
+            (hwpid / 256) as u8,
+        ];
+        request.extend_from_slice(&list);
+        request.push(0);
+        all.push(request);
+    }
+    all
+}
+
+pub fn compile(book: &[u8], scene: usize, address: u16, hwpid: u16, out: &mut [u8]) -> CompileAnswer {
+    let refused = |refusal, step| CompileAnswer { refusal, step, length: 0 };
+    if !((1..=239).contains(&address) || address == 255) {
+        return refused(1, 0);
+    }
+    let scenes = match read_book(book) {
+        Some(scenes) => scenes,
+        None => return refused(6, 0),
+    };
+    if scene >= scenes.len() {
+        return refused(7, 0);
+    }
+    let steps = &scenes[scene];
+    for (i, &step) in steps.iter().enumerate() {
+        if !step_is_good(step) {
+            return refused(8, i as u8);
+        }
+    }
+    if out.len() < 4096 {
+        return refused(9, 0);
+    }
+    let list = requests(steps, address, hwpid);
+    let mut bytes = vec![list.len() as u8];
+    for request in &list {
+        bytes.push(request.len() as u8);
+    }
+    for request in &list {
+        bytes.extend_from_slice(request);
+    }
+    out[..bytes.len()].copy_from_slice(&bytes);
+    CompileAnswer { refusal: 0, step: 0, length: bytes.len() }
+}
+
+pub fn compile_default(book: &[u8], scene: usize, address: u16, out: &mut [u8]) -> CompileAnswer {
+    compile(book, scene, address, 0xFFFF, out)
+}
+
+/// What `sceneshow` prints for a book.
+pub fn sceneshow(book: &[u8]) -> String {
+    let refused = |number: u8| format!("refused {number}\n");
+    if book.len() > 4145 {
+        return refused(6);
+    }
+    let settings = Settings { address: 1, hwpid: 0x2471, dpa_value: 0, lamp_count: 3, step: 1 };
+    let mut out = vec![0; 4096];
+    let answer = compile_default(book, 0, 1, &mut out);
+    if answer.refusal != 0 {
+        return refused(answer.refusal);
+    }
+    let mut eeprom = [0; EEPROM_SIZE];
+    let mut external = vec![0; EXTERNAL_SIZE];
+    let mut state =
+        State { node: start(settings).node, eeprom: &mut eeprom, external: &mut external };
+    for &step in &read_book(book).unwrap()[0] {
+        do_step(&mut state, step);
+    }
+    let mut text = String::from("lamp level actual left\n");
+    for i in 0..3 {
+        let lamp = state.node.lamps[i];
+        let actual = actual_level(lamp.level, settings.step);
+        text += &format!("{} {} {} {}\n", i, lamp.level, actual, lamp.seconds);
+    }
+    text
+}

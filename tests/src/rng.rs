@@ -1,0 +1,59 @@
+//! A xorshift generator: small, and the same sequence from the same seed.
+pub struct Rng(u64);
+
+impl Rng {
+    pub fn new(seed: u64) -> Rng {
+        let mut r = Rng((seed ^ 0x9E37_79B9_7F4A_7C15) | 1);
+        for _ in 0..8 {
+            r.next();
+        }
+        r
+    }
+
+    pub fn next(&mut self) -> u64 {
+        let mut x = self.0;
+        x ^= x << 13;
+        x ^= x >> 7;
+        x ^= x << 17;
+        self.0 = x;
+        x.wrapping_mul(0x2545_F491_4F6C_DD1D)
+    }
+
+    /// A number from 0 to n - 1.
+    pub fn below(&mut self, n: usize) -> usize {
+        ((self.next() >> 32) as usize) % n
+    }
+
+    /// A number from a to b, both included.
+    pub fn within(&mut self, a: usize, b: usize) -> usize {
+        a + self.below(b - a + 1)
+    }
+
+    /// True `of` times in `outof`.
+    pub fn chance(&mut self, of: usize, outof: usize) -> bool {
+        self.below(outof) < of
+    }
+
+    pub fn byte(&mut self) -> u8 {
+        (self.next() >> 40) as u8
+    }
+
+    pub fn word(&mut self) -> u16 {
+        (self.next() >> 40) as u16
+    }
+
+    pub fn long(&mut self) -> u32 {
+        (self.next() >> 32) as u32
+    }
+
+    pub fn pick<T: Copy>(&mut self, from: &[T]) -> T {
+        from[self.below(from.len())]
+    }
+
+    pub fn fill(&mut self, bytes: &mut [u8]) {
+        for part in bytes.chunks_mut(8) {
+            let x = self.next().to_le_bytes();
+            part.copy_from_slice(&x[..part.len()]);
+        }
+    }
+}

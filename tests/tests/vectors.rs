@@ -1,0 +1,322 @@
+//! Figures that stand in the documents, through the C interface: document
+//! 01's worked examples that are not marked P (and, cheaply, those that are),
+//! the light standard's step table and examples (001), the confirmation's
+//! figures (003), and the guide's batch and confirmation examples (000).
+use grelfint_tests::ffi::{self, FrcAnswer, Lamp, Node, Settings};
+
+struct Board {
+    node: Node,
+    eeprom: Vec<u8>,
+    external: Vec<u8>,
+    response: Vec<u8>,
+}
+
+impl Board {
+    fn new(lamp_count: u8, step: u8) -> Board {
+        let settings = Settings { address: 1, hwpid: 0x2471, dpa_value: 7, lamp_count, step };
+        let a = ffi::start(settings);
+        assert_eq!(a.refusal, 0);
+        assert_eq!(a.node, Node { settings, ..Node::ZERO });
+        Board { node: a.node, eeprom: vec![0; 192], external: vec![0; 16_384], response: vec![0xEE; 64] }
+    }
+
+    /// The whole answer: its bytes, and the load mark.
+    fn frame(&mut self, frame: &[u8]) -> (Vec<u8>, bool) {
+        self.response.fill(0xEE);
+        let a = ffi::handle_request(self.node, frame, &mut self.eeprom, &mut self.external, &mut self.response);
+        assert_eq!(a.refusal, 0);
+        assert!(self.response[a.length..].iter().all(|&b| b == 0xEE), "later bytes stay");
+        self.node = a.node;
+        (self.response[..a.length].to_vec(), a.load)
+    }
+
+    /// ErrN and data of a request to this node under the wildcard profile.
+    fn take(&mut self, pnum: u8, pcmd: u8, pdata: &[u8]) -> (u8, Vec<u8>) {
+        let mut frame = vec![1, 0, pnum, pcmd, 0xFF, 0xFF];
+        frame.extend_from_slice(pdata);
+        let (bytes, _) = self.frame(&frame);
+        assert_eq!(bytes[..6], [1, 0, pnum, pcmd | 0x80, 0x71, 0x24]);
+        assert_eq!(bytes[7], 7);
+        (bytes[6], bytes[8..].to_vec())
+    }
+
+    fn lamps(&self, n: usize) -> Vec<(u8, u16)> {
+        self.node.lamps[..n].iter().map(|l| (l.level, l.seconds)).collect()
+    }
+}
+
+// ---- document 01, not marked P ----
+#[test]
+fn external_read_at_the_end() {
+    let mut b = Board::new(3, 1);
+    b.external[0x3FFF] = 0x5C;
+    assert_eq!(b.take(4, 2, &[0xFF, 0x3F, 1]), (0, vec![0x5C]));
+    assert_eq!(b.take(4, 2, &[0xFF, 0x3F, 2]), (4, vec![]));
+}
+
+#[test]
+fn level_100_is_accepted_101_is_not() {
+    let mut b = Board::new(1, 1);
+    assert_eq!(b.take(0x71, 0, &[1, 0, 0, 0, 0x65]), (6, vec![]));
+    assert_eq!(b.lamps(1), [(0, 0)]);
+    assert_eq!(b.take(0x71, 0, &[1, 0, 0, 0, 0x64]), (0, vec![0]));
+    assert_eq!(b.lamps(1), [(100, 0)]);
+    assert_eq!(b.take(0x71, 0, &[1, 0, 0, 0, 0x80, 0x80]), (6, vec![]));
+    assert_eq!(b.lamps(1), [(100, 0)]);
+}
+
+#[test]
+fn the_half_obeyed_row() {
+    // CONDITIONS: nine lamps raised, the eighth byte bad: none goes up.
+    let mut b = Board::new(9, 1);
+    let good = [0xFF, 1, 0, 0, 10, 10, 10, 10, 10, 10, 10, 10, 10];
+    let mut bad = good;
+    bad[4 + 7] = 101;
+    assert_eq!(b.take(0x71, 1, &bad), (6, vec![]));
+    assert_eq!(b.lamps(9), [(0, 0); 9]);
+    assert_eq!(b.take(0x71, 1, &good), (0, vec![0; 9]));
+    assert_eq!(b.lamps(9), [(10, 0); 9]);
+}
+
+#[test]
+fn batch_first_entry_is_not_all() {
+    // document 01, Strength: a set on lamp 0 and then a raise on lamp 1.
+    let mut b = Board::new(3, 1);
+    let list = [10, 0x71, 0, 0xFF, 0xFF, 1, 0, 0, 0, 10, 10, 0x71, 1, 0xFF, 0xFF, 2, 0, 0, 0, 20, 0];
+    assert_eq!(b.take(2, 5, &list), (0, vec![]));
+    assert_eq!(b.lamps(3), [(10, 0), (20, 0), (0, 0)]);
+}
+
+// ---- document 01, marked P: run as well, through the interface ----
+#[test]
+fn checksums() {
+    // flags 0: 64s from 1; flags 2: 20s from 3. 64 zeros 0x4001, 20 zeros 0x3C03.
+    let mut b = Board::new(3, 1);
+    assert_eq!(b.take(2, 0x0A, &[0, 0, 0, 64, 0, 0x01, 0x40]), (0, vec![1]));
+    assert_eq!(b.take(2, 0x0A, &[0, 0, 0, 64, 0, 0x00, 0x40]), (0, vec![0]));
+    assert_eq!(b.take(2, 0x0A, &[2, 0, 0, 20, 0, 0x03, 0x3C]), (0, vec![1]));
+    // the load mark: only with bit 0 and a match
+    let (_, load) = b.frame(&[1, 0, 2, 0x0A, 0xFF, 0xFF, 1, 0, 0, 64, 0, 0x01, 0x40]);
+    assert!(load);
+    let (_, load) = b.frame(&[1, 0, 2, 0x0A, 0xFF, 0xFF, 1, 0, 0, 64, 0, 0x02, 0x40]);
+    assert!(!load);
+    let (bytes, load) = b.frame(&[0xFF, 0, 2, 0x0A, 0xFF, 0xFF, 1, 0, 0, 64, 0, 0x01, 0x40]);
+    assert!(load && bytes.is_empty());
+    // from 1, FE and then 63 FF bytes: 0xFFFF after FE, each FF keeps a sum of FF
+    b.external[..64].fill(0xFF);
+    b.external[0] = 0xFE;
+    assert_eq!(b.take(2, 0x0A, &[0, 0, 0, 64, 0, 0xFF, 0xFF]), (0, vec![1]));
+}
+
+#[test]
+fn batches_of_one_byte_and_of_a_short_entry() {
+    let mut b = Board::new(3, 1);
+    assert_eq!(b.take(2, 5, &[0]), (0, vec![]));
+    assert_eq!(b.take(2, 5, &[4, 0]), (6, vec![]));
+    assert_eq!(b.take(2, 5, &[]), (5, vec![]));
+    assert_eq!(b.take(2, 5, &[0, 0]), (6, vec![]));
+}
+
+#[test]
+fn compiled_scene() {
+    let book = [1, 4, 0, 2, 0, 0, 0x0A, 0, 0, 2, 0x64, 2];
+    let want = [
+        1, 0x13, 1, 0, 2, 5, 0xFF, 0xFF, 0x0C, 0x71, 0, 0xFF, 0xFF, 5, 0, 0, 0, 0x0A, 0xE4, 2, 0,
+    ];
+    let mut out = vec![0xEE; 4096];
+    let a = ffi::compile_default(&book, 0, 1, &mut out);
+    assert_eq!((a.refusal, a.step, a.length), (0, 0, want.len()));
+    assert_eq!(out[..want.len()], want);
+    assert!(out[want.len()..].iter().all(|&b| b == 0xEE));
+    let mut b = Board::new(3, 1);
+    let (bytes, _) = b.frame(&out[2..21]);
+    assert_eq!(bytes, [1, 0, 2, 0x85, 0x71, 0x24, 0, 7]);
+    assert_eq!(b.lamps(3), [(10, 0), (0, 0), (100, 120)]);
+    // a scene of 0 steps, an empty book, steps on the same lamp
+    assert_eq!(ffi::compile_default(&[1, 4, 0, 0], 0, 255, &mut out).length, 1);
+    assert_eq!(out[0], 0);
+    assert_eq!(ffi::compile_default(&[0], 0, 1, &mut out).refusal, 7);
+    assert_eq!(ffi::compile_default(&[], 0, 1, &mut out).refusal, 6);
+    let twice = [1, 4, 0, 2, 0, 0, 10, 0, 0, 0, 20, 0];
+    let a = ffi::compile(&twice, 0, 255, 0x2471, &mut out);
+    let want = [
+        1, 27, 0xFF, 0, 2, 5, 0x71, 0x24, 10, 0x71, 0, 0x71, 0x24, 1, 0, 0, 0, 10, 10, 0x71, 0,
+        0x71, 0x24, 1, 0, 0, 0, 20, 0,
+    ];
+    assert_eq!((a.refusal, &out[..a.length]), (0, &want[..]));
+}
+
+// ---- the light standard (001) ----
+#[test]
+fn light_standard_step_table() {
+    // 2.2: command, requested, actual, reported previous power
+    let table = [
+        (0, 15, 15, 20, 0),
+        (1, 6, 21, 30, 20),
+        (2, 10, 11, 20, 30),
+        (2, 9, 2, 10, 20),
+        (2, 100, 0, 0, 10),
+        (1, 0, 0, 0, 0),
+    ];
+    let mut b = Board::new(1, 10);
+    for (pcmd, value, requested, actual, previous) in table {
+        assert_eq!(b.take(0x71, pcmd, &[1, 0, 0, 0, value]), (0, vec![previous]));
+        assert_eq!(b.node.lamps[0].level, requested);
+        // the actual level: what a kept level reports as before
+        assert_eq!(b.take(0x71, 0, &[1, 0, 0, 0, 127]), (0, vec![actual]));
+        assert_eq!(b.node.lamps[0].level, requested);
+    }
+}
+
+#[test]
+fn light_standard_examples() {
+    let mut b = Board::new(3, 1);
+    // Enumerate lights
+    assert_eq!(b.take(0x71, 0x3E, &[]), (0, vec![3]));
+    // Set 1st light to 10% and 3rd light to 100% for 2 minutes
+    assert_eq!(b.take(0x71, 0, &[5, 0, 0, 0, 0x0A, 0xE4, 2]), (0, vec![0, 0]));
+    assert_eq!(b.lamps(3), [(10, 0), (0, 0), (100, 120)]);
+    // Read FRC Light On/Off for the 2nd light: off
+    let frc = |node, command, lamp, stuck, alarm| ffi::frc(node, command, &[0x71, lamp], stuck, alarm);
+    let value = |value| FrcAnswer { refusal: 0, value };
+    assert_eq!(frc(b.node, 0x10, 1, 0, 0), value(2));
+    // Increase 1st light by +10% for 3 minutes and 2nd light by +50%
+    assert_eq!(b.take(0x71, 1, &[3, 0, 0, 0, 0x8A, 3, 0x32]), (0, vec![10, 0]));
+    assert_eq!(b.lamps(3), [(20, 180), (50, 0), (100, 120)]);
+    assert_eq!(frc(b.node, 0x10, 1, 0, 0), value(3));
+    // 3.1 a closed relay reports on; 3.2 alarm; 3.3 not implemented
+    let dark = Board::new(3, 1).node;
+    assert_eq!(frc(dark, 0x10, 1, 0b010, 0), value(3));
+    assert_eq!(frc(dark, 0x10, 1, 0b101, 0), value(2));
+    assert_eq!(frc(dark, 0x11, 2, 0, 0b100), value(3));
+    assert_eq!(frc(dark, 0x11, 2, 0, 0b011), value(2));
+    assert_eq!(frc(dark, 0x10, 3, u32::MAX, u32::MAX), value(1));
+    assert_eq!(frc(dark, 0x12, 1, u32::MAX, u32::MAX), value(1));
+}
+
+#[test]
+fn light_standard_rules() {
+    // 2.1: the full bitmap sets all lights without knowing their count
+    let mut b = Board::new(3, 1);
+    let mut pdata = vec![0xFF; 4];
+    pdata.extend_from_slice(&[40; 32]);
+    assert_eq!(b.take(0x71, 0, &pdata), (0, vec![0; 32]));
+    assert_eq!(b.lamps(4), [(40, 0), (40, 0), (40, 0), (0, 0)]);
+    // 0x81-0xFF: seconds; 1-127 minutes; after the time the light is at 0 %
+    assert_eq!(b.take(0x71, 0, &[3, 0, 0, 0, 0xBC, 0x82, 0xBC, 0x7F]), (0, vec![40, 40]));
+    assert_eq!(b.lamps(2), [(60, 2), (60, 7620)]);
+    b.node = ffi::tick(b.node).node;
+    assert_eq!(b.lamps(2), [(60, 1), (60, 7619)]);
+    assert_eq!(ffi::tick_in_place(&mut b.node), 0);
+    assert_eq!(b.lamps(2), [(0, 0), (60, 7618)]);
+    // "Previously set ON timing is disabled"; 127 keeps; time ignored at 0 %
+    assert_eq!(b.take(0x71, 0, &[2, 0, 0, 0, 127]), (0, vec![60]));
+    assert_eq!(b.lamps(2), [(0, 0), (60, 7618)]);
+    assert_eq!(b.take(0x71, 0, &[2, 0, 0, 0, 60]), (0, vec![60]));
+    assert_eq!(b.lamps(2), [(0, 0), (60, 0)]);
+    assert_eq!(b.take(0x71, 0, &[2, 0, 0, 0, 0x80, 5]), (0, vec![60]));
+    assert_eq!(b.node.lamps[1], Lamp { level: 0, seconds: 0 });
+    // 101-126 and times 00 and 80: ERROR_DATA; a wrong length too
+    for bad in [&[1, 0, 0, 0, 126][..], &[1, 0, 0, 0, 0x8A, 0], &[1, 0, 0, 0, 0x8A, 0x80], &[1, 0, 0, 0], &[1, 0, 0, 0, 1, 1], &[1, 0, 0]] {
+        assert_eq!(b.take(0x71, 0, bad), (6, vec![]), "{bad:?}");
+    }
+}
+
+// ---- confirmation and timing (003 and the guide, 2.6.2) ----
+#[test]
+fn guide_confirmation_example() {
+    // 000, example 3: LED on at node 0x0A, DPA value 7, hops 6, slot 4, response hops 6
+    let mut out = [0xEE; 64];
+    let a = ffi::confirm(&[0x0A, 0, 7, 1, 0xFF, 0xFF], 7, 6, 6, false, &mut out);
+    assert_eq!((a.refusal, a.length), (0, 11));
+    assert_eq!(out[..11], [0x0A, 0, 7, 1, 0xFF, 0xFF, 0xFF, 7, 6, 4, 6]);
+    assert!(out[11..].iter().all(|&b| b == 0xEE));
+    // at broadcast the response hops are 0
+    let a = ffi::confirm(&[0xFF, 0, 7, 1, 0xFF, 0xFF], 7, 6, 6, true, &mut out);
+    assert_eq!((a.refusal, a.length), (0, 11));
+    assert_eq!(out[..11], [0xFF, 0, 7, 1, 0xFF, 0xFF, 0xFF, 7, 6, 8, 0]);
+}
+
+#[test]
+fn timeslot_table() {
+    for (length, std, lp) in [(0, 40, 80), (16, 40, 80), (17, 50, 90), (40, 50, 90), (41, 60, 100), (56, 60, 100)] {
+        assert_eq!(ffi::timeslot(length, false).slot as u32 * 10, std);
+        assert_eq!(ffi::timeslot(length, true).slot as u32 * 10, lp);
+    }
+    assert_eq!(ffi::timeslot(57, false).refusal, 5);
+}
+
+#[test]
+fn uart_example_of_the_confirmation() {
+    // 003: 5 bytes out at 40 ms, 20 ms waiting, the answer at 40, 50 or 60 ms
+    for (q, r) in [(2u8, 3u8), (0, 0), (5, 9), (255, 255)] {
+        for (answer, slot) in [(16, 40), (20, 50), (41, 60)] {
+            let want = (q as u32 + 1) * 40 + 20 + (r as u32 + 1) * slot;
+            assert_eq!(ffi::earliest_send(q, 5, 20, r, answer, false, false).milliseconds, want);
+        }
+    }
+    // document 01: 340 ms; a broadcast leaves the last term out but tests it
+    assert_eq!(ffi::earliest_send(2, 5, 20, 3, 20, false, false).milliseconds, 340);
+    assert_eq!(ffi::earliest_send(2, 5, 20, 3, 20, false, true).milliseconds, 140);
+    assert_eq!(ffi::earliest_send(2, 5, 20, 3, 57, false, true).refusal, 5);
+}
+
+// ---- the guide's batch (000, 3.4.11) ----
+/// The guide's list: LEDs and IO are no peripherals of this node, so every
+/// entry is an error of its own, and the batch itself succeeds.
+const GUIDE_BATCH: [u8; 29] = [
+    5, 6, 1, 0x34, 0x12, //
+    5, 7, 1, 0x78, 0x56, //
+    8, 9, 1, 0xFF, 0xFF, 0xFF, 0xC8, 0x00, //
+    5, 6, 0, 0x34, 0x12, //
+    5, 7, 0, 0x78, 0x56, //
+    0,
+];
+
+#[test]
+fn guide_batch_example() {
+    let mut b = Board::new(3, 1);
+    let before = b.node;
+    let mut frame = vec![0xFF, 0, 2, 5, 0xFF, 0xFF];
+    frame.extend_from_slice(&GUIDE_BATCH);
+    assert_eq!(b.frame(&frame), (vec![], false)); // broadcast: no answer
+    assert_eq!(b.node, before);
+    // addressed: the general response to a writing request, no error
+    assert_eq!(b.take(2, 5, &GUIDE_BATCH), (0, vec![]));
+    assert_eq!(b.node, before);
+    // without its end, or with a byte behind it: nothing runs
+    assert_eq!(b.take(2, 5, &GUIDE_BATCH[..28]), (6, vec![]));
+    let mut longer = GUIDE_BATCH.to_vec();
+    longer.push(0);
+    assert_eq!(b.take(2, 5, &longer), (6, vec![]));
+}
+
+/// The same shape with this node's lamps: on for profile 0x1234, on for
+/// profile 0x5678, a time for all, off again for one of them.
+#[test]
+fn guide_batch_selects_by_profile() {
+    for (hwpid, want) in [(0x1234u16, [(0u8, 0u16), (0, 0), (30, 60)]), (0x5678, [(0, 0), (70, 0), (30, 60)])] {
+        let mut b = Board::new(3, 1);
+        b.node.settings.hwpid = hwpid;
+        let list = [
+            10, 0x71, 0, 0x34, 0x12, 1, 0, 0, 0, 70, //
+            10, 0x71, 0, 0x78, 0x56, 2, 0, 0, 0, 70, //
+            11, 0x71, 0, 0xFF, 0xFF, 4, 0, 0, 0, 0x80 | 30, 1, //
+            10, 0x71, 0, 0x34, 0x12, 1, 0, 0, 0, 0, //
+            0,
+        ];
+        let mut frame = vec![0xFF, 0, 2, 5, 0xFF, 0xFF];
+        frame.extend_from_slice(&list);
+        assert_eq!(b.frame(&frame), (vec![], false));
+        assert_eq!(b.lamps(3), want);
+    }
+}
+
+#[test]
+fn guide_pulse_batch() {
+    // 000, acknowledged broadcast: 5,7,3,ffff, 5,6,3,ffff, 0
+    let mut b = Board::new(3, 1);
+    let before = b.node;
+    assert_eq!(b.take(2, 5, &[5, 7, 3, 0xFF, 0xFF, 5, 6, 3, 0xFF, 0xFF, 0]), (0, vec![]));
+    assert_eq!(b.node, before);
+}
