@@ -6,6 +6,7 @@ use node::record::Node;
 use node::record::NodeAnswer;
 use node::start::start;
 use node::tick::tick;
+use node::tick::tick_in_place;
 ghost use mathlib.Core.Path.{_≡_};
 ghost use Rattle.node.specs.Node.{startOf, tickOf};
 ghost use Rattle.node.specs.Frc.{frcOf};
@@ -29,9 +30,7 @@ pub extern "C" fn grelfint_tick(node: Node) -> NodeAnswer
 pub extern "C" fn grelfint_tick_in_place(node: &mut Node) -> u8
     ensures { λ r. ⌜ (r ≡ tickOf (now (node .entry)) .refusal) × (now (node .exit) ≡ tickOf (now (node .entry)) .node) ⌝ }
 {
-    let ticked = tick(*node);
-    *node = ticked.node;
-    ticked.refusal
+    tick_in_place(node)
 }
 
 #[no_mangle]
