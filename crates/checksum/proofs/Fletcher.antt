@@ -21,6 +21,12 @@ pub plain : (a b s : ℕ) → a < 256 → b < 256 → s ≡ (a + b) % 2 ^ 8 → 
 unfolding around
 plain a b s ha hb e h = let k : a + b ≤ 255 = omega arith in simp (le-ltb 255 (a + b) k) (omega arith)
 
+-- low plus byte, then high plus low
+pub byte-added : (s : Sums) (b low high : ℕ) → low ≡ around (s .low) b → high ≡ around (s .high) low
+    → _≡_ {A = Sums} (record { low = low; high = high }) (addByte s b)
+unfolding addByte
+byte-added s b low high l h = rw (h, l)
+
 -- the sums over two lists in a row
 pub sums-append : (s : Sums) (xs ys : List ℕ) → sums s (xs ++ ys) ≡ sums (sums s xs) ys
 unfolding sums

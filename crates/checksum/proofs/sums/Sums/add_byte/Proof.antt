@@ -1,4 +1,4 @@
-use Rattle.checksum.specs.Sums.{addByte}
+use Rattle.checksum.proofs.Fletcher.{byte-added}
 use borrow.Author.Needs.{needs}
 use Rattle.checksum.proofs.sums.Sums.add_byte.Statement.{statement}
 use Rattle.checksum.proofs.sums.Sums.add_byte.Tie as tie
@@ -13,8 +13,9 @@ around-requires-2 : tie.Need-around-requires-2
 around-requires-2 c κs = search needs
 
 returns : tie.Need-returns
-unfolding addByte
-returns c = cc
+returns c =
+    let a = c .before .before .args in
+    byte-added (a .self) (a .byte) (c .before .around .result) (c .around2 .result) (c .before .around .ensures) (c .around2 .ensures)
 
 pub add-byte-spec : {M : Type 1} → statement M
 add-byte-spec = tie.close (tie.spec around-requires around-requires-2 returns)
