@@ -1,7 +1,7 @@
 -- Laws of the read view.
 use mathlib.Core.Path.{_≡_, refl}
 use mathlib.Core.List.{List, []}
-use mathlib.Core.Bool.{Bool, true, false, cond}
+use mathlib.Core.Bool.{Bool, true, false, cond, _||_}
 use Prim.Native.Nat.{ℕ, _+_, _≤_}
 use native.Mathlib.Omega.{arith}
 use lib.Dec.{eqb}
@@ -10,8 +10,20 @@ use borrow.Author.Tests.{eqb-true, eqb-false, eq-eqb, ne-eqb}
 use Rattle.dpa.specs.Lists.{part}
 use Rattle.dpa.proofs.Bool.{first-taken, by-test}
 use Rattle.memory.specs.Block.{blockFault}
-use Rattle.memory.specs.View.{viewStatus, viewPart}
+use Rattle.memory.specs.declared.block.Memory.the-variants.{Eeprom, External}
+use Rattle.memory.specs.View.{blockRefusal, viewStatus, viewPart}
 use Rattle.memory.proofs.Blocks.{block-fits, part-length}
+
+either : (a b : Bool) (k l m : ℕ) → cond a k (cond b l m) ≡ cond (a || b) (cond a k l) m
+either true b k l m = refl
+either false true k l m = refl
+either false false k l m = refl
+
+-- memories of their sizes: 10 unless the PNUM names one, then its block rule
+pub status-sized : (e x : List ℕ) (p start n : ℕ) → length e ≡ 192 → length x ≡ 16384
+    → viewStatus e x p start n ≡ cond (eqb p 3 || eqb p 4) (cond (eqb p 3) (blockRefusal Eeprom start n) (blockRefusal External start n)) 10
+unfolding viewStatus
+status-sized e x p start n le lx = rw (eq-eqb (length e) 192 le, eq-eqb (length x) 16384 lx) (either (eqb p 3) (eqb p 4) _ _ 10)
 
 -- what a view that is not refused has shown
 pub record Viewed (e x : List ℕ) (p start n : ℕ) : Type 0 where

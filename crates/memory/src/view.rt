@@ -3,6 +3,8 @@ use crate::block::Memory;
 use crate::block::block_fault;
 use crate::block::size_of;
 ghost use mathlib.Core.Path.{_≡_};
+ghost use mathlib.Core.Bool.{_||_};
+ghost use lib.Dec.{eqb};
 ghost use Rattle.memory.specs.View.{blockRefusal, viewStatus, viewPart};
 
 // The block rule with the numbers of the view.
@@ -18,6 +20,16 @@ fn block_refusal(memory: Memory, start: usize, length: usize) -> u8
     )
 }
 
+// Whether the view is of a memory: EEPROM or external.
+fn names_memory(pnum: u8) -> bool
+    ensures { λ r. ⌜ r ≡ (eqb pnum 3 || eqb pnum 4) ⌝ }
+{
+    if pnum == dpa::pnum::EEPROM {
+        return true;
+    }
+    pnum == dpa::pnum::EXTERNAL
+}
+
 // Why the view is refused, or 0.
 pub fn view_status(eeprom: &[u8], external: &[u8], pnum: u8, start: usize, length: usize) -> u8
     ensures { λ r. ⌜ r ≡ viewStatus (now (eeprom .entry)) (now (external .entry)) pnum start length ⌝ }
@@ -28,13 +40,13 @@ pub fn view_status(eeprom: &[u8], external: &[u8], pnum: u8, start: usize, lengt
     if external.len() != size_of(Memory::External) {
         return dpa::refusal::MEMORY;
     }
+    if !names_memory(pnum) {
+        return dpa::refusal::VIEW;
+    }
     if pnum == dpa::pnum::EEPROM {
         return block_refusal(Memory::Eeprom, start, length);
     }
-    if pnum == dpa::pnum::EXTERNAL {
-        return block_refusal(Memory::External, start, length);
-    }
-    dpa::refusal::VIEW
+    block_refusal(Memory::External, start, length)
 }
 
 // The part that the view names; empty where it is refused.

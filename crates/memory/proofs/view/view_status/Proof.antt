@@ -1,7 +1,11 @@
-use borrow.Author.Tests.{eq-eqb, ne-eqb}
+use borrow.Author.Tests.{eq-eqb, ne-eqb, not-true, not-false}
 use mathlib.Core.Path.{_≡_, _∙_, sym}
+use mathlib.Core.Bool.{Bool, true, cond, _||_}
+use lib.Dec.{eqb}
 use lib.ListN.{length}
-use Rattle.memory.specs.View.{viewStatus}
+use Rattle.memory.specs.declared.block.Memory.the-variants.{Eeprom, External}
+use Rattle.memory.specs.View.{blockRefusal, viewStatus}
+use Rattle.memory.proofs.Views.{status-sized}
 use borrow.Author.Needs.{needs}
 use Rattle.memory.proofs.view.view_status.Statement.{statement}
 use Rattle.memory.proofs.view.view_status.Tie as tie
@@ -9,12 +13,10 @@ use Rattle.memory.proofs.view.view_status.Reads as reads
 use Rattle.memory.proofs.view.view_status.Lts as lts
 use Rattle.memory.proofs.block.size_of.Reads as size-of-reads
 use Rattle.memory.proofs.view.block_refusal.Reads as block-refusal-reads
+use Rattle.memory.proofs.view.names_memory.Reads as names-memory-reads
 
 eeprom-size : (c : tie.Else1) → length (c .before .before .before .before .args .eeprom .now) ≡ 192
 eeprom-size c = c .if1 .left ∙ c .before .size-of .ensures .0
-
-external-size : (c : tie.Else2) → length (c .before .before .before .before .before .before .args .external .now) ≡ 16384
-external-size c = c .if2 .left ∙ c .before .size-of2 .ensures .0
 
 size-of-requires : tie.Need-size-of-requires
 size-of-requires c κs = search needs
@@ -30,23 +32,35 @@ returns-2 : tie.Need-returns-2
 unfolding viewStatus
 returns-2 c = simp (eq-eqb _ _ (eeprom-size (c .before .before)), ne-eqb _ _ (λ q. c .if2 .taken (q ∙ sym (c .before .size-of2 .ensures .0))))
 
+-- past the tests of both sizes
+sized : (c : tie.Else2) → let a = c .before .before .before .before .before .before .args in
+    viewStatus (a .eeprom .now) (a .external .now) (a .pnum) (a .start) (a .length)
+    ≡ cond (eqb (a .pnum) 3 || eqb (a .pnum) 4) (cond (eqb (a .pnum) 3) (blockRefusal Eeprom (a .start) (a .length)) (blockRefusal External (a .start) (a .length))) 10
+sized c =
+    let a = c .before .before .before .before .before .before .args in
+    status-sized (a .eeprom .now) (a .external .now) (a .pnum) (a .start) (a .length) (eeprom-size (c .before .before)) (c .if2 .left ∙ c .before .size-of2 .ensures .0)
+
+-- and past that of the PNUM
+named : (c : tie.Else3) → let a = c .before .before .before .before .before .before .before .before .args in (eqb (a .pnum) 3 || eqb (a .pnum) 4) ≡ true
+named c = sym (c .before .names-memory .ensures) ∙ not-false _ (c .if3 .left)
+
+names-memory-requires : tie.Need-names-memory-requires
+names-memory-requires c κs = search needs
+
+returns-3 : tie.Need-returns-3
+returns-3 c = rw (sized (c .before .before), sym (c .before .names-memory .ensures) ∙ not-true _ (c .if3 .taken))
+
 block-refusal-requires : tie.Need-block-refusal-requires
 block-refusal-requires c κs = search needs
 
-returns-3 : tie.Need-returns-3
-unfolding viewStatus
-returns-3 c = simp (eq-eqb _ _ (eeprom-size (c .before .before .before .before)), eq-eqb _ _ (external-size (c .before .before)), eq-eqb _ _ (c .before .if3 .taken)) (c .block-refusal .ensures)
+returns-4 : tie.Need-returns-4
+returns-4 c = rw (sized (c .before .before .before .before), named (c .before .before), eq-eqb _ _ (c .before .if4 .taken)) (c .block-refusal .ensures)
 
 block-refusal-requires-2 : tie.Need-block-refusal-requires-2
 block-refusal-requires-2 c κs = search needs
 
-returns-4 : tie.Need-returns-4
-unfolding viewStatus
-returns-4 c = simp (eq-eqb _ _ (eeprom-size (c .before .before .before .before .before)), eq-eqb _ _ (external-size (c .before .before .before)), ne-eqb _ _ (c .before .before .if3 .left), eq-eqb _ _ (c .before .if4 .taken)) (c .block-refusal2 .ensures)
-
 returns-5 : tie.Need-returns-5
-unfolding viewStatus
-returns-5 c = simp (eq-eqb _ _ (eeprom-size (c .before .before .before .before)), eq-eqb _ _ (external-size (c .before .before)), ne-eqb _ _ (c .before .if3 .left), ne-eqb _ _ (c .if4 .left))
+returns-5 c = rw (sized (c .before .before .before .before), named (c .before .before), ne-eqb _ _ (c .before .if4 .left)) (c .block-refusal2 .ensures)
 
 pub view-status-spec : {M : Type 1} → statement M
 view-status-spec =
@@ -56,8 +70,9 @@ view-status-spec =
     returns
     size-of-requires-2
     returns-2
-    block-refusal-requires
+    names-memory-requires
     returns-3
-    block-refusal-requires-2
+    block-refusal-requires
     returns-4
+    block-refusal-requires-2
     returns-5)
