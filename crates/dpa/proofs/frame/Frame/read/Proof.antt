@@ -30,7 +30,7 @@ word-of-requires-2 : tie.Need-word-of-requires-2
 word-of-requires-2 c κs = search needs
 
 returns : tie.Need-returns
-returns c = cc
+returns c = rw (c .word-of2 .ensures, c .before .before .before .before .before .word-of .ensures)
 
 pub read-spec : {M : Type 1} → statement M
 read-spec =
