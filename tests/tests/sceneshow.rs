@@ -1,5 +1,6 @@
 //! Runs ../target/bin/sceneshow from outside and compares what it prints
 //! with the reference. `SCENESHOW` names another binary.
+use grelfint_tests::board::book_of;
 use grelfint_tests::reference;
 use grelfint_tests::rng::Rng;
 use std::io::{Read, Write};
@@ -51,20 +52,6 @@ fn check(name: &str, book: &[u8]) {
     let got = run(book, 1 << 16, Duration::ZERO);
     let want = reference::sceneshow(book);
     assert_eq!(got, want, "{name}, book ({}) {:02X?}", book.len(), &book[..book.len().min(400)]);
-}
-
-fn book_of(scenes: &[Vec<[u8; 4]>]) -> Vec<u8> {
-    let mut book = vec![scenes.len() as u8];
-    let mut at = 1 + 3 * scenes.len();
-    for s in scenes {
-        book.extend_from_slice(&(at as u16).to_le_bytes());
-        book.push(s.len() as u8);
-        at += 4 * s.len();
-    }
-    for step in scenes.iter().flatten() {
-        book.extend_from_slice(step);
-    }
-    book
 }
 
 const EXAMPLE: [u8; 12] = [1, 4, 0, 2, 0, 0, 0x0A, 0, 0, 2, 0x64, 2];

@@ -3,6 +3,7 @@
 //! number of calls of the main test. A failing case prints its inputs.
 //! After every call the answer and the whole buffers are compared, the guard
 //! bytes behind the lent parts included.
+use grelfint_tests::board::{book_of, Board};
 use grelfint_tests::ffi::{self, Lamp, Node, Settings};
 use grelfint_tests::rng::Rng;
 use grelfint_tests::{fast, reference as r};
@@ -34,29 +35,19 @@ fn first_difference(a: &[u8], b: &[u8]) -> String {
     }
 }
 
-/// A node with its memories and its response buffer, guard bytes behind each.
-#[derive(Clone)]
-struct Board {
-    node: Node,
-    eeprom: Vec<u8>,
-    external: Vec<u8>,
-    response: Vec<u8>,
-}
-
-impl Board {
-    fn new(g: &mut Rng, node: Node) -> Board {
-        let mut eeprom = vec![0; EEPROM + GUARD];
-        let mut external = vec![0; EXTERNAL + GUARD];
-        let mut response = vec![0; RESPONSE + GUARD];
-        g.fill(&mut eeprom);
-        if g.chance(3, 4) {
-            g.fill(&mut external);
-        } else {
-            external.fill(g.pick(&[0x00, 0xFF, 0xFE]));
-        }
-        g.fill(&mut response);
-        Board { node, eeprom, external, response }
+/// A board of random bytes with guard bytes behind each part.
+fn random_board(g: &mut Rng, node: Node) -> Board {
+    let mut eeprom = vec![0; EEPROM + GUARD];
+    let mut external = vec![0; EXTERNAL + GUARD];
+    let mut response = vec![0; RESPONSE + GUARD];
+    g.fill(&mut eeprom);
+    if g.chance(3, 4) {
+        g.fill(&mut external);
+    } else {
+        external.fill(g.pick(&[0x00, 0xFF, 0xFE]));
     }
+    g.fill(&mut response);
+    Board { node, eeprom, external, response }
 }
 
 fn random_settings(g: &mut Rng) -> Settings {
@@ -637,22 +628,6 @@ fn random_book(g: &mut Rng) -> Vec<u8> {
     book
 }
 
-fn book_of(scenes: &[Vec<[u8; 4]>]) -> Vec<u8> {
-    let mut book = vec![scenes.len() as u8];
-    let mut at = 1 + 3 * scenes.len();
-    for s in scenes {
-        book.extend_from_slice(&(at as u16).to_le_bytes());
-        book.push(s.len() as u8);
-        at += 4 * s.len();
-    }
-    for s in scenes {
-        for step in s {
-            book.extend_from_slice(step);
-        }
-    }
-    book
-}
-
 /// Compiles on both sides; if the node can take it, both nodes do, and the
 /// library's end is also compared with the step machine.
 fn scene_call(g: &mut Rng, seen: &mut Seen, what: &str, lib: &mut Board, own: &mut Board) {
@@ -769,7 +744,7 @@ fn random_sessions() {
     while seen.calls < wanted {
         session += 1;
         let node = random_node(&mut g);
-        let mut lib = Board::new(&mut g, node);
+        let mut lib = random_board(&mut g, node);
         let mut own = lib.clone();
         let s = ffi::start(node.settings);
         assert_eq!(s, r::start(node.settings), "start of {:?}", node.settings);
@@ -843,7 +818,7 @@ fn random_sessions() {
 fn every_pnum_and_pcmd() {
     let mut g = Rng::new(seed("every_pnum_and_pcmd"));
     let node = random_node(&mut g);
-    let mut lib = Board::new(&mut g, node);
+    let mut lib = random_board(&mut g, node);
     let mut own = lib.clone();
     let mut seen = Seen::default();
     for pnum in 0..=255u8 {
@@ -865,7 +840,7 @@ fn every_pnum_and_pcmd() {
 fn every_length() {
     let mut g = Rng::new(seed("every_length"));
     let node = random_node(&mut g);
-    let mut lib = Board::new(&mut g, node);
+    let mut lib = random_board(&mut g, node);
     let mut own = lib.clone();
     let mut seen = Seen::default();
     let what = "every_length";
@@ -899,7 +874,7 @@ fn every_length() {
 fn every_power_and_time() {
     let mut g = Rng::new(seed("every_power_and_time"));
     let mut seen = Seen::default();
-    let mut lib = Board::new(&mut g, Node::ZERO);
+    let mut lib = random_board(&mut g, Node::ZERO);
     let mut own = lib.clone();
     for pcmd in 0..3u8 {
         for power in 0..=255u8 {
@@ -947,11 +922,11 @@ fn random_scenes() {
     let seed = seed("random_scenes");
     let mut g = Rng::new(seed.wrapping_add(1));
     let mut seen = Seen::default();
-    let mut lib = Board::new(&mut g, Node::ZERO);
+    let mut lib = random_board(&mut g, Node::ZERO);
     for i in 0..40_000 {
         if i % 50 == 0 {
             let node = random_node(&mut g);
-            lib = Board::new(&mut g, node);
+            lib = random_board(&mut g, node);
         } else {
             lib.node = random_node(&mut g);
         }
@@ -968,7 +943,7 @@ fn fast_agrees() {
     let seed = seed("fast_agrees");
     let mut g = Rng::new(seed.wrapping_add(2));
     let node = random_node(&mut g);
-    let mut quick = Board::new(&mut g, node);
+    let mut quick = random_board(&mut g, node);
     let mut own = quick.clone();
     for call in 0..100_000 {
         if call % 300 == 0 {

@@ -2,53 +2,13 @@
 //! 01's worked examples that are not marked P (and, cheaply, those that are),
 //! the light standard's step table and examples (001), the confirmation's
 //! figures (003), and the guide's batch and confirmation examples (000).
-use grelfint_tests::ffi::{self, FrcAnswer, Lamp, Node, Settings};
-
-struct Board {
-    node: Node,
-    eeprom: Vec<u8>,
-    external: Vec<u8>,
-    response: Vec<u8>,
-}
-
-impl Board {
-    fn new(lamp_count: u8, step: u8) -> Board {
-        let settings = Settings { address: 1, hwpid: 0x2471, dpa_value: 7, lamp_count, step };
-        let a = ffi::start(settings);
-        assert_eq!(a.refusal, 0);
-        assert_eq!(a.node, Node { settings, ..Node::ZERO });
-        Board { node: a.node, eeprom: vec![0; 192], external: vec![0; 16_384], response: vec![0xEE; 64] }
-    }
-
-    /// The whole answer: its bytes, and the load mark.
-    fn frame(&mut self, frame: &[u8]) -> (Vec<u8>, bool) {
-        self.response.fill(0xEE);
-        let a = ffi::handle_request(self.node, frame, &mut self.eeprom, &mut self.external, &mut self.response);
-        assert_eq!(a.refusal, 0);
-        assert!(self.response[a.length..].iter().all(|&b| b == 0xEE), "later bytes stay");
-        self.node = a.node;
-        (self.response[..a.length].to_vec(), a.load)
-    }
-
-    /// ErrN and data of a request to this node under the wildcard profile.
-    fn take(&mut self, pnum: u8, pcmd: u8, pdata: &[u8]) -> (u8, Vec<u8>) {
-        let mut frame = vec![1, 0, pnum, pcmd, 0xFF, 0xFF];
-        frame.extend_from_slice(pdata);
-        let (bytes, _) = self.frame(&frame);
-        assert_eq!(bytes[..6], [1, 0, pnum, pcmd | 0x80, 0x71, 0x24]);
-        assert_eq!(bytes[7], 7);
-        (bytes[6], bytes[8..].to_vec())
-    }
-
-    fn lamps(&self, n: usize) -> Vec<(u8, u16)> {
-        self.node.lamps[..n].iter().map(|l| (l.level, l.seconds)).collect()
-    }
-}
+use grelfint_tests::board::Board;
+use grelfint_tests::ffi::{self, FrcAnswer, Lamp};
 
 // ---- document 01, not marked P ----
 #[test]
 fn external_read_at_the_end() {
-    let mut b = Board::new(3, 1);
+    let mut b = Board::started(3, 1);
     b.external[0x3FFF] = 0x5C;
     assert_eq!(b.take(4, 2, &[0xFF, 0x3F, 1]), (0, vec![0x5C]));
     assert_eq!(b.take(4, 2, &[0xFF, 0x3F, 2]), (4, vec![]));
@@ -56,7 +16,7 @@ fn external_read_at_the_end() {
 
 #[test]
 fn level_100_is_accepted_101_is_not() {
-    let mut b = Board::new(1, 1);
+    let mut b = Board::started(1, 1);
     assert_eq!(b.take(0x71, 0, &[1, 0, 0, 0, 0x65]), (6, vec![]));
     assert_eq!(b.lamps(1), [(0, 0)]);
     assert_eq!(b.take(0x71, 0, &[1, 0, 0, 0, 0x64]), (0, vec![0]));
@@ -68,7 +28,7 @@ fn level_100_is_accepted_101_is_not() {
 #[test]
 fn the_half_obeyed_row() {
     // CONDITIONS: nine lamps raised, the eighth byte bad: none goes up.
-    let mut b = Board::new(9, 1);
+    let mut b = Board::started(9, 1);
     let good = [0xFF, 1, 0, 0, 10, 10, 10, 10, 10, 10, 10, 10, 10];
     let mut bad = good;
     bad[4 + 7] = 101;
@@ -81,7 +41,7 @@ fn the_half_obeyed_row() {
 #[test]
 fn batch_first_entry_is_not_all() {
     // document 01, Strength: a set on lamp 0 and then a raise on lamp 1.
-    let mut b = Board::new(3, 1);
+    let mut b = Board::started(3, 1);
     let list = [10, 0x71, 0, 0xFF, 0xFF, 1, 0, 0, 0, 10, 10, 0x71, 1, 0xFF, 0xFF, 2, 0, 0, 0, 20, 0];
     assert_eq!(b.take(2, 5, &list), (0, vec![]));
     assert_eq!(b.lamps(3), [(10, 0), (20, 0), (0, 0)]);
@@ -91,7 +51,7 @@ fn batch_first_entry_is_not_all() {
 #[test]
 fn checksums() {
     // flags 0: 64s from 1; flags 2: 20s from 3. 64 zeros 0x4001, 20 zeros 0x3C03.
-    let mut b = Board::new(3, 1);
+    let mut b = Board::started(3, 1);
     assert_eq!(b.take(2, 0x0A, &[0, 0, 0, 64, 0, 0x01, 0x40]), (0, vec![1]));
     assert_eq!(b.take(2, 0x0A, &[0, 0, 0, 64, 0, 0x00, 0x40]), (0, vec![0]));
     assert_eq!(b.take(2, 0x0A, &[2, 0, 0, 20, 0, 0x03, 0x3C]), (0, vec![1]));
@@ -110,7 +70,7 @@ fn checksums() {
 
 #[test]
 fn batches_of_one_byte_and_of_a_short_entry() {
-    let mut b = Board::new(3, 1);
+    let mut b = Board::started(3, 1);
     assert_eq!(b.take(2, 5, &[0]), (0, vec![]));
     assert_eq!(b.take(2, 5, &[4, 0]), (6, vec![]));
     assert_eq!(b.take(2, 5, &[]), (5, vec![]));
@@ -128,7 +88,7 @@ fn compiled_scene() {
     assert_eq!((a.refusal, a.step, a.length), (0, 0, want.len()));
     assert_eq!(out[..want.len()], want);
     assert!(out[want.len()..].iter().all(|&b| b == 0xEE));
-    let mut b = Board::new(3, 1);
+    let mut b = Board::started(3, 1);
     let (bytes, _) = b.frame(&out[2..21]);
     assert_eq!(bytes, [1, 0, 2, 0x85, 0x71, 0x24, 0, 7]);
     assert_eq!(b.lamps(3), [(10, 0), (0, 0), (100, 120)]);
@@ -158,7 +118,7 @@ fn light_standard_step_table() {
         (2, 100, 0, 0, 10),
         (1, 0, 0, 0, 0),
     ];
-    let mut b = Board::new(1, 10);
+    let mut b = Board::started(1, 10);
     for (pcmd, value, requested, actual, previous) in table {
         assert_eq!(b.take(0x71, pcmd, &[1, 0, 0, 0, value]), (0, vec![previous]));
         assert_eq!(b.node.lamps[0].level, requested);
@@ -170,7 +130,7 @@ fn light_standard_step_table() {
 
 #[test]
 fn light_standard_examples() {
-    let mut b = Board::new(3, 1);
+    let mut b = Board::started(3, 1);
     // Enumerate lights
     assert_eq!(b.take(0x71, 0x3E, &[]), (0, vec![3]));
     // Set 1st light to 10% and 3rd light to 100% for 2 minutes
@@ -185,7 +145,7 @@ fn light_standard_examples() {
     assert_eq!(b.lamps(3), [(20, 180), (50, 0), (100, 120)]);
     assert_eq!(frc(b.node, 0x10, 1, 0, 0), value(3));
     // 3.1 a closed relay reports on; 3.2 alarm; 3.3 not implemented
-    let dark = Board::new(3, 1).node;
+    let dark = Board::started(3, 1).node;
     assert_eq!(frc(dark, 0x10, 1, 0b010, 0), value(3));
     assert_eq!(frc(dark, 0x10, 1, 0b101, 0), value(2));
     assert_eq!(frc(dark, 0x11, 2, 0, 0b100), value(3));
@@ -197,7 +157,7 @@ fn light_standard_examples() {
 #[test]
 fn light_standard_rules() {
     // 2.1: the full bitmap sets all lights without knowing their count
-    let mut b = Board::new(3, 1);
+    let mut b = Board::started(3, 1);
     let mut pdata = vec![0xFF; 4];
     pdata.extend_from_slice(&[40; 32]);
     assert_eq!(b.take(0x71, 0, &pdata), (0, vec![0; 32]));
@@ -275,7 +235,7 @@ const GUIDE_BATCH: [u8; 29] = [
 
 #[test]
 fn guide_batch_example() {
-    let mut b = Board::new(3, 1);
+    let mut b = Board::started(3, 1);
     let before = b.node;
     let mut frame = vec![0xFF, 0, 2, 5, 0xFF, 0xFF];
     frame.extend_from_slice(&GUIDE_BATCH);
@@ -296,7 +256,7 @@ fn guide_batch_example() {
 #[test]
 fn guide_batch_selects_by_profile() {
     for (hwpid, want) in [(0x1234u16, [(0u8, 0u16), (0, 0), (30, 60)]), (0x5678, [(0, 0), (70, 0), (30, 60)])] {
-        let mut b = Board::new(3, 1);
+        let mut b = Board::started(3, 1);
         b.node.settings.hwpid = hwpid;
         let list = [
             10, 0x71, 0, 0x34, 0x12, 1, 0, 0, 0, 70, //
@@ -315,7 +275,7 @@ fn guide_batch_selects_by_profile() {
 #[test]
 fn guide_pulse_batch() {
     // 000, acknowledged broadcast: 5,7,3,ffff, 5,6,3,ffff, 0
-    let mut b = Board::new(3, 1);
+    let mut b = Board::started(3, 1);
     let before = b.node;
     assert_eq!(b.take(2, 5, &[5, 7, 3, 0xFF, 0xFF, 5, 6, 3, 0xFF, 0xFF, 0]), (0, vec![]));
     assert_eq!(b.node, before);

@@ -2,6 +2,7 @@
 //! The library against the same rules written for speed without allocation
 //! (src/fast.rs), alternating in one run; the figure is the median over the
 //! rounds of the ratio library / fast. `BENCH_ROUNDS` sets the rounds.
+use grelfint_tests::board::Board;
 use grelfint_tests::ffi::{self, CompileAnswer, Node, NodeAnswer, RequestAnswer, Settings};
 use grelfint_tests::{fast, reference};
 use std::hint::black_box;
@@ -13,13 +14,6 @@ type Tick = fn(Node) -> NodeAnswer;
 
 fn fast_tick(node: Node) -> NodeAnswer {
     fast::tick(node)
-}
-
-struct Board {
-    node: Node,
-    eeprom: Vec<u8>,
-    external: Vec<u8>,
-    response: Vec<u8>,
 }
 
 fn board(lamp_count: u8) -> Board {
