@@ -2,7 +2,7 @@
 -- steps of every kind. Then what the theorem says of them, in figures.
 use mathlib.Core.Path.{_≡_, refl, _∙_}
 use mathlib.Core.Logic.{inl, inr}
-use mathlib.Core.List.{List, [], _∷_, _++_}
+use mathlib.Core.List.{List, [], _∷_, _++_, map}
 use Prim.Native.Nat.{ℕ}
 use native.Mathlib.Omega.{arith}
 use lib.ListN.{length, replicate}
@@ -16,7 +16,7 @@ use Rattle.handler.specs.Request.{State, state}
 use Rattle.scene.specs.Book.{chained, bookOk, sceneOf}
 use Rattle.scene.specs.Step.{stepTimeOk, lampFault, byteFault, stepFault}
 use Rattle.scene.specs.Machine.{machineLevel, machineSeconds, machineLamps, machineEffect, machineStep, machine}
-use Rattle.scene.specs.Compile.{powerBytes, entryData, pnumOf, pcmdOf, follows, compiled}
+use Rattle.scene.specs.Compile.{powerBytes, entryData, pnumOf, pcmdOf, follows, entryLimit, listLimit, batchesOf, compiled}
 use Rattle.acceptance.specs.SceneTheorem.{Given, Obeyed, afterCalls}
 use Rattle.acceptance.proofs.Scenes.{scene-theorem}
 
@@ -75,10 +75,14 @@ given-all =
       profile = inr refl;
     }
 
--- it compiles to two requests
+-- it compiles to two requests, of five entries and of one
 pub two-requests : length (compiled 7 0x2471 (sceneOf book 1)) ≡ 2
 unfolding sceneOf powerBytes entryData pnumOf pcmdOf follows entryBytes entriesBytes
 two-requests = refl
+
+pub several-entries : map length (batchesOf entryLimit listLimit 0x2471 (sceneOf book 1)) ≡ 5 ∷ 1 ∷ []
+unfolding sceneOf powerBytes entryData pnumOf pcmdOf follows entryBytes entriesBytes
+several-entries = refl
 
 -- what the step machine leaves
 abbrev afterwards : State

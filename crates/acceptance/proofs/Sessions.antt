@@ -52,16 +52,16 @@ module _ (entryMost listMost : ℕ) (six : 6 ≤ entryMost) (one : entryMost + 6
         sound = call-sound pcmd a h (front ++ list) st o k short room to did;
       }
 
-  session : (bs : List (List (List Step))) (buffers : ℕ → List ℕ) (st : State)
+  requests-obeyed : (bs : List (List (List Step))) (buffers : ℕ → List ℕ) (st : State)
       → All (Filling entryMost six listMost one h) bs → StateRule st → st .node .settings ≡ s → ((k : ℕ) → 64 ≤ length (buffers k))
       → AllSucceed pcmd a s buffers (map (requestBytes pcmd front a h) bs) st
       × (afterCalls buffers (map (requestBytes pcmd front a h) bs) st ≡ machine (joined (joined bs)) st)
-  session [] buffers st b k e room = (tt, refl)
-  session (runs ∷ bs) buffers st b k e room =
+  requests-obeyed [] buffers st b k e room = (tt, refl)
+  requests-obeyed (runs ∷ bs) buffers st b k e room =
       let first = request-done runs st (buffers 0) (b .0) k e (room 0) in
       let next = requestOf (requestBytes pcmd front a h runs) st (buffers 0) .after in
       let same : next .node .settings ≡ s = ap (λ (t : State). t .node .settings) (first .after) ∙ machine-stays (joined runs) st .settings ∙ e in
-      let rest = session bs (λ j. buffers (suc j)) next (b .1) (first .sound) same (λ j. room (suc j)) in (
+      let rest = requests-obeyed bs (λ j. buffers (suc j)) next (b .1) (first .sound) same (λ j. room (suc j)) in (
         (first .success, rest .0),
         rest .1
             ∙ ap (machine (joined (joined bs))) (first .after)
@@ -75,7 +75,7 @@ module _ (entryMost listMost : ℕ) (six : 6 ≤ entryMost) (one : entryMost + 6
       → Obeyed pcmd a buffers (requestsOf entryMost listMost pcmd front a h steps) steps st
   steps-obeyed steps buffers st good k e room =
       let bs = batchesOf entryMost listMost h steps in
-      let did = session bs buffers st (fillings entryMost six listMost one h steps good) k e room in
+      let did = requests-obeyed bs buffers st (fillings entryMost six listMost one h steps good) k e room in
       let whole : joined (joined bs) ≡ steps = ap joined (filling-keeps entryMost listMost h steps) ∙ joining-keeps entryMost steps in
       record {
         calls = subst (λ (n : Settings). AllSucceed pcmd a n buffers (requestsOf entryMost listMost pcmd front a h steps) st) (sym e) (did .0);
