@@ -14,7 +14,7 @@ use Rattle.handler.proofs.Carrying.{batch-runs}
 use Rattle.scene.specs.declared.step.Step.{Step}
 use Rattle.scene.specs.Group.{joined}
 use Rattle.scene.specs.Machine.{machine}
-use Rattle.scene.specs.Compile.{itemOf, itemsOf}
+use Rattle.scene.specs.Compile.{joinedItem, joinedItems}
 use Rattle.scene.proofs.Places.{machine-append, machine-stays}
 
 -- carried out without an error of its own, data or load mark
@@ -23,7 +23,7 @@ finished end errors = outcome (served end 0 []) errors false
 
 -- the entry of these steps has no error and leaves what they leave
 abbrev pub Performs : ℕ → List Step → State → Type 0
-Performs h run st = (entryOf (itemOf h run) st .error ≡ 0) × (entryOf (itemOf h run) st .after ≡ machine run st)
+Performs h run st = (entryOf (joinedItem h run) st .error ≡ 0) × (entryOf (joinedItem h run) st .after ≡ machine run st)
 
 -- the entries of these steps, at any sound node that takes their profile
 abbrev pub AllPerform : ℕ → (List Step → Type 0) → Type 0
@@ -33,23 +33,23 @@ AllPerform h Run =
 module _ (h : ℕ) (Run : List Step → Type 0) (performs : AllPerform h Run) where
   -- in order, each from what the last one left
   pub entries-perform : (runs : List (List Step)) (st : State) → All Run runs → StateRule st → forNode (st .node .settings) h ≡ true
-      → All (λ (e : ℕ). e ≡ 0) (errorsOf entryError entryAfter (itemsOf h runs) st)
-      × (runItems entryAfter (itemsOf h runs) st ≡ machine (joined runs) st)
+      → All (λ (e : ℕ). e ≡ 0) (errorsOf entryError entryAfter (joinedItems h runs) st)
+      × (runItems entryAfter (joinedItems h runs) st ≡ machine (joined runs) st)
   unfolding runItems errorsOf
   entries-perform [] st a k f = (tt, refl)
   entries-perform (r ∷ rs) st a k f =
       let first = performs r st (a .0) k f in
-      let next = entryAfter (itemOf h r) st in
+      let next = entryAfter (joinedItem h r) st in
       let same : next .node .settings ≡ st .node .settings = ap (λ (t : State). t .node .settings) (first .1) ∙ machine-stays r st .settings in
-      let rest = entries-perform rs next (a .1) (entry-sound (itemOf h r) st k) (ap (λ (s : Settings). forNode s h) same ∙ f) in
+      let rest = entries-perform rs next (a .1) (entry-sound (joinedItem h r) st k) (ap (λ (s : Settings). forNode s h) same ∙ f) in
       ((first .0, rest .0), rest .1 ∙ ap (machine (joined rs)) (first .1) ∙ sym (machine-append r (joined rs) st))
 
   -- their list is read back and runs
   pub batch-performs : (runs : List (List Step)) (st : State) → All Run runs → StateRule st → forNode (st .node .settings) h ≡ true
-      → batchOf (listBytes (itemsOf h runs)) st
-      ≡ finished (machine (joined runs) st) (errorsOf entryError entryAfter (itemsOf h runs) st)
+      → batchOf (listBytes (joinedItems h runs)) st
+      ≡ finished (machine (joined runs) st) (errorsOf entryError entryAfter (joinedItems h runs) st)
   batch-performs runs st a k f =
-      let is = itemsOf h runs in
+      let is = joinedItems h runs in
       let back = round-trip is in
       batch-runs (listBytes is) st (λ z. omega (arith, list-some is)) (ap (λ (r : Reading). r .listed) back)
       ∙ ap (λ (r : Reading). ran (r .items) st) back

@@ -11,7 +11,7 @@ use borrow.Author.Tests.{eq-eqb, ne-eqb, le-ltb, le-leb}
 use Rattle.dpa.specs.declared.settings.Settings.{Settings}
 use Rattle.dpa.specs.declared.frame.Frame.{Frame}
 use Rattle.dpa.specs.Lists.{over}
-use Rattle.dpa.specs.Frame.{frame, headerBytes, headerOf, frameFits, responseHeader}
+use Rattle.dpa.specs.Frame.{frame, headerBytes, headerOf, headerSize, longestFrame, frameFits, responseHeader}
 use Rattle.dpa.proofs.Bool.{both}
 use Rattle.dpa.proofs.Headers.{read-written}
 use Rattle.dpa.proofs.Ranges.{settings-facts}
@@ -24,12 +24,12 @@ use Rattle.acceptance.specs.SceneTheorem.{Success}
 use Rattle.acceptance.proofs.Batches.{finished}
 
 -- a sound node with its memories, a frame and room: no refusal
-not-refused : (f : List ℕ) (st : State) (o : List ℕ) → StateRule st → 6 ≤ length f → length f ≤ 62 → 64 ≤ length o → refusalOf f st o ≡ 0
+not-refused : (f : List ℕ) (st : State) (o : List ℕ) → StateRule st → headerSize ≤ length f → length f ≤ longestFrame → 64 ≤ length o → refusalOf f st o ≡ 0
 unfolding requestRefusal frameFits
 not-refused f st o k lo hi room =
     rw (
       k .node-ok,
-      both (le-leb 6 (length f) lo) (le-leb (length f) 62 hi),
+      both (le-leb headerSize (length f) lo) (le-leb (length f) longestFrame hi),
       le-ltb (length o) 64 room,
       eq-eqb (length (st .eeprom)) 192 (k .eeprom-size),
       eq-eqb (length (st .external)) 16384 (k .external-size),
@@ -57,7 +57,7 @@ left-by s i end es o true = (refl, refl, refl, refl, refl)
 left-by s i end es o false = (refl, refl, refl, refl, refl)
 
 module _ (pcmd a h : ℕ) (pdata : List ℕ) (st : State) (o : List ℕ) (k : StateRule st)
-    (short : length (headerBytes (frame a 2 pcmd h) ++ pdata) ≤ 62) (room : 64 ≤ length o)
+    (short : length (headerBytes (frame a 2 pcmd h) ++ pdata) ≤ longestFrame) (room : 64 ≤ length o)
     (mine : (a ≡ st .node .settings .address) ⊎ (a ≡ 255))
     {end : State} {es : List ℕ} (did : carryOut (item 2 pcmd h pdata) st ≡ finished end es) where
   abbrev request : List ℕ

@@ -16,7 +16,7 @@ use Rattle.scene.specs.Book.{countOf, sceneOf}
 use Rattle.scene.specs.Step.{stepFault}
 use Rattle.scene.specs.Machine.{machine}
 use Rattle.scene.specs.Compile.{compiled}
-use Rattle.scene.specs.Call.{Compiled, output, outputRoom, requestsIn, addressOk, refusedAt, compileOf}
+use Rattle.scene.specs.Call.{CompileResult, output, outputRoom, requestsIn, addressOk, refusedAt, compileOf}
 use Rattle.scene.proofs.Groups.{all-weaken}
 use Rattle.scene.proofs.Faults.{Good, no-bad}
 use Rattle.scene.proofs.Outputs.{Faultless, refused-none, written-whole, buffer-back}
@@ -32,7 +32,7 @@ room-there b k a h out ad e =
     let f = refused-none b k a h out e in
     by-test (ltb (length out) outputRoom)
     (λ t. let z : compileOf b k a h out ≡ refusedAt 9 0 out = rw (ad, f .book, lt-leb (countOf b) k (f .number), f .steps, t) in
-    absurd (omega (arith, sym e ∙ ap (λ (c : Compiled). c .refusal) z)))
+    absurd (omega (arith, sym e ∙ ap (λ (c : CompileResult). c .refusal) z)))
     (λ t. ltb-false _ _ t)
 
 module _ (book : List ℕ) (k : ℕ) (st : State) (out : List ℕ) where
@@ -51,7 +51,7 @@ module _ (book : List ℕ) (k : ℕ) (st : State) (out : List ℕ) where
       run-external n = rw (ok, eq-eqb (length (st .eeprom)) 192 e, ne-eqb (length (st .external)) 16384 n)
 
       -- what the compiler answered, with node and memories as they are to be
-      module _ (x : length (st .external) ≡ 16384) (c : Compiled)
+      module _ (x : length (st .external) ≡ 16384) (c : CompileResult)
           (q : c ≡ compileOf book k (st .node .settings .address) (st .node .settings .hwpid) out) where
         rule : StateRule st
         rule = record { node-ok = ok; eeprom-size = e; external-size = x }
@@ -60,7 +60,7 @@ module _ (book : List ℕ) (k : ℕ) (st : State) (out : List ℕ) where
         unfolding runScene
         compiled-first =
             rw (ok, eq-eqb (length (st .eeprom)) 192 e, eq-eqb (length (st .external)) 16384 x)
-            (ap (λ (d : Compiled). afterCompile d st (machine (sceneOf book k) st)) (sym q))
+            (ap (λ (d : CompileResult). afterCompile d st (machine (sceneOf book k) st)) (sym q))
 
         pub run-refused : (c .refusal ≡ 0 → ⊥) → notRun (c .refusal) (c .step) st (c .buffer) ≡ runScene book k st out
         unfolding afterCompile
@@ -68,7 +68,7 @@ module _ (book : List ℕ) (k : ℕ) (st : State) (out : List ℕ) where
 
         module _ (z : c .refusal ≡ 0) where
           accepted : compileOf book k (st .node .settings .address) (st .node .settings .hwpid) out .refusal ≡ 0
-          accepted = sym (ap (λ (d : Compiled). d .refusal) q) ∙ z
+          accepted = sym (ap (λ (d : CompileResult). d .refusal) q) ∙ z
 
           own-address : addressOk (st .node .settings .address) ≡ true
           own-address = address-taken st (st .node .settings .address) rule (inl refl)
@@ -83,7 +83,7 @@ module _ (book : List ℕ) (k : ℕ) (st : State) (out : List ℕ) where
           run-holds =
               let rs = compiled (st .node .settings .address) (st .node .settings .hwpid) (sceneOf book k) in
               let w : c .buffer ≡ output rs ++ drop (length (output rs)) out =
-              ap (λ (d : Compiled). d .buffer) (q ∙ written-whole book k (st .node .settings .address) (st .node .settings .hwpid) out own-address room faultless) in
+              ap (λ (d : CompileResult). d .buffer) (q ∙ written-whole book k (st .node .settings .address) (st .node .settings .hwpid) out own-address room faultless) in
               rw w (output-holds rs (drop (length (output rs)) out))
 
           given : Given st (λ _. blank) book k (st .node .settings .address) (st .node .settings .hwpid)
@@ -106,7 +106,7 @@ module _ (book : List ℕ) (k : ℕ) (st : State) (out : List ℕ) where
               let a = st .node .settings .address in
               let h = st .node .settings .hwpid in
               let back : requestsIn (c .buffer) ≡ compiled a h (sceneOf book k) =
-              ap (λ (y : Compiled). requestsIn (y .buffer)) q ∙ buffer-back book k a h out own-address room faultless in
+              ap (λ (y : CompileResult). requestsIn (y .buffer)) q ∙ buffer-back book k a h out own-address room faultless in
               let end : done ≡ machine (sceneOf book k) st =
               d ∙ ap (λ (rs : List (List ℕ)). afterCalls (λ _. blank) rs st) back ∙ scene-theorem st (λ _. blank) book k a h given .final in
               sym (compiled-first ∙ rw (eq-eqb (c .refusal) 0 z) (ap (λ (y : State). notRun 0 0 y (c .buffer)) (sym end)))

@@ -7,6 +7,7 @@ use native.Mathlib.Omega.{arith}
 use lib.Dec.{ltb, eqb}
 use lib.ListN.{length}
 use borrow.Author.Tests.{lt-ltb, le-ltb, ltb-true, ltb-false, eqb-true, eqb-false}
+use Rattle.dpa.specs.Frame.{pdataMax}
 use Rattle.dpa.specs.Served.{Served}
 use Rattle.dpa.proofs.Bool.{by-test, and-left, and-right}
 use Rattle.memory.specs.declared.block.Memory.{Memory}
@@ -17,7 +18,8 @@ use Rattle.node.proofs.Nodes.{node-lamps, node-ram}
 use Rattle.handler.proofs.Entering.{entry-mine}
 use Rattle.scene.specs.declared.step.Step.{Step}
 use Rattle.scene.specs.Machine.{machine}
-use Rattle.scene.specs.Compile.{entryData, pnumOf, pcmdOf, follows, itemOf}
+use Rattle.scene.specs.Compile.{entryData, pnumOf, pcmdOf, follows, joinedItem}
+use Rattle.scene.specs.Run.{Limits}
 use Rattle.scene.proofs.Faults.{eeprom-good}
 use Rattle.scene.proofs.Runs.{Linked, Run}
 use Rattle.acceptance.proofs.Lamps.{LampRun, entry-lamp-run}
@@ -45,7 +47,7 @@ byte-run k h p (s ∷ ss) e l =
 abbrev Leaves : State → Served State → Type 0
 Leaves st a = (a .error ≡ 0) × (a .after ≡ st)
 
-module _ (most : ℕ) (limit : most ≤ 56) (s : Step) (ss : List Step) (st : State) (r : Run most (s ∷ ss)) where
+module _ (most : ℕ) (limit : most ≤ pdataMax) (s : Step) (ss : List Step) (st : State) (r : Run most (s ∷ ss)) where
   abbrev done : Served State
   done = perform (pnumOf (s .kind)) (pcmdOf (s .kind)) (entryData s ss) st
 
@@ -73,10 +75,11 @@ module _ (most : ℕ) (limit : most ≤ 56) (s : Step) (ss : List Step) (st : St
       bytes-perform Eeprom (subst (λ (j : ℕ). Writes j Eeprom) (sym e) writes-eeprom) (omega arith) (k .eeprom-size)))
 
 -- an entry that joining makes, for a profile that the node takes: no error, and the state of its steps done singly
-pub run-performs : (most : ℕ) → most ≤ 56 → (h : ℕ) (run : List Step) (st : State) → Run most run → StateRule st → forNode (st .node .settings) h ≡ true
-    → (entryOf (itemOf h run) st .error ≡ 0) × (entryOf (itemOf h run) st .after ≡ machine run st)
-run-performs most limit h [] st r k f = absurd r
-run-performs most limit h (s ∷ ss) st r k f =
-    let e = entry-mine (itemOf h (s ∷ ss)) st f in
-    let d = kinds-perform most limit s ss st r k in
+pub run-performs : {entryMost listMost : ℕ} {front : List ℕ} → Limits entryMost listMost front → (h : ℕ) (run : List Step) (st : State)
+    → Run entryMost run → StateRule st → forNode (st .node .settings) h ≡ true
+    → (entryOf (joinedItem h run) st .error ≡ 0) × (entryOf (joinedItem h run) st .after ≡ machine run st)
+run-performs limits h [] st r k f = absurd r
+run-performs {entryMost} limits h (s ∷ ss) st r k f =
+    let e = entry-mine (joinedItem h (s ∷ ss)) st f in
+    let d = kinds-perform entryMost (omega (arith, limits .list, limits .frame)) s ss st r k in
     (ap (λ (a : Served State). a .error) e ∙ d .0, ap (λ (a : Served State). a .after) e ∙ d .1)

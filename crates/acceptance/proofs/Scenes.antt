@@ -1,13 +1,15 @@
 -- The scene theorem, and what the compile call makes of the same scene.
 use mathlib.Core.Path.{_≡_, refl, ap, _∙_}
 use mathlib.Core.Logic.{_⊎_, inl, inr}
-use mathlib.Core.List.{List, []}
+use mathlib.Core.List.{List}
 use mathlib.Core.Bool.{true, or-true}
 use Prim.Native.Nat.{ℕ, _≤_}
 use native.Mathlib.Omega.{arith}
 use lib.Dec.{eqb}
 use lib.ListN.{length}
 use borrow.Author.Tests.{eq-eqb, ne-eqb, le-leb}
+use Rattle.dpa.specs.Frame.{broadcastNadr}
+use Rattle.dpa.specs.Settings.{lastAddress}
 use Rattle.dpa.specs.declared.settings.Settings.{Settings}
 use Rattle.dpa.proofs.Ranges.{settings-facts}
 use Rattle.batch.specs.Batch.{item, All}
@@ -17,10 +19,11 @@ use Rattle.handler.proofs.Carrying.{carry-os, os-batch}
 use Rattle.scene.specs.declared.step.Step.{Step}
 use Rattle.scene.specs.Book.{sceneOf}
 use Rattle.scene.specs.Step.{stepFault}
-use Rattle.scene.specs.Compile.{entryLimit, listLimit, compiled}
+use Rattle.scene.specs.Compile.{compiled}
 use Rattle.scene.specs.Call.{output, outputRoom, written, addressOk, compileOf}
 use Rattle.scene.proofs.Groups.{all-weaken}
 use Rattle.scene.proofs.Faults.{Good, no-bad}
+use Rattle.scene.proofs.Runs.{limits}
 use Rattle.scene.proofs.Outputs.{written-whole}
 use Rattle.acceptance.specs.SceneTheorem.{Given, SceneTheorem}
 use Rattle.acceptance.proofs.Runs.{run-performs}
@@ -43,22 +46,22 @@ address-taken st a k (inl e) =
     let r = settings-facts (st .node .settings) (node-settings (st .node) (k .node-ok)) in
     let lo = r .address-min in
     let hi = r .address-max in
-    rw (ne-eqb a 255 (λ z. omega arith), le-leb 1 a (omega arith), le-leb a 239 (omega arith))
-address-taken st a k (inr e) = rw (eq-eqb a 255 e)
+    rw (ne-eqb a broadcastNadr (λ z. omega arith), le-leb 1 a (omega arith), le-leb a lastAddress (omega arith))
+address-taken st a k (inr e) = rw (eq-eqb a broadcastNadr e)
 
 -- no step of the scene is bad
-all-good : {st : State} {buffers : ℕ → List ℕ} {book : List ℕ} {scene a h : ℕ} → Given st buffers book scene a h → All Good (sceneOf book scene)
-all-good {book} {scene} g = all-weaken (λ (x : Step). stepFault x ≡ 0) Good (λ x e. eq-eqb (stepFault x) 0 e) (sceneOf book scene) (g .no-fault)
+scene-good : {st : State} {buffers : ℕ → List ℕ} {book : List ℕ} {scene a h : ℕ} → Given st buffers book scene a h → All Good (sceneOf book scene)
+scene-good {book} {scene} g = all-weaken (λ (x : Step). stepFault x ≡ 0) Good (λ x e. eq-eqb (stepFault x) 0 e) (sceneOf book scene) (g .no-fault)
 
 -- condition 3
 pub scene-theorem : SceneTheorem
 scene-theorem st buffers book scene a h g =
     let s = st .node .settings in
     let own = own-profile s h (g .profile) in
-    steps-obeyed entryLimit listLimit (omega arith) (omega arith) 0x05 [] (omega arith) a h s (g .address) own
+    steps-obeyed limits 0x05 a h s (g .address) own
     (λ list t e. batch-carried h list t (ap (λ (n : Settings). forNode n h) e ∙ own))
-    (run-performs entryLimit (omega arith) h)
-    (sceneOf book scene) buffers st (all-good g) (g .sound) refl (g .room)
+    (run-performs limits h)
+    (sceneOf book scene) buffers st (scene-good g) (g .sound) refl (g .room)
 
 -- what is given is what the compile call accepts: with room it writes these requests (scene's proofs/Outputs reads them back)
 pub given-compiles : (st : State) (buffers : ℕ → List ℕ) (book : List ℕ) (scene a h : ℕ) (out : List ℕ)
@@ -66,4 +69,4 @@ pub given-compiles : (st : State) (buffers : ℕ → List ℕ) (book : List ℕ)
     → compileOf book scene a h out ≡ written (output (compiled a h (sceneOf book scene))) out
 given-compiles st buffers book scene a h out g room =
     written-whole book scene a h out (address-taken st a (g .sound) (g .address)) room
-    (record { book = g .well-formed; number = g .known; steps = no-bad (sceneOf book scene) .1 (all-good g) })
+    (record { book = g .well-formed; number = g .known; steps = no-bad (sceneOf book scene) .1 (scene-good g) })

@@ -3,16 +3,16 @@ use mathlib.Core.Path.{_≡_, refl, sym, ap, subst, _∙_}
 use mathlib.Core.Logic.{_⊎_}
 use mathlib.Core.List.{List, [], _∷_, _++_, map}
 use mathlib.Core.Bool.{true}
-use Prim.Native.Nat.{ℕ, suc, _+_, _≤_}
+use Prim.Native.Nat.{ℕ, suc, _≤_}
 use lib.ListN.{length}
 use Rattle.dpa.specs.declared.settings.Settings.{Settings}
-use Rattle.dpa.specs.Frame.{pdataMax}
 use Rattle.batch.specs.Batch.{item, listBytes, All}
 use Rattle.handler.specs.Request.{State, StateRule, forNode, batchOf, carryOut, requestOf}
 use Rattle.scene.specs.declared.step.Step.{Step}
 use Rattle.scene.specs.Group.{joined}
 use Rattle.scene.specs.Machine.{machine}
-use Rattle.scene.specs.Compile.{itemsOf, batchesOf, requestBytes, requestsOf}
+use Rattle.scene.specs.Compile.{joinedItems, batchesOf, requestBytes, requestsOf}
+use Rattle.scene.specs.Run.{Limits}
 use Rattle.scene.proofs.Groups.{joined-append}
 use Rattle.scene.proofs.Places.{machine-append, machine-stays}
 use Rattle.scene.proofs.Faults.{Good}
@@ -29,20 +29,19 @@ pub record Done (pcmd a : ℕ) (s : Settings) (request : List ℕ) (steps : List
   pub sound : StateRule (requestOf request st o .after)
 
 -- Two limits; a PCMD of OS 02 and bytes in front of the list, which a node with settings s carries out as the list alone.
-module _ (entryMost listMost : ℕ) (six : 6 ≤ entryMost) (one : entryMost + 6 ≤ listMost)
-    (pcmd : ℕ) (front : List ℕ) (fits : length front + listMost ≤ pdataMax) (a h : ℕ) (s : Settings)
+module _ {entryMost listMost : ℕ} {front : List ℕ} (limits : Limits entryMost listMost front) (pcmd a h : ℕ) (s : Settings)
     (mine : (a ≡ s .address) ⊎ (a ≡ 255)) (ours : forNode s h ≡ true)
     (carried : (list : List ℕ) (st : State) → st .node .settings ≡ s → carryOut (item 2 pcmd h (front ++ list)) st ≡ batchOf list st)
     (performs : AllPerform h (Run entryMost)) where
   -- a request of entries that joining and filling make
-  pub request-done : (runs : List (List Step)) (st : State) (o : List ℕ) → Filling entryMost six listMost one h runs
+  pub request-done : (runs : List (List Step)) (st : State) (o : List ℕ) → Filling entryMost listMost h runs
       → StateRule st → st .node .settings ≡ s → 64 ≤ length o → Done pcmd a s (requestBytes pcmd front a h runs) (joined runs) st o
   request-done runs st o b k e room =
-      let list = listBytes (itemsOf h runs) in
+      let list = listBytes (joinedItems h runs) in
       let own : forNode (st .node .settings) h ≡ true = ap (λ (n : Settings). forNode n h) e ∙ ours in
       let to : (a ≡ st .node .settings .address) ⊎ (a ≡ 255) = subst (λ (n : Settings). (a ≡ n .address) ⊎ (a ≡ 255)) (sym e) mine in
       let did = carried list st e ∙ batch-performs h (Run entryMost) performs runs st (b .entries) k own in
-      let short = filling-fits entryMost listMost six one pcmd front fits a h runs b .1 in
+      let short = filling-fits limits pcmd a h runs b .1 in
       record {
         success =
             subst (λ (n : Settings). Success pcmd a n (requestBytes pcmd front a h runs) st o) e
@@ -53,7 +52,7 @@ module _ (entryMost listMost : ℕ) (six : 6 ≤ entryMost) (one : entryMost + 6
       }
 
   requests-obeyed : (bs : List (List (List Step))) (buffers : ℕ → List ℕ) (st : State)
-      → All (Filling entryMost six listMost one h) bs → StateRule st → st .node .settings ≡ s → ((k : ℕ) → 64 ≤ length (buffers k))
+      → All (Filling entryMost listMost h) bs → StateRule st → st .node .settings ≡ s → ((k : ℕ) → 64 ≤ length (buffers k))
       → AllSucceed pcmd a s buffers (map (requestBytes pcmd front a h) bs) st
       × (afterCalls buffers (map (requestBytes pcmd front a h) bs) st ≡ machine (joined (joined bs)) st)
   requests-obeyed [] buffers st b k e room = (tt, refl)
@@ -75,7 +74,7 @@ module _ (entryMost listMost : ℕ) (six : 6 ≤ entryMost) (one : entryMost + 6
       → Obeyed pcmd a buffers (requestsOf entryMost listMost pcmd front a h steps) steps st
   steps-obeyed steps buffers st good k e room =
       let bs = batchesOf entryMost listMost h steps in
-      let did = requests-obeyed bs buffers st (fillings entryMost six listMost one h steps good) k e room in
+      let did = requests-obeyed bs buffers st (fillings limits h steps good) k e room in
       let whole : joined (joined bs) ≡ steps = ap joined (filling-keeps entryMost listMost h steps) ∙ joining-keeps entryMost steps in
       record {
         calls = subst (λ (n : Settings). AllSucceed pcmd a n buffers (requestsOf entryMost listMost pcmd front a h steps) st) (sym e) (did .0);

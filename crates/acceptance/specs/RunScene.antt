@@ -10,7 +10,7 @@ use Rattle.node.specs.Node.{nodeOk}
 use Rattle.handler.specs.Request.{State, state}
 use Rattle.scene.specs.Book.{sceneOf}
 use Rattle.scene.specs.Machine.{machine}
-use Rattle.scene.specs.Call.{Compiled, compileOf}
+use Rattle.scene.specs.Call.{CompileResult, compileOf}
 use Rattle.acceptance.specs.declared.run.SceneAnswer.{SceneAnswer}
 
 -- the response buffer of each call
@@ -40,7 +40,7 @@ abbrev pub notRun : ℕ → ℕ → State → List ℕ → Ran
 notRun refusal step st out = record { refusal = refusal; step = step; after = st; out = out }
 
 -- refused by the compiler, or done as the step machine does the scene's steps
-unfoldable pub afterCompile : Compiled → State → State → Ran
+unfoldable pub afterCompile : CompileResult → State → State → Ran
 afterCompile c st done = cond (eqb (c .refusal) 0) (notRun 0 0 done (c .buffer)) (notRun (c .refusal) (c .step) st (c .buffer))
 
 -- the node and the memories are tested first: 1, 4

@@ -7,7 +7,7 @@ use lib.Dec.{leb, eqb}
 use borrow.Author.Tests.{leb-true, le-leb, eqb-true, eqb-false, not-true}
 use Rattle.dpa.specs.declared.settings.Settings.{Settings}
 use Rattle.dpa.specs.Lists.{allBelow}
-use Rattle.dpa.specs.Settings.{stepOk, settingsOk, SettingsRule}
+use Rattle.dpa.specs.Settings.{stepOk, lastAddress, nodeAddress, settingsOk, SettingsRule}
 use Rattle.dpa.proofs.Bool.{and-left, and-right, both, beq-eq, all-elim}
 
 sameStep : ℕ → Bool
@@ -25,26 +25,26 @@ pub step-rem : (s : ℕ) → s < 256 → stepOk s ≡ true → 100 % s ≡ 0
 step-rem s l e = eqb-true _ _ (and-right (not (eqb s 0)) _ (sym (step-divides s l) ∙ e))
 
 module _ (s : Settings) (e : settingsOk s ≡ true) where
-  first-four : (leb 1 (s .address) && leb (s .address) 239 && leb 1 (s .«lamp_count») && leb (s .«lamp_count») 32) ≡ true
+  first-four : (nodeAddress (s .address) && leb 1 (s .«lamp_count») && leb (s .«lamp_count») 32) ≡ true
   unfolding settingsOk
   first-four = and-left _ (stepOk (s .step)) e
 
-  first-three : (leb 1 (s .address) && leb (s .address) 239 && leb 1 (s .«lamp_count»)) ≡ true
+  first-three : (nodeAddress (s .address) && leb 1 (s .«lamp_count»)) ≡ true
   first-three = and-left _ (leb (s .«lamp_count») 32) first-four
 
-  first-two : (leb 1 (s .address) && leb (s .address) 239) ≡ true
+  first-two : nodeAddress (s .address) ≡ true
   first-two = and-left _ (leb 1 (s .«lamp_count»)) first-three
 
   pub settings-facts : SettingsRule s
   unfolding settingsOk
   settings-facts =
       record {
-        address-min = leb-true _ _ (and-left _ (leb (s .address) 239) first-two);
+        address-min = leb-true _ _ (and-left _ (leb (s .address) lastAddress) first-two);
         address-max = leb-true _ _ (and-right (leb 1 (s .address)) _ first-two);
-        count-min = leb-true _ _ (and-right (leb 1 (s .address) && leb (s .address) 239) _ first-three);
-        count-max = leb-true _ _ (and-right (leb 1 (s .address) && leb (s .address) 239 && leb 1 (s .«lamp_count»)) _ first-four);
+        count-min = leb-true _ _ (and-right (nodeAddress (s .address)) _ first-three);
+        count-max = leb-true _ _ (and-right (nodeAddress (s .address) && leb 1 (s .«lamp_count»)) _ first-four);
         step-valid =
-            and-right (leb 1 (s .address) && leb (s .address) 239 && leb 1 (s .«lamp_count») && leb (s .«lamp_count») 32) _ e;
+            and-right (nodeAddress (s .address) && leb 1 (s .«lamp_count») && leb (s .«lamp_count») 32) _ e;
       }
 
 pub settings-test : (s : Settings) → SettingsRule s → settingsOk s ≡ true

@@ -9,15 +9,22 @@ use Rattle.dpa.specs.declared.settings.Settings.{Settings}
 unfoldable pub stepOk : ℕ → Bool
 stepOk s = eqb s 1 || eqb s 2 || eqb s 4 || eqb s 5 || eqb s 10 || eqb s 20 || eqb s 25 || eqb s 50 || eqb s 100
 
--- address 1 to 239, lamp count 1 to 32, a dimming step; HWPID and DpaValue are any
+-- the addresses of nodes: from 1 to the last
+abbrev pub lastAddress : ℕ
+lastAddress = 239
+
+abbrev pub nodeAddress : ℕ → Bool
+nodeAddress a = leb 1 a && leb a lastAddress
+
+-- a node's address, lamp count 1 to 32, a dimming step; HWPID and DpaValue are any
 unfoldable pub settingsOk : Settings → Bool
 settingsOk s =
-    leb 1 (s .address) && leb (s .address) 239 && leb 1 (s .«lamp_count») && leb (s .«lamp_count») 32 && stepOk (s .step)
+    nodeAddress (s .address) && leb 1 (s .«lamp_count») && leb (s .«lamp_count») 32 && stepOk (s .step)
 
 -- the same ranges as facts (proofs/Ranges: `settings-facts`, `settings-test`)
 pub record SettingsRule (s : Settings) : Type 0 where
   pub address-min : 1 ≤ s .address
-  pub address-max : s .address ≤ 239
+  pub address-max : s .address ≤ lastAddress
   pub count-min : 1 ≤ s .«lamp_count»
   pub count-max : s .«lamp_count» ≤ 32
   pub step-valid : stepOk (s .step) ≡ true

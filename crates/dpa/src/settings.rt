@@ -2,6 +2,9 @@
 ghost use mathlib.Core.Path.{_≡_};
 ghost use Rattle.dpa.specs.Settings.{stepOk, settingsOk};
 
+// The largest address of a node.
+pub const LAST_ADDRESS: u16 = 239;
+
 #[repr(C)]
 pub struct Settings {
     pub address: u16,
@@ -27,7 +30,7 @@ pub fn settings_ok(settings: Settings) -> bool
     if settings.address < 1 {
         return false;
     }
-    if 239 < settings.address {
+    if LAST_ADDRESS < settings.address {
         return false;
     }
     if settings.lamp_count < 1 {

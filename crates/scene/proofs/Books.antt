@@ -18,7 +18,7 @@ use Rattle.scene.specs.declared.book.Content.{Content}
 use Rattle.scene.specs.declared.step.Step.{Step}
 use Rattle.scene.specs.Book.{content, countOf, stepsIn, contentsIn, chained, contentsOf, bookOk, sceneOf}
 use Rattle.scene.specs.Step.{goodStep, badFrom}
-use Rattle.scene.specs.Call.{Compiled, written}
+use Rattle.scene.specs.Call.{CompileResult, written}
 use Rattle.scene.specs.Run.{stepAt, contentAt, AllGood}
 use Rattle.scene.proofs.Faults.{Good, no-bad}
 use Rattle.scene.proofs.Outputs.{steps-length}
@@ -136,7 +136,7 @@ scene-is b i h = ap (λ (c : Content). stepsIn (c .steps) (drop (c .offset) b)) 
 
 -- ---- what is written
 pub written-as : (o out out′ : List ℕ) (used : ℕ) → used ≡ length o → out′ ≡ sets out 0 o → length o ≤ length out
-    → _≡_ {A = Compiled} (record { refusal = 0; step = 0; length = used; buffer = out′ }) (written o out)
+    → _≡_ {A = CompileResult} (record { refusal = 0; step = 0; length = used; buffer = out′ }) (written o out)
 written-as o out out′ used eu eo h = rw (eu, eo, front o out h)
 
 all-index : (n : ℕ) (a : List ℕ) → All Good (stepsIn n a) → AllGood a n

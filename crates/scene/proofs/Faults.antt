@@ -10,6 +10,8 @@ use lib.Dec.{ltb, leb, eqb}
 use borrow.Author.Tests.{eqb-true, eq-eqb, ne-eqb, ltb-false, leb-false, lt-ltb, le-ltb}
 use Rattle.dpa.proofs.Bool.{by-test, second-taken, first-taken}
 use Rattle.batch.specs.Batch.{All}
+use Rattle.memory.specs.Block.{sizeOf}
+use Rattle.memory.specs.declared.block.Memory.the-variants.{Eeprom, Ram}
 use Rattle.scene.specs.declared.step.Step.{Step}
 use Rattle.scene.specs.Step.{stepTimeOk, lampFault, byteFault, stepFault, goodStep, badFrom}
 
@@ -46,32 +48,32 @@ pub lamp-good : (s : Step) → Good s → s .kind < 3 → LampGood s
 unfolding stepFault
 lamp-good s g h = let f : stepFault s ≡ 0 = eqb-true _ _ g in lamp-parts s (rw (lt-ltb (s .kind) 3 h) at f)
 
-pub ram-good : (s : Step) → Good s → s .kind ≡ 3 → ByteGood 48 s
+pub ram-good : (s : Step) → Good s → s .kind ≡ 3 → ByteGood (sizeOf Ram) s
 unfolding stepFault
 ram-good s g h =
     let f : stepFault s ≡ 0 = eqb-true _ _ g in
-    byte-parts 48 s (rw (le-ltb (s .kind) 3 (omega arith), eq-eqb (s .kind) 3 h) at f)
+    byte-parts (sizeOf Ram) s (rw (le-ltb (s .kind) 3 (omega arith), eq-eqb (s .kind) 3 h) at f)
 
 -- a good step of no lamp and not of RAM is one of EEPROM
-pub eeprom-good : (s : Step) → Good s → 3 < s .kind → (s .kind ≡ 4) × ByteGood 192 s
+pub eeprom-good : (s : Step) → Good s → 3 < s .kind → (s .kind ≡ 4) × ByteGood (sizeOf Eeprom) s
 unfolding stepFault
 eeprom-good s g h =
     let f : stepFault s ≡ 0 = eqb-true _ _ g in
     let e = rw (le-ltb (s .kind) 3 (omega arith), ne-eqb (s .kind) 3 (λ z. omega arith)) at f in
-    let k = first-taken (eqb (s .kind) 4) (byteFault 192 s) 1 0 (λ z. omega arith) e in
-    (eqb-true (s .kind) 4 (k .0), byte-parts 192 s (k .1))
+    let k = first-taken (eqb (s .kind) 4) (byteFault (sizeOf Eeprom) s) 1 0 (λ z. omega arith) e in
+    (eqb-true (s .kind) 4 (k .0), byte-parts (sizeOf Eeprom) s (k .1))
 
 bad-told : {j : ℕ} → _≡_ {A = Option ℕ} (some j) none → ⊥
 bad-told e = let z : _≡_ {A = ℕ} 0 1 = cc in absurd (omega arith)
 
-all-good : (i : ℕ) (ss : List Step) → badFrom i ss ≡ none → All Good ss
-all-good i [] e = tt
-all-good i (s ∷ ss) e = by-test (goodStep s) (λ g. (g, all-good (suc i) ss (rw g at e))) (λ g. absurd (bad-told (rw g at e)))
+untold-good : (i : ℕ) (ss : List Step) → badFrom i ss ≡ none → All Good ss
+untold-good i [] e = tt
+untold-good i (s ∷ ss) e = by-test (goodStep s) (λ g. (g, untold-good (suc i) ss (rw g at e))) (λ g. absurd (bad-told (rw g at e)))
 
-good-all : (i : ℕ) (ss : List Step) → All Good ss → badFrom i ss ≡ none
-good-all i [] a = refl
-good-all i (s ∷ ss) a = rw (a .0) (good-all (suc i) ss (a .1))
+good-untold : (i : ℕ) (ss : List Step) → All Good ss → badFrom i ss ≡ none
+good-untold i [] a = refl
+good-untold i (s ∷ ss) a = rw (a .0) (good-untold (suc i) ss (a .1))
 
 -- no bad step is told exactly when each step is good
 pub no-bad : (ss : List Step) → (badFrom 0 ss ≡ none) ↔ All Good ss
-no-bad ss = (all-good 0 ss, good-all 0 ss)
+no-bad ss = (untold-good 0 ss, good-untold 0 ss)

@@ -1,147 +1,120 @@
--- Laws of the batch that a scene begins with, and of counting batches.
-use mathlib.Core.List.{List, [], _∷_, _++_}
-use mathlib.Core.Path.{_≡_, sym, ap, ap₂, _∙_}
-use Prim.Native.Nat.{ℕ, zero, suc, _+_, _*_, _-_, _≤_, _<_}
-use native.Mathlib.Nat.{sub-zero, add-zero}
-use native.Mathlib.Numerals.{add-one}
+-- Laws of filling: what is left to write behind an open list, and the list that the next entry goes into.
+use mathlib.Core.Bool.{true}
+use mathlib.Core.List.{List, [], _∷_, _++_, map, append-assoc, append-nil}
+use mathlib.Core.Path.{_≡_, refl, sym, ap, _∙_}
+use Prim.Native.Nat.{ℕ, _+_, _≤_, _<_}
 use native.Mathlib.Omega.{arith}
-use lib.ListN.{length, take, drop, length-drop, drop-of-length-le}
+use lib.Dec.{leb}
+use lib.ListN.{length, take, drop, length-append}
 use lib.Seq.{drop-drop}
-use borrow.Author.Tests.{le-leb, lt-leb}
-use Rattle.dpa.proofs.Lists.{to-end}
+use borrow.Author.Tests.{le-leb, lt-leb, leb-true}
+use Rattle.dpa.proofs.Bool.{by-test, by-cond}
+use Rattle.batch.specs.Batch.{All, entryBytes, entriesBytes}
 use Rattle.scene.specs.declared.step.Step.{Step}
-use Rattle.scene.specs.Book.{stepsIn}
-use Rattle.scene.specs.Group.{grow, group}
-use Rattle.scene.specs.Compile.{entriesOf, fills, listOf, batchesOf, entryLimit, listLimit}
-use Rattle.scene.specs.Run.{FirstRun, FirstBatch}
-use Rattle.scene.proofs.Sizes.{list-one, list-snoc}
-use Rattle.scene.proofs.Groups.{drop-next, grow-in, grow-out}
+use Rattle.scene.specs.Group.{joined, grow, group}
+use Rattle.scene.specs.Compile.{runData, joinedItem, joinedItems, listOf, fills, entriesOf, batchesOf}
+use Rattle.scene.specs.Call.{lengths}
+use Rattle.scene.specs.Run.{Limits, FirstRun, takes, nextSize, turnBytes, turnLength, bytesLeft, lengthsLeft}
+use Rattle.scene.proofs.Faults.{Good}
+use Rattle.scene.proofs.Groups.{grow-in, grow-out}
+use Rattle.scene.proofs.Runs.{Run, runs, joining-keeps}
+use Rattle.scene.proofs.Sizes.{entries-snoc, list-snoc, list-one}
 
--- the steps of a rear part
-pub steps-drop : (n d : ℕ) (a : List ℕ) → d ≤ n → stepsIn (n - d) (drop (4 * d) a) ≡ drop d (stepsIn n a)
-steps-drop n zero a h = rw (sub-zero n)
-steps-drop zero (suc d) a h = absurd (omega arith)
-steps-drop (suc n) (suc d) a h =
-    let e : suc n - suc d ≡ n - d = omega arith in
-    let f : 4 * suc d ≡ 4 + 4 * d = omega arith in
-    rw (e, f, ← (drop-drop (4 * d) 4 a)) (steps-drop n d (drop 4 a) (omega arith))
+-- requests that begin with the bytes `head`, in front of their lists
+abbrev pub headed : List ℕ → ℕ → List (List Step) → List ℕ
+headed head h runs = head ++ listOf h runs
 
-pub run-part : (n d : ℕ) (a : List ℕ) (k size : ℕ) → d ≤ n
-    → FirstRun (stepsIn (n - d) (take (length a - 4 * d) (drop (4 * d) a))) k size → FirstRun (drop d (stepsIn n a)) k size
-run-part n d a k size h f = rw (to-end (4 * d) a, steps-drop n d a h) at f
+module _ (listMost : ℕ) (head : List ℕ) (h : ℕ) where
+  fills-as : (cur : List (List Step)) (r : List Step) → fills listMost h cur r ≡ takes listMost (length (listOf h cur)) (length (runData r))
+  fills-as cur r = ap (λ (n : ℕ). leb n listMost) (list-snoc h cur r)
 
-pub batch-part : (n d : ℕ) (a : List ℕ) (e k size : ℕ) → d ≤ n
-    → FirstBatch (stepsIn (n - d) (take (length a - 4 * d) (drop (4 * d) a))) e k size
-    → FirstBatch (drop d (stepsIn n a)) e k size
-batch-part n d a e k size h f = rw (to-end (4 * d) a, steps-drop n d a h) at f
+  headed-length : (cur : List (List Step)) → length (headed head h cur) ≡ length (listOf h cur) + length head
+  headed-length cur = omega (arith, length-append head (listOf h cur))
 
--- ---- the invariant: e entries of `done` steps are in
-pub record In (ss : List Step) (e done size : ℕ) : Type 0 where
-  pub some : 1 ≤ done
-  pub within : done ≤ length ss
-  pub few : e ≤ done
-  pub there : e ≤ length (entriesOf entryLimit ss)
-  pub small : size ≤ listLimit
-  pub fits : (h : ℕ) → size ≡ length (listOf h (take e (entriesOf entryLimit ss)))
-  pub so-far : (h : ℕ) → group (fills listLimit h) (entriesOf entryLimit ss)
-      ≡ grow (fills listLimit h) (take e (entriesOf entryLimit ss)) (drop e (entriesOf entryLimit ss))
-  pub rest : drop e (entriesOf entryLimit ss) ≡ entriesOf entryLimit (drop done ss)
+  -- the requests from an open list on: its own beginning, its entries, and what is left
+  pub grow-bytes : (cur rs : List (List Step)) → joined (map (headed head h) (grow (fills listMost h) cur rs))
+      ≡ head ++ (entriesBytes (joinedItems h cur) ++ bytesLeft listMost head h (length (listOf h cur)) rs)
+  unfolding nextSize turnBytes entriesBytes
+  grow-bytes cur [] = append-nil (headed head h cur)
+  grow-bytes cur (r ∷ rs) =
+      by-test (fills listMost h cur r)
+      (λ e. let b = bytesLeft listMost head h (length (listOf h (cur ++ (r ∷ [])))) rs in
+      rw (grow-in (fills listMost h) cur r rs e, sym (fills-as cur r) ∙ e, ← (list-snoc h cur r))
+      (grow-bytes (cur ++ (r ∷ [])) rs
+      ∙ ap (λ (t : List ℕ). head ++ t)
+      (ap (λ (t : List ℕ). t ++ b) (entries-snoc h cur r) ∙ append-assoc (entriesBytes (joinedItems h cur)) (entryBytes (joinedItem h r)) b)))
+      (λ e. let b = bytesLeft listMost head h (length (listOf h (r ∷ []))) rs in
+      let x = head ++ (entryBytes (joinedItem h r) ++ b) in
+      rw (grow-out (fills listMost h) cur r rs e, sym (fills-as cur r) ∙ e, ← (list-one h r))
+      (ap (λ (t : List ℕ). headed head h cur ++ t)
+      (grow-bytes (r ∷ []) rs ∙ ap (λ (t : List ℕ). head ++ (t ++ b)) (append-nil (entryBytes (joinedItem h r))))
+      ∙ append-assoc head (listOf h cur) x
+      ∙ ap (λ (t : List ℕ). head ++ t) (append-assoc (entriesBytes (joinedItems h cur)) (0 ∷ []) x)))
 
-pub in-start : (ss : List Step) (k size : ℕ) → FirstRun ss k size → In ss 1 k (size + 6)
-in-start ss k size f =
-    record {
-      some = f .some;
-      within = f .within;
-      few = f .some;
-      there = rw (f .first) (omega arith);
-      small = omega (arith, f .small);
-      fits = λ h. let q : size + 6 ≡ length (listOf h (take k ss ∷ [])) = omega (arith, f .fits, list-one h (take k ss)) in rw (f .first) q;
-      so-far = λ h. rw (f .first);
-      rest = rw (f .first);
-    }
+  -- their lengths
+  pub grow-lengths : (cur rs : List (List Step)) → lengths (map (headed head h) (grow (fills listMost h) cur rs))
+      ≡ lengthsLeft listMost (length head) (length (listOf h cur)) rs
+  unfolding nextSize turnLength
+  grow-lengths cur [] = ap (λ (n : ℕ). n ∷ []) (headed-length cur)
+  grow-lengths cur (r ∷ rs) =
+      by-test (fills listMost h cur r)
+      (λ e. rw (grow-in (fills listMost h) cur r rs e, sym (fills-as cur r) ∙ e, ← (list-snoc h cur r)) (grow-lengths (cur ++ (r ∷ [])) rs))
+      (λ e. rw (grow-out (fills listMost h) cur r rs e, sym (fills-as cur r) ∙ e, headed-length cur, ← (list-one h r))
+      (ap (λ (t : List ℕ). (length (listOf h cur) + length head) ∷ t) (grow-lengths (r ∷ []) rs)))
 
-module _ (ss : List Step) (e done size k sz : ℕ) (i : In ss e done size) (f : FirstRun (drop done ss) k sz) where
-  next : drop e (entriesOf entryLimit ss) ≡ take k (drop done ss) ∷ entriesOf entryLimit (drop k (drop done ss))
-  next = i .rest ∙ f .first
+-- an entry that goes into the open list, and one that finds it full
+module _ (listMost : ℕ) (head : List ℕ) (n size more : ℕ) where
+  pub turn-in : size + (5 + more) ≤ listMost
+      → (turnBytes listMost head size more ≡ []) × (turnLength listMost n size more ≡ []) × (nextSize listMost size more ≡ size + (5 + more))
+  unfolding turnBytes turnLength nextSize
+  turn-in h = rw (le-leb (size + (5 + more)) listMost h) (refl, refl, refl)
 
-  size-next : (h : ℕ) → length (listOf h (take e (entriesOf entryLimit ss) ++ (take k (drop done ss) ∷ []))) ≡ size + sz + 5
-  size-next h = omega (arith, i .fits h, f .fits, list-snoc h (take e (entriesOf entryLimit ss)) (take k (drop done ss)))
+  pub turn-out : listMost < size + (5 + more)
+      → (turnBytes listMost head size more ≡ 0 ∷ head) × (turnLength listMost n size more ≡ (size + n) ∷ []) × (nextSize listMost size more ≡ 6 + more)
+  unfolding turnBytes turnLength nextSize
+  turn-out h = rw (lt-leb (size + (5 + more)) listMost h) (refl, refl, refl)
 
-  pub in-more : size + sz + 5 ≤ listLimit → In ss (e + 1) (done + k) (size + sz + 5)
-  in-more h =
-      let rs = entriesOf entryLimit ss in
-      let run = take k (drop done ss) in
-      let n = drop-next e rs run (entriesOf entryLimit (drop k (drop done ss))) next in
-      rw (add-one e)
-      (record {
-        some = omega (arith, i .some);
-        within = omega (arith, f .within, length-drop done ss, i .within);
-        few = omega (arith, i .few, f .some);
-        there = omega (arith, length-drop e rs, ap length next);
-        small = h;
-        fits = λ w. rw (n .1) (sym (size-next w));
-        so-far = λ w. i .so-far w ∙ ap (grow (fills listLimit w) (take e rs)) next
-            ∙ grow-in (fills listLimit w) (take e rs) run (entriesOf entryLimit (drop k (drop done ss)))
-            (le-leb (length (listOf w (take e rs ++ (run ∷ [])))) listLimit (omega (arith, size-next w)))
-            ∙ ap₂ (grow (fills listLimit w)) (sym (n .1)) (sym (n .0));
-        rest = n .0 ∙ ap (entriesOf entryLimit) (drop-drop k done ss);
-      })
+module _ {entryMost listMost : ℕ} {front : List ℕ} (l : Limits entryMost listMost front) where
+  -- a list stays within its limit
+  pub next-small : (size more : ℕ) → more ≤ entryMost → nextSize listMost size more ≤ listMost
+  unfolding nextSize
+  next-small size more m =
+      by-cond (λ (n : ℕ). n ≤ listMost) (takes listMost size more) _ _ (λ e. leb-true _ _ e) (λ e. omega (arith, l .list))
 
-  pub in-stop : listLimit < size + sz + 5 → FirstBatch ss e done size
-  in-stop h =
-      let rs = entriesOf entryLimit ss in
-      let run = take k (drop done ss) in
-      record {
-        some = i .some;
-        within = i .within;
-        few = i .few;
-        there = i .there;
-        small = i .small;
-        fits = i .fits;
-        rest = i .rest;
-        first = λ w. i .so-far w ∙ ap (grow (fills listLimit w) (take e rs)) next
-            ∙ grow-out (fills listLimit w) (take e rs) run (entriesOf entryLimit (drop k (drop done ss)))
-            (lt-leb (length (listOf w (take e rs ++ (run ∷ [])))) listLimit (omega (arith, size-next w)))
-            ∙ ap (λ (l : List (List Step)). take e rs ∷ group (fills listLimit w) l) (sym next);
-      }
+  module _ (head : List ℕ) (h : ℕ) (ss : List Step) (good : All Good ss) (some : 0 < length ss) where
+    first-fills : (r : List Step) → Run entryMost r → fills listMost h [] r ≡ true
+    first-fills [] q = absurd q
+    first-fills (s ∷ ss) q = le-leb (length (listOf h ((s ∷ ss) ∷ []))) listMost (omega (arith, list-one h (s ∷ ss), q .2, l .list))
 
-pub in-end : (ss : List Step) (e done size : ℕ) → In ss e done size → length ss ≤ done → FirstBatch ss e done size
-in-end ss e done size i h =
-    let rs = entriesOf entryLimit ss in
-    let d : drop done ss ≡ [] = drop-of-length-le ss {i = done} h in
-    let q : drop e rs ≡ [] = i .rest ∙ rw d in
-    record {
-      some = i .some;
-      within = i .within;
-      few = i .few;
-      there = i .there;
-      small = i .small;
-      fits = i .fits;
-      rest = i .rest;
-      first = λ w. i .so-far w ∙ rw q;
-    }
+    -- the first entry goes into a list without entries
+    from-empty : (rs : List (List Step)) → joined rs ≡ ss → All (Run entryMost) rs → group (fills listMost h) rs ≡ grow (fills listMost h) [] rs
+    from-empty [] e a = absurd (omega (arith, ap length e))
+    from-empty (r ∷ rs) e a = sym (grow-in (fills listMost h) [] r rs (first-fills r (a .0)))
 
--- ---- counting: `count` batches hold the first `done` steps
-pub record Counted (ss : List Step) (done count : ℕ) : Type 0 where
-  pub within : done ≤ length ss
-  pub few : count ≤ done
-  pub left : (h : ℕ) → length (batchesOf entryLimit listLimit h ss) ≡ count + length (batchesOf entryLimit listLimit h (drop done ss))
+    batches-grow : batchesOf entryMost listMost h ss ≡ grow (fills listMost h) [] (entriesOf entryMost ss)
+    batches-grow = from-empty (entriesOf entryMost ss) (joining-keeps entryMost ss) (runs entryMost (l .entry) ss good)
 
-pub after-batch : (h : ℕ) (ss : List Step) (e k size : ℕ) → FirstBatch ss e k size
-    → batchesOf entryLimit listLimit h ss ≡ take e (entriesOf entryLimit ss) ∷ batchesOf entryLimit listLimit h (drop k ss)
-after-batch h ss e k size f = f .first h ∙ ap (λ (l : List (List Step)). take e (entriesOf entryLimit ss) ∷ group (fills listLimit h) l) (f .rest)
+    -- a scene's requests, and their lengths
+    pub bytes-begin : joined (map (headed head h) (batchesOf entryMost listMost h ss)) ≡ head ++ bytesLeft listMost head h 1 (entriesOf entryMost ss)
+    unfolding entriesBytes
+    bytes-begin =
+        ap (λ (bs : List (List (List Step))). joined (map (headed head h) bs)) batches-grow ∙ grow-bytes listMost head h [] (entriesOf entryMost ss)
 
-pub count-more : (ss : List Step) (done count e k size : ℕ) → Counted ss done count → FirstBatch (drop done ss) e k size
-    → Counted ss (done + k) (count + 1)
-count-more ss done count e k size c f =
-    record {
-      within = omega (arith, c .within, f .within, length-drop done ss);
-      few = omega (arith, c .few, f .some);
-      left = λ h. c .left h ∙ rw (after-batch h (drop done ss) e k size f, drop-drop k done ss) (omega arith);
-    }
+    pub lengths-begin : lengths (map (headed head h) (batchesOf entryMost listMost h ss)) ≡ lengthsLeft listMost (length head) 1 (entriesOf entryMost ss)
+    unfolding entriesBytes
+    lengths-begin =
+        ap (λ (bs : List (List (List Step))). lengths (map (headed head h) bs)) batches-grow ∙ grow-lengths listMost head h [] (entriesOf entryMost ss)
 
-pub count-end : (ss : List Step) (done count : ℕ) → Counted ss done count → length ss ≤ done → (h : ℕ)
-    → count ≡ length (batchesOf entryLimit listLimit h ss)
-count-end ss done count c l h =
-    let d : drop done ss ≡ [] = drop-of-length-le ss {i = done} l in
-    sym (c .left h ∙ rw d (add-zero count))
+-- ---- the next entry of the steps from `done` on
+module _ (entryMost listMost : ℕ) (ss : List Step) (done k sz : ℕ) (f : FirstRun entryMost (drop done ss) k sz) where
+  entries-next : entriesOf entryMost (drop done ss) ≡ take k (drop done ss) ∷ entriesOf entryMost (drop (done + k) ss)
+  entries-next = f .first ∙ ap (λ (t : List Step). take k (drop done ss) ∷ entriesOf entryMost t) (drop-drop k done ss)
+
+  pub bytes-next : (head : List ℕ) (h size : ℕ) → bytesLeft listMost head h size (entriesOf entryMost (drop done ss))
+      ≡ turnBytes listMost head size sz
+      ++ (entryBytes (joinedItem h (take k (drop done ss))) ++ bytesLeft listMost head h (nextSize listMost size sz) (entriesOf entryMost (drop (done + k) ss)))
+  bytes-next head h size = rw (entries-next, f .fits)
+
+  pub lengths-next : (head size : ℕ) → lengthsLeft listMost head size (entriesOf entryMost (drop done ss))
+      ≡ turnLength listMost head size sz ++ lengthsLeft listMost head (nextSize listMost size sz) (entriesOf entryMost (drop (done + k) ss))
+  lengths-next head size = rw (entries-next, f .fits)

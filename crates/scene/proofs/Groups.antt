@@ -1,6 +1,6 @@
 -- Laws of grouping: nothing is lost or moved, what each joining keeps each group has, and how a group ends.
 use mathlib.Core.Bool.{Bool, true, false}
-use mathlib.Core.List.{List, [], _∷_, _++_, append-assoc, nil≢cons, head-eq-of-cons-eq}
+use mathlib.Core.List.{List, [], _∷_, _++_, append-assoc}
 use mathlib.Core.Path.{_≡_, refl, ap, _∙_}
 use Prim.Native.Nat.{ℕ, zero, suc, _≤_, _<_}
 use native.Mathlib.Omega.{arith}
@@ -27,15 +27,6 @@ module _ {A : Type 0} where
   pub joined-append : (xs ys : List (List A)) → joined (xs ++ ys) ≡ joined xs ++ joined ys
   joined-append [] ys = refl
   joined-append (x ∷ xs) ys = rw (joined-append xs ys, append-assoc x (joined xs) (joined ys))
-
-  pub drop-next : (e : ℕ) (rs : List A) (x : A) (ys : List A) → drop e rs ≡ x ∷ ys
-      → (drop (suc e) rs ≡ ys) × (take (suc e) rs ≡ take e rs ++ (x ∷ []))
-  drop-next zero [] x ys q = absurd (nil≢cons q)
-  drop-next zero (r ∷ rs) x ys q = (cc, ap (λ (z : A). z ∷ []) (head-eq-of-cons-eq q))
-  drop-next (suc e) [] x ys q = absurd (nil≢cons q)
-  drop-next (suc e) (r ∷ rs) x ys q =
-      let ih = drop-next e rs x ys q in
-      (ih .0, ap (λ (l : List A). r ∷ l) (ih .1))
 
 module _ {A : Type 0} (fits : List A → A → Bool) where
   joined-grow : (cur xs : List A) → joined (grow fits cur xs) ≡ cur ++ xs

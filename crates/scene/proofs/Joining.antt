@@ -3,18 +3,19 @@ use mathlib.Core.Bool.{true, false, _&&_, and-false}
 use mathlib.Core.List.{List, [], _∷_}
 use mathlib.Core.Path.{_≡_, refl, sym, ap, _∙_}
 use Prim.Native.Nat.{ℕ, zero, suc, _+_, _*_, _-_, _≤_, _<_}
-use native.Mathlib.Nat.{add-comm}
+use native.Mathlib.Nat.{add-comm, sub-zero}
 use native.Mathlib.Numerals.{add-one}
 use native.Mathlib.Omega.{arith}
 use lib.Dec.{eqb, ltb, leb}
 use lib.ListN.{length, getD, take, drop, drop-of-length-le}
-use lib.Seq.{take-suc, getD-drop}
+use lib.Seq.{take-suc, getD-drop, drop-drop}
 use borrow.Author.Tests.{le-leb, lt-leb, leb-true}
 use Rattle.dpa.proofs.Bool.{by-test, by-cond, and-right}
+use Rattle.dpa.proofs.Lists.{to-end}
 use Rattle.scene.specs.declared.step.Step.{Step}
 use Rattle.scene.specs.Book.{stepsIn}
 use Rattle.scene.specs.Group.{grow}
-use Rattle.scene.specs.Compile.{runData, entryData, joins, entriesOf, follows, lastOf, powerBytes, entryLimit}
+use Rattle.scene.specs.Compile.{runData, entryData, joins, entriesOf, follows, lastOf, powerBytes}
 use Rattle.scene.specs.Run.{stepAt, stepSize, powerSize, firstSize, joinedSize, FirstRun}
 use Rattle.scene.proofs.Sizes.{data-length}
 use Rattle.scene.proofs.Groups.{begin, joined-on, left-off}
@@ -75,67 +76,82 @@ step-pos k s =
     (λ _. by-cond (λ (m : ℕ). 1 ≤ m) (eqb (s .time) 0) _ _ (λ _. omega arith) (λ _. omega arith)) (λ _. omega arith)
 
 -- ---- joined_size
-pub size-over : (p x : Step) (k size : ℕ) → entryLimit < stepSize k x + size → 0 ≡ joinedSize p x k size
-unfolding joinedSize
-size-over p x k size h = rw (lt-leb (stepSize k x + size) entryLimit h, and-false (follows p x))
-
-pub size-yes : (p x : Step) (k size : ℕ) → stepSize k x + size ≤ entryLimit → follows p x ≡ true → stepSize k x + size ≡ joinedSize p x k size
-unfolding joinedSize
-size-yes p x k size h f = rw (le-leb (stepSize k x + size) entryLimit h, f)
-
-pub size-no : (p x : Step) (k size : ℕ) → follows p x ≡ false → 0 ≡ joinedSize p x k size
-unfolding joinedSize
-size-no p x k size f = rw f
-
--- ---- the loop of run_of: its invariant at k steps
-abbrev pub At : ℕ → List ℕ → ℕ → ℕ → Type 0
-At n a k size =
-    (1 ≤ k) × (k ≤ n) × (size ≤ entryLimit) × (size ≡ length (runData (take k (stepsIn n a))))
-    × (entriesOf entryLimit (stepsIn n a) ≡ grow (joins entryLimit) (take k (stepsIn n a)) (drop k (stepsIn n a)))
-
-pub run-start : (n : ℕ) (a : List ℕ) (size : ℕ) → 0 < n → size ≡ firstSize (stepAt a 0) → size ≤ 6 → At n a 1 size
-run-start n a size h e small =
-    let ss = stepsIn n a in
-    let long : 0 < length ss = omega (arith, steps-length n a) in
-    (omega arith, omega arith, omega arith, e ∙ ap firstSize (sym (steps-at n a 0 h)) ∙ sym (size-one ss long), begin (joins entryLimit) ss long)
-
-pub run-end : (n : ℕ) (a : List ℕ) (k size : ℕ) → At n a k size → n ≤ k → FirstRun (stepsIn n a) k size
-run-end n a k size i h =
-    let ss = stepsIn n a in
-    let d : drop k ss ≡ [] = drop-of-length-le ss {i = k} (omega (arith, steps-length n a)) in
-    record { some = i .0; within = omega (arith, steps-length n a, i .1); small = i .2; fits = i .3; first = i .4 ∙ rw d }
-
-module _ (n : ℕ) (a : List ℕ) (k size kind r : ℕ) (i : At n a k size) (more : k < n) (head : kind ≡ stepAt a 0 .kind)
-    (given : r ≡ joinedSize (stepAt a (k - 1)) (stepAt a k) kind size) where
-  joins-here : joins entryLimit (take k (stepsIn n a)) (getD (stepsIn n a) k none)
-      ≡ (follows (stepAt a (k - 1)) (stepAt a k) && leb (stepSize kind (stepAt a k) + size) entryLimit)
-  joins-here =
-      joins-at entryLimit (stepsIn n a) k (i .0) (omega (arith, steps-length n a))
-      ∙ rw (steps-at n a (k - 1) (omega arith), steps-at n a k more, steps-at n a 0 (omega arith), head, i .3)
-
-  pub run-stop : r ≡ 0 → FirstRun (stepsIn n a) k size
+module _ (entryMost : ℕ) where
+  pub size-over : (p x : Step) (k size : ℕ) → entryMost < stepSize k x + size → 0 ≡ joinedSize entryMost p x k size
   unfolding joinedSize
-  run-stop z =
-      by-test (follows (stepAt a (k - 1)) (stepAt a k) && leb (stepSize kind (stepAt a k) + size) entryLimit)
-      (λ b. let q : r ≡ stepSize kind (stepAt a k) + size = given ∙ rw b in absurd (omega (arith, step-pos kind (stepAt a k))))
-      (λ b. record {
-        some = i .0;
-        within = omega (arith, steps-length n a);
-        small = i .2;
-        fits = i .3;
-        first = i .4 ∙ left-off (joins entryLimit) none (stepsIn n a) k (omega (arith, steps-length n a)) (joins-here ∙ b);
-      })
+  size-over p x k size h = rw (lt-leb (stepSize k x + size) entryMost h, and-false (follows p x))
 
-  pub run-more : (r ≡ 0 → ⊥) → At n a (k + 1) r
+  pub size-yes : (p x : Step) (k size : ℕ) → stepSize k x + size ≤ entryMost → follows p x ≡ true
+      → stepSize k x + size ≡ joinedSize entryMost p x k size
   unfolding joinedSize
-  run-more z =
+  size-yes p x k size h f = rw (le-leb (stepSize k x + size) entryMost h, f)
+
+  pub size-no : (p x : Step) (k size : ℕ) → follows p x ≡ false → 0 ≡ joinedSize entryMost p x k size
+  unfolding joinedSize
+  size-no p x k size f = rw f
+
+  -- ---- the loop of run_of: its invariant at k steps
+  abbrev pub At : ℕ → List ℕ → ℕ → ℕ → Type 0
+  At n a k size =
+      (1 ≤ k) × (k ≤ n) × (size ≤ entryMost) × (size ≡ length (runData (take k (stepsIn n a))))
+      × (entriesOf entryMost (stepsIn n a) ≡ grow (joins entryMost) (take k (stepsIn n a)) (drop k (stepsIn n a)))
+
+  pub run-start : 6 ≤ entryMost → (n : ℕ) (a : List ℕ) (size : ℕ) → 0 < n → size ≡ firstSize (stepAt a 0) → size ≤ 6 → At n a 1 size
+  run-start six n a size h e small =
       let ss = stepsIn n a in
-      let long : k < length ss = omega (arith, steps-length n a) in
-      by-test (follows (stepAt a (k - 1)) (stepAt a k) && leb (stepSize kind (stepAt a k) + size) entryLimit)
-      (λ b. let q : r ≡ stepSize kind (stepAt a k) + size = given ∙ rw b in
-      let w : stepSize kind (stepAt a k) + size ≤ entryLimit = leb-true _ _ (and-right (follows (stepAt a (k - 1)) (stepAt a k)) _ b) in
-      let e : length (runData (take (suc k) ss)) ≡ stepSize kind (stepAt a k) + size
-      = size-more ss k (i .0) long ∙ rw (steps-at n a k more, steps-at n a 0 (omega arith), head, i .3) in
-      rw (add-one k)
-      (omega arith, omega arith, omega arith, q ∙ sym e, i .4 ∙ joined-on (joins entryLimit) none ss k long (joins-here ∙ b)))
-      (λ b. absurd (z (given ∙ rw b)))
+      let long : 0 < length ss = omega (arith, steps-length n a) in
+      (omega arith, omega arith, omega arith, e ∙ ap firstSize (sym (steps-at n a 0 h)) ∙ sym (size-one ss long), begin (joins entryMost) ss long)
+
+  pub run-end : (n : ℕ) (a : List ℕ) (k size : ℕ) → At n a k size → n ≤ k → FirstRun entryMost (stepsIn n a) k size
+  run-end n a k size i h =
+      let ss = stepsIn n a in
+      let d : drop k ss ≡ [] = drop-of-length-le ss {i = k} (omega (arith, steps-length n a)) in
+      record { some = i .0; within = omega (arith, steps-length n a, i .1); small = i .2; fits = i .3; first = i .4 ∙ rw d }
+
+  module _ (n : ℕ) (a : List ℕ) (k size kind r : ℕ) (i : At n a k size) (more : k < n) (head : kind ≡ stepAt a 0 .kind)
+      (given : r ≡ joinedSize entryMost (stepAt a (k - 1)) (stepAt a k) kind size) where
+    joins-here : joins entryMost (take k (stepsIn n a)) (getD (stepsIn n a) k none)
+        ≡ (follows (stepAt a (k - 1)) (stepAt a k) && leb (stepSize kind (stepAt a k) + size) entryMost)
+    joins-here =
+        joins-at entryMost (stepsIn n a) k (i .0) (omega (arith, steps-length n a))
+        ∙ rw (steps-at n a (k - 1) (omega arith), steps-at n a k more, steps-at n a 0 (omega arith), head, i .3)
+
+    pub run-stop : r ≡ 0 → FirstRun entryMost (stepsIn n a) k size
+    unfolding joinedSize
+    run-stop z =
+        by-test (follows (stepAt a (k - 1)) (stepAt a k) && leb (stepSize kind (stepAt a k) + size) entryMost)
+        (λ b. let q : r ≡ stepSize kind (stepAt a k) + size = given ∙ rw b in absurd (omega (arith, step-pos kind (stepAt a k))))
+        (λ b. record {
+          some = i .0;
+          within = omega (arith, steps-length n a);
+          small = i .2;
+          fits = i .3;
+          first = i .4 ∙ left-off (joins entryMost) none (stepsIn n a) k (omega (arith, steps-length n a)) (joins-here ∙ b);
+        })
+
+    pub run-more : (r ≡ 0 → ⊥) → At n a (k + 1) r
+    unfolding joinedSize
+    run-more z =
+        let ss = stepsIn n a in
+        let long : k < length ss = omega (arith, steps-length n a) in
+        by-test (follows (stepAt a (k - 1)) (stepAt a k) && leb (stepSize kind (stepAt a k) + size) entryMost)
+        (λ b. let q : r ≡ stepSize kind (stepAt a k) + size = given ∙ rw b in
+        let w : stepSize kind (stepAt a k) + size ≤ entryMost = leb-true _ _ (and-right (follows (stepAt a (k - 1)) (stepAt a k)) _ b) in
+        let e : length (runData (take (suc k) ss)) ≡ stepSize kind (stepAt a k) + size
+        = size-more ss k (i .0) long ∙ rw (steps-at n a k more, steps-at n a 0 (omega arith), head, i .3) in
+        rw (add-one k)
+        (omega arith, omega arith, omega arith, q ∙ sym e, i .4 ∙ joined-on (joins entryMost) none ss k long (joins-here ∙ b)))
+        (λ b. absurd (z (given ∙ rw b)))
+
+-- ---- the steps from step d on
+pub steps-drop : (n d : ℕ) (a : List ℕ) → d ≤ n → stepsIn (n - d) (drop (4 * d) a) ≡ drop d (stepsIn n a)
+steps-drop n zero a h = rw (sub-zero n)
+steps-drop zero (suc d) a h = absurd (omega arith)
+steps-drop (suc n) (suc d) a h =
+    let e : suc n - suc d ≡ n - d = omega arith in
+    let f : 4 * suc d ≡ 4 + 4 * d = omega arith in
+    rw (e, f, ← (drop-drop (4 * d) 4 a)) (steps-drop n d (drop 4 a) (omega arith))
+
+pub run-part : (entryMost n d : ℕ) (a : List ℕ) (k size : ℕ) → d ≤ n
+    → FirstRun entryMost (stepsIn (n - d) (take (length a - 4 * d) (drop (4 * d) a))) k size → FirstRun entryMost (drop d (stepsIn n a)) k size
+run-part entryMost n d a k size h f = rw (to-end (4 * d) a, steps-drop n d a h) at f

@@ -1,13 +1,13 @@
 -- The compile call's output: it is read back as the requests, it fits its buffer, and when nothing is refused.
 use mathlib.Core.Bool.{true, not, _&&_}
-use mathlib.Core.List.{List, [], _∷_, _++_, map, append-assoc}
+use mathlib.Core.List.{List, [], _∷_, _++_, append-assoc}
 use mathlib.Core.Logic.{_↔_}
 use mathlib.Core.Option.{Option, none, some}
 use mathlib.Core.Path.{_≡_, refl, ap, _∙_}
 use Prim.Native.Nat.{ℕ, zero, suc, _+_, _*_, _≤_, _<_}
 use native.Mathlib.Omega.{arith}
 use lib.Dec.{eqb, leb}
-use lib.ListN.{length, getD, drop, length-append}
+use lib.ListN.{length, getD, drop, length-append, length-map}
 use lib.Seq.{take-append-seam, drop-append-seam, take-at, drop-at}
 use borrow.Author.Tests.{leb-true, leb-false, lt-leb, le-ltb, not-false}
 use Rattle.dpa.proofs.Bool.{by-cond, and-left, and-right}
@@ -18,11 +18,13 @@ use Rattle.scene.specs.declared.step.Step.{Step}
 use Rattle.scene.specs.Book.{content, countOf, contentsOf, chained, bookOk, stepsIn, sceneOf}
 use Rattle.scene.specs.Step.{badFrom}
 use Rattle.scene.specs.Group.{joined}
-use Rattle.scene.specs.Compile.{joins, fills, entriesOf, batchesOf, requestBytes, requestsOf, compiled, entryLimit, listLimit}
-use Rattle.scene.specs.Call.{lengths, output, cut, requestsIn, outputRoom, Compiled, written, addressOk, compileSteps, compileOf}
+use Rattle.scene.specs.Compile.{joins, fills, entriesOf, batchesOf, requestBytes, requestsOf, compiled}
+use Rattle.scene.specs.Call.{lengths, output, cut, requestsIn, outputRoom, CompileResult, written, addressOk, compileSteps, compileOf}
+use Rattle.scene.specs.Run.{Limits}
 use Rattle.scene.proofs.Faults.{Good, no-bad}
 use Rattle.scene.proofs.Groups.{length-group}
-use Rattle.scene.proofs.Sizes.{Frame-sized, compiled-fit}
+use Rattle.scene.proofs.Runs.{limits}
+use Rattle.scene.proofs.Sizes.{Frame-sized, requests-fit}
 
 -- ---- the requests are read back
 
@@ -55,26 +57,23 @@ joined-length : (rs : List (List ℕ)) → All Frame-sized rs → length (joined
 joined-length [] a = omega arith
 joined-length (r ∷ rs) a = omega (arith, a .0 .1, length-append r (joined rs), joined-length rs (a .1))
 
-pub map-length : {A B : Type 0} (f : A → B) (xs : List A) → length (map f xs) ≡ length xs
-map-length f [] = refl
-map-length f (x ∷ xs) = ap suc (map-length f xs)
-
 -- there are no more requests than steps
 pub requests-few : (entryMost listMost pcmd : ℕ) (front : List ℕ) (a h : ℕ) (ss : List Step)
     → length (requestsOf entryMost listMost pcmd front a h ss) ≤ length ss
 requests-few entryMost listMost pcmd front a h ss =
     omega (
       arith,
-      map-length (requestBytes pcmd front a h) (batchesOf entryMost listMost h ss),
+      length-map (batchesOf entryMost listMost h ss) (requestBytes pcmd front a h),
       length-group (fills listMost h) (entriesOf entryMost ss),
       length-group (joins entryMost) ss,
     )
 
--- at most 64 requests of at most 62 bytes
-pub output-fits : (a h : ℕ) (ss : List Step) → length ss ≤ 64 → All Good ss → length (output (compiled a h ss)) ≤ outputRoom
-output-fits a h ss l g =
-    let rs = compiled a h ss in
-    omega (arith, output-length rs, joined-length rs (compiled-fit a h ss g), requests-few entryLimit listLimit 0x05 [] a h ss)
+-- at most 64 requests, each no longer than a frame
+pub output-fits : {entryMost listMost : ℕ} {front : List ℕ} → Limits entryMost listMost front → (pcmd a h : ℕ) (ss : List Step)
+    → length ss ≤ 64 → All Good ss → length (output (requestsOf entryMost listMost pcmd front a h ss)) ≤ outputRoom
+output-fits {entryMost} {listMost} {front} l pcmd a h ss n g =
+    let rs = requestsOf entryMost listMost pcmd front a h ss in
+    omega (arith, output-length rs, joined-length rs (requests-fit l pcmd a h ss g), requests-few entryMost listMost pcmd front a h ss)
 
 -- ---- a scene of a well-formed book has at most 64 steps
 
@@ -107,7 +106,7 @@ pub record Faultless (b : List ℕ) (k : ℕ) : Type 0 where
 
 -- every output fits its buffer
 pub scene-fits : (b : List ℕ) (k a h : ℕ) → Faultless b k → length (output (compiled a h (sceneOf b k))) ≤ outputRoom
-scene-fits b k a h f = output-fits a h (sceneOf b k) (scene-length b k (f .book)) (no-bad (sceneOf b k) .0 (f .steps))
+scene-fits b k a h f = output-fits limits 0x05 a h (sceneOf b k) (scene-length b k (f .book)) (no-bad (sceneOf b k) .0 (f .steps))
 
 module _ (b : List ℕ) (k a h : ℕ) (out : List ℕ) where
   -- with address and room in range, a call without faults is not refused: it writes the output
@@ -117,7 +116,7 @@ module _ (b : List ℕ) (k a h : ℕ) (out : List ℕ) where
   written-whole ad room f =
       rw (ad, f .book, lt-leb (countOf b) k (f .number), f .steps, le-ltb (length out) outputRoom room)
 
-  abbrev Whole : Compiled → Type 0
+  abbrev Whole : CompileResult → Type 0
   Whole r = r .refusal ≡ 0 → Faultless b k
 
   steps-whole : bookOk b ≡ true → k < countOf b → (o : Option ℕ) → badFrom 0 (sceneOf b k) ≡ o → Whole (compileSteps o a h (sceneOf b k) out)
@@ -135,11 +134,11 @@ module _ (b : List ℕ) (k a h : ℕ) (out : List ℕ) where
 
   -- refusal 0 exactly without faults, where address and room are in range
   pub refusal-exact : addressOk a ≡ true → outputRoom ≤ length out → (compileOf b k a h out .refusal ≡ 0) ↔ Faultless b k
-  refusal-exact ad room = (refused-none, λ f. ap (λ (r : Compiled). r .refusal) (written-whole ad room f))
+  refusal-exact ad room = (refused-none, λ f. ap (λ (r : CompileResult). r .refusal) (written-whole ad room f))
 
   -- and what it wrote is read back as the requests
   pub buffer-back : addressOk a ≡ true → outputRoom ≤ length out → Faultless b k
       → requestsIn (compileOf b k a h out .buffer) ≡ compiled a h (sceneOf b k)
   buffer-back ad room f =
       let rs = compiled a h (sceneOf b k) in
-      ap (λ (r : Compiled). requestsIn (r .buffer)) (written-whole ad room f) ∙ requests-back rs (drop (length (output rs)) out)
+      ap (λ (r : CompileResult). requestsIn (r .buffer)) (written-whole ad room f) ∙ requests-back rs (drop (length (output rs)) out)

@@ -1,21 +1,23 @@
 -- Laws of writing the output: what is left to write is written on.
-use mathlib.Core.List.{List, [], _∷_, _++_, map}
+use mathlib.Core.List.{List, [], _∷_, _++_, append-assoc}
 use mathlib.Core.Path.{_≡_, refl, sym, ap, _∙_}
-use Prim.Native.Nat.{ℕ, _+_, _≤_, _<_}
+use Prim.Native.Nat.{ℕ, suc, _+_, _≤_}
 use native.Mathlib.Omega.{arith}
 use lib.ListN.{length, take, drop, set, length-append, length-drop, drop-of-length-le}
-use lib.Seq.{sets, length-sets, drop-drop}
-use Rattle.dpa.specs.Frame.{frame, headerBytes}
+use lib.Seq.{sets, length-sets, set-comm}
+use Rattle.batch.specs.Batch.{entryBytes}
+use Rattle.batch.proofs.RoundTrip.{entry-length}
 use Rattle.scene.specs.declared.step.Step.{Step}
 use Rattle.scene.specs.Book.{stepsIn}
 use Rattle.scene.specs.Group.{joined}
-use Rattle.scene.specs.Compile.{entriesOf, listOf, requestBytes, batchesOf, compiled, entryLimit, listLimit}
+use Rattle.scene.specs.Compile.{joinedItem, entriesOf, compiled}
 use Rattle.scene.specs.Call.{lengths, output, outputRoom}
-use Rattle.scene.specs.Run.{FirstBatch, AllGood}
-use Rattle.scene.proofs.Writing.{sets-append}
-use Rattle.scene.proofs.Filling.{after-batch}
-use Rattle.scene.proofs.Lists.{all-good}
-use Rattle.scene.proofs.Outputs.{lengths-length, output-length, output-fits, map-length, steps-length}
+use Rattle.scene.specs.Run.{Limits, FirstRun, nextSize, turnBytes, turnLength, bytesLeft, lengthsLeft, AllGood}
+use Rattle.scene.proofs.Writing.{sets-append, put-two}
+use Rattle.scene.proofs.Filling.{next-small, bytes-next, lengths-next}
+use Rattle.scene.proofs.Outputs.{lengths-length, output-length, output-fits, steps-length}
+use Rattle.scene.proofs.Lists.{good-steps}
+use Rattle.scene.proofs.Runs.{limits}
 
 -- `all` written from `at` is what `rest` written on from w makes of `out`
 pub record Left (old : List ℕ) (at : ℕ) (all out : List ℕ) (w : ℕ) (rest : List ℕ) : Type 0 where
@@ -26,117 +28,120 @@ pub record Left (old : List ℕ) (at : ℕ) (all out : List ℕ) (w : ℕ) (rest
 pub left-start : (old : List ℕ) (at : ℕ) (all : List ℕ) → Left old at all old at all
 left-start old at all = record { place = refl; bytes = refl; kept = refl }
 
-pub left-more : (old : List ℕ) (at : ℕ) (all out : List ℕ) (w : ℕ) (xs ys rest out′ : List ℕ) (w′ : ℕ) → Left old at all out w rest → rest ≡ xs ++ ys
-    → out′ ≡ sets out w xs → w′ ≡ w + length xs → Left old at all out′ w′ ys
-left-more old at all out w xs ys rest out′ w′ l er eo ew =
-    record {
-      place = omega (arith, l .place, ap length er, length-append xs ys, ew);
-      bytes = l .bytes ∙ rw (er, eo, ew) (sets-append out w xs ys);
-      kept = ap length eo ∙ length-sets out w xs ∙ l .kept;
-    }
-
-pub left-end : (old : List ℕ) (at : ℕ) (all out : List ℕ) (w : ℕ) → Left old at all out w [] → (w ≡ at + length all) × (out ≡ sets old at all)
-left-end old at all out w l = (omega (arith, l .place), sym (l .bytes))
-
--- ---- the requests of the steps from `done` on
-pub after : (a h : ℕ) (ss : List Step) (e k size : ℕ) → FirstBatch ss e k size
-    → compiled a h ss ≡ requestBytes 0x05 [] a h (take e (entriesOf entryLimit ss)) ∷ compiled a h (drop k ss)
-after a h ss e k size f = ap (map (requestBytes 0x05 [] a h)) (after-batch h ss e k size f)
-
-pub none-left : (a h : ℕ) (ss : List Step) (done : ℕ) → length ss ≤ done → compiled a h (drop done ss) ≡ []
-none-left a h ss done l =
-    let d : drop done ss ≡ [] = drop-of-length-le ss {i = done} l in
-    ap (compiled a h) d
-
--- ---- the loop of write_lengths
-pub record Lengths (ss : List Step) (old : List ℕ) (at done : ℕ) (out : List ℕ) (w : ℕ) : Type 0 where
-  pub within : done ≤ length ss
-  pub left : (a h : ℕ) → Left old at (lengths (compiled a h ss)) out w (lengths (compiled a h (drop done ss)))
-
-module _ (ss : List Step) (old : List ℕ) (at done : ℕ) (out : List ℕ) (w : ℕ) (l : Lengths ss old at done out w) (e k size : ℕ)
-    (f : FirstBatch (drop done ss) e k size) where
-  next-lengths : (a h : ℕ) → lengths (compiled a h (drop done ss)) ≡ ((size + 6) ∷ []) ++ lengths (compiled a h (drop (done + k) ss))
-  next-lengths a h =
-      let q : length (requestBytes 0x05 [] a h (take e (entriesOf entryLimit (drop done ss)))) ≡ size + 6 = omega (arith, f .fits h) in
-      ap lengths (after a h (drop done ss) e k size f) ∙ rw (q, drop-drop k done ss)
-
-  pub lengths-room : ((a h : ℕ) → at + length (compiled a h ss) ≤ length old) → w < length out
-  lengths-room c =
-      omega (arith, l .left 0 0 .place, l .left 0 0 .kept, c 0 0, lengths-length (compiled 0 0 ss), ap length (next-lengths 0 0))
-
-  pub lengths-more : Lengths ss old at (done + k) (set out w (size + 6)) (w + 1)
-  lengths-more =
+module _ (old : List ℕ) (at : ℕ) (all out : List ℕ) (w : ℕ) (rest : List ℕ) (l : Left old at all out w rest) where
+  pub left-more : (xs ys out′ : List ℕ) (w′ : ℕ) → rest ≡ xs ++ ys → out′ ≡ sets out w xs → w′ ≡ w + length xs → Left old at all out′ w′ ys
+  left-more xs ys out′ w′ er eo ew =
       record {
-        within = omega (arith, f .within, length-drop done ss, l .within);
-        left =
-            λ a h. left-more old at _ out w ((size + 6) ∷ []) (lengths (compiled a h (drop (done + k) ss))) _ _ _ (l .left a h)
-            (next-lengths a h) refl refl;
+        place = omega (arith, l .place, ap length er, length-append xs ys, ew);
+        bytes = l .bytes ∙ rw (er, eo, ew) (sets-append out w xs ys);
+        kept = ap length eo ∙ length-sets out w xs ∙ l .kept;
       }
 
-pub lengths-end : (ss : List Step) (old : List ℕ) (at done : ℕ) (out : List ℕ) (w : ℕ) → Lengths ss old at done out w → length ss ≤ done
-    → (a h : ℕ) → (w ≡ at + length (compiled a h ss)) × (out ≡ sets old at (lengths (compiled a h ss)))
-lengths-end ss old at done out w l d a h =
-    let x = left-end old at (lengths (compiled a h ss)) out w (rw (none-left a h ss done d) at (l .left a h)) in
-    (omega (arith, x .0, lengths-length (compiled a h ss)), x .1)
+  -- there is room for it
+  pub left-room : (xs ys : List ℕ) → rest ≡ xs ++ ys → at + length all ≤ length old → w + length xs ≤ length out
+  left-room xs ys er c = omega (arith, l .place, l .kept, ap length er, length-append xs ys)
 
--- ---- the loop of write_requests
-pub record Requests (a h : ℕ) (ss : List Step) (old : List ℕ) (at done : ℕ) (out : List ℕ) (w : ℕ) : Type 0 where
+  pub left-end : (out′ : List ℕ) (w′ : ℕ) → out′ ≡ sets out w rest → w′ ≡ w + length rest → (w′ ≡ at + length all) × (out′ ≡ sets old at all)
+  left-end out′ w′ eo ew = (omega (arith, l .place), eo ∙ sym (l .bytes))
+
+-- ---- the loops over a scene's entries: a list of `size` bytes is open, and step `done` is next. `left` tells what is left
+-- to write behind an open list where these entries are left.
+pub record Open (entryMost listMost : ℕ) (left : ℕ → List (List Step) → List ℕ) (ss : List Step) (old : List ℕ) (at done size : ℕ)
+    (out : List ℕ) (w : ℕ) : Type 0 where
   pub within : done ≤ length ss
-  pub left : Left old at (joined (compiled a h ss)) out w (joined (compiled a h (drop done ss)))
+  pub small : size ≤ listMost
+  pub rest : Left old at (left 1 (entriesOf entryMost ss)) out w (left size (entriesOf entryMost (drop done ss)))
 
-module _ (a h : ℕ) (ss : List Step) (old : List ℕ) (at done : ℕ) (out : List ℕ) (w : ℕ) (l : Requests a h ss old at done out w)
-    (e k size : ℕ) (f : FirstBatch (drop done ss) e k size) where
-  next-request : joined (compiled a h (drop done ss))
-      ≡ headerBytes (frame a 0x02 0x05 h) ++ (listOf h (take e (entriesOf entryLimit (drop done ss))) ++ joined (compiled a h (drop (done + k) ss)))
-  next-request = ap joined (after a h (drop done ss) e k size f) ∙ rw (drop-drop k done ss)
+module _ {entryMost listMost : ℕ} {front : List ℕ} (l : Limits entryMost listMost front) (left : ℕ → List (List Step) → List ℕ)
+    (ss : List Step) (old : List ℕ) (at : ℕ) where
+  pub open-start : Open entryMost listMost left ss old at 0 1 old at
+  open-start = record { within = omega arith; small = omega (arith, l .list); rest = left-start _ _ _ }
 
-  -- after the six bytes
-  pub six-left : (out′ : List ℕ) (w′ : ℕ) → out′ ≡ sets out w (headerBytes (frame a 0x02 0x05 h)) → w′ ≡ w + 6
-      → Left old at (joined (compiled a h ss)) out′ w′
-      (listOf h (take e (entriesOf entryLimit (drop done ss))) ++ joined (compiled a h (drop (done + k) ss)))
-  six-left out′ w′ eo ew = left-more old at _ out w (headerBytes (frame a 0x02 0x05 h)) _ _ out′ w′ (l .left) next-request eo ew
+  module _ (done size : ℕ) (out : List ℕ) (w : ℕ) (o : Open entryMost listMost left ss old at done size out w) where
+    pub open-more : (k sz : ℕ) → FirstRun entryMost (drop done ss) k sz → (xs out′ : List ℕ) (w′ size′ : ℕ)
+        → left size (entriesOf entryMost (drop done ss)) ≡ xs ++ left (nextSize listMost size sz) (entriesOf entryMost (drop (done + k) ss))
+        → out′ ≡ sets out w xs → w′ ≡ w + length xs → size′ ≡ nextSize listMost size sz
+        → Open entryMost listMost left ss old at (done + k) size′ out′ w′
+    open-more k sz f xs out′ w′ size′ e eo ew es =
+        rw es
+        (record {
+          within = omega (arith, f .within, length-drop done ss, o .within);
+          small = next-small l size sz (f .small);
+          rest = left-more old at _ out w _ (o .rest) xs _ out′ w′ e eo ew;
+        })
 
-  pub six-room : at + length (joined (compiled a h ss)) ≤ length old → w + 6 ≤ length out
-  six-room c = omega (arith, l .left .place, l .left .kept, c, ap length next-request)
+    pub open-end : length ss ≤ done → Left old at (left 1 (entriesOf entryMost ss)) out w (left size [])
+    open-end d =
+        let none : drop done ss ≡ [] = drop-of-length-le ss {i = done} d in
+        rw none at (o .rest)
 
-  pub batch-room : (out′ : List ℕ) (w′ : ℕ) → out′ ≡ sets out w (headerBytes (frame a 0x02 0x05 h)) → w′ ≡ w + 6
-      → at + length (joined (compiled a h ss)) ≤ length old
-      → w′ + length (listOf h (take e (entriesOf entryLimit (drop done ss)))) ≤ length out′
-  batch-room out′ w′ eo ew c =
-      let x = six-left out′ w′ eo ew in
-      omega (
-        arith,
-        x .place,
-        x .kept,
-        c,
-        length-append (listOf h (take e (entriesOf entryLimit (drop done ss)))) (joined (compiled a h (drop (done + k) ss))),
-      )
+-- ---- the next entry, of k steps with `sz` bytes of PData
+module _ {entryMost listMost : ℕ} {front : List ℕ} (l : Limits entryMost listMost front) (ss : List Step) (old : List ℕ) (at done size : ℕ)
+    (out : List ℕ) (w k sz : ℕ) (f : FirstRun entryMost (drop done ss) k sz) where
+  -- length bytes: one if the open list is full
+  module _ (head : ℕ) (o : Open entryMost listMost (lengthsLeft listMost head) ss old at done size out w) where
+    abbrev lengthsBehind : List ℕ
+    lengthsBehind = lengthsLeft listMost head (nextSize listMost size sz) (entriesOf entryMost (drop (done + k) ss))
 
-  pub requests-more : (out′ : List ℕ) (w′ : ℕ) (out″ : List ℕ) (w″ : ℕ) → out′ ≡ sets out w (headerBytes (frame a 0x02 0x05 h)) → w′ ≡ w + 6
-      → out″ ≡ sets out′ w′ (listOf h (take e (entriesOf entryLimit (drop done ss))))
-      → w″ ≡ w′ + length (listOf h (take e (entriesOf entryLimit (drop done ss))))
-      → Requests a h ss old at (done + k) out″ w″
-  requests-more out′ w′ out″ w″ eo ew fo fw =
-      record {
-        within = omega (arith, f .within, length-drop done ss, l .within);
-        left = left-more old at _ out′ w′ (listOf h (take e (entriesOf entryLimit (drop done ss)))) _ _ out″ w″ (six-left out′ w′ eo ew) refl fo fw;
-      }
+    pub lengths-room : at + length (lengthsLeft listMost head 1 (entriesOf entryMost ss)) ≤ length old
+        → w + length (turnLength listMost head size sz) ≤ length out
+    lengths-room =
+        left-room old at _ out w _ (o .rest) (turnLength listMost head size sz) lengthsBehind (lengths-next entryMost listMost ss done k sz f head size)
 
-pub requests-end : (a h : ℕ) (ss : List Step) (old : List ℕ) (at done : ℕ) (out : List ℕ) (w : ℕ)
-    → Requests a h ss old at done out w → length ss ≤ done
-    → (w ≡ at + length (joined (compiled a h ss))) × (out ≡ sets old at (joined (compiled a h ss)))
-requests-end a h ss old at done out w l d = left-end old at (joined (compiled a h ss)) out w (rw (none-left a h ss done d) at (l .left))
+    pub lengths-more : (out′ : List ℕ) (w′ size′ : ℕ) → out′ ≡ sets out w (turnLength listMost head size sz)
+        → w′ ≡ w + length (turnLength listMost head size sz) → size′ ≡ nextSize listMost size sz
+        → Open entryMost listMost (lengthsLeft listMost head) ss old at (done + k) size′ out′ w′
+    lengths-more out′ w′ size′ =
+        open-more l (lengthsLeft listMost head) ss old at done size out w o k sz f (turnLength listMost head size sz) out′ w′ size′
+        (lengths-next entryMost listMost ss done k sz f head size)
+
+  -- the requests: the bytes in front of the entry, then the entry
+  module _ (head : List ℕ) (h : ℕ) (o : Open entryMost listMost (bytesLeft listMost head h) ss old at done size out w) where
+    abbrev turn : List ℕ
+    turn = turnBytes listMost head size sz
+
+    abbrev entry : List ℕ
+    entry = entryBytes (joinedItem h (take k (drop done ss)))
+
+    abbrev bytesBehind : List ℕ
+    bytesBehind = bytesLeft listMost head h (nextSize listMost size sz) (entriesOf entryMost (drop (done + k) ss))
+
+    pub turn-room : at + length (bytesLeft listMost head h 1 (entriesOf entryMost ss)) ≤ length old → w + length turn ≤ length out
+    turn-room = left-room old at _ out w _ (o .rest) turn (entry ++ bytesBehind) (bytes-next entryMost listMost ss done k sz f head h size)
+
+    module _ (out′ : List ℕ) (w′ : ℕ) (eo : out′ ≡ sets out w turn) (ew : w′ ≡ w + length turn) where
+      pub entry-room : at + length (bytesLeft listMost head h 1 (entriesOf entryMost ss)) ≤ length old → w′ + 5 + sz ≤ length out′
+      entry-room c =
+          let x = left-more old at _ out w _ (o .rest) turn (entry ++ bytesBehind) out′ w′ (bytes-next entryMost listMost ss done k sz f head h size) eo ew in
+          omega (
+            arith,
+            left-room old at _ out′ w′ _ x entry bytesBehind refl c,
+            entry-length (joinedItem h (take k (drop done ss))),
+            f .fits,
+          )
+
+      pub bytes-more : (out″ : List ℕ) (w″ size′ : ℕ) → out″ ≡ sets out′ w′ entry → w″ ≡ w′ + 5 + sz → size′ ≡ nextSize listMost size sz
+          → Open entryMost listMost (bytesLeft listMost head h) ss old at (done + k) size′ out″ w″
+      bytes-more out″ w″ size′ fo fw =
+          let n : w″ ≡ w′ + length entry = omega (arith, entry-length (joinedItem h (take k (drop done ss))), f .fits) in
+          let both = put-two out out′ out″ turn entry (turn ++ entry) w w′ w″ eo ew fo n refl in
+          open-more l (bytesLeft listMost head h) ss old at done size out w o k sz f (turn ++ entry) out″ w″ size′
+          (bytes-next entryMost listMost ss done k sz f head h size ∙ sym (append-assoc turn entry bytesBehind)) (both .1) (both .0)
 
 -- ---- the whole output
+set-sets : (l : List ℕ) (c i : ℕ) (xs : List ℕ) → set (sets l (suc i) xs) 0 c ≡ sets (set l 0 c) (suc i) xs
+set-sets l c i [] = refl
+set-sets l c i (x ∷ xs) =
+    set-sets (set l (suc i) x) c (suc i) xs ∙ ap (λ (t : List ℕ). sets t (suc (suc i)) xs) (set-comm l (suc i) 0 x c (λ z. omega arith))
+
 pub output-written : (old out out′ : List ℕ) (rs : List (List ℕ)) (count w r : ℕ) → count ≡ length rs
-    → out ≡ sets (set old 0 count) 1 (lengths rs) → w ≡ 1 + length rs
-    → out′ ≡ sets out w (joined rs) → r ≡ w + length (joined rs) → (r ≡ length (output rs)) × (out′ ≡ sets old 0 (output rs))
+    → out ≡ sets old 1 (lengths rs) → w ≡ 1 + length rs
+    → out′ ≡ sets (set out 0 count) w (joined rs) → r ≡ w + length (joined rs) → (r ≡ length (output rs)) × (out′ ≡ sets old 0 (output rs))
 output-written old out out′ rs count w r ec eo ew fo fr =
-    let v : w ≡ 1 + length (lengths rs) = omega (arith, lengths-length rs) in
-    (omega (arith, output-length rs), fo ∙ rw (eo, v, ec) (sym (sets-append (set old 0 (length rs)) 1 (lengths rs) (joined rs))))
+    let v : w ≡ 1 + length (lengths rs) = omega (arith, lengths-length rs) in (
+      omega (arith, output-length rs),
+      fo ∙ rw (eo, v, ec, set-sets old (length rs) 0 (lengths rs)) (sym (sets-append (set old 0 (length rs)) 1 (lengths rs) (joined rs))),
+    )
 
 pub short : (n : ℕ) (a : List ℕ) → AllGood a n → n ≤ 64 → (ad h : ℕ) → length (output (compiled ad h (stepsIn n a))) ≤ outputRoom
-short n a g l ad h = output-fits ad h (stepsIn n a) (omega (arith, steps-length n a)) (all-good n a g)
-
-pub count-is : (ad h : ℕ) (ss : List Step) (count : ℕ) → count ≡ length (batchesOf entryLimit listLimit h ss) → count ≡ length (compiled ad h ss)
-count-is ad h ss count e = e ∙ sym (map-length (requestBytes 0x05 [] ad h) (batchesOf entryLimit listLimit h ss))
+short n a g l ad h = output-fits limits 0x05 ad h (stepsIn n a) (omega (arith, steps-length n a)) (good-steps n a g)

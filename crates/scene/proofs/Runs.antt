@@ -11,7 +11,8 @@ use Rattle.dpa.proofs.Bool.{by-test, and-left, and-right}
 use Rattle.batch.specs.Batch.{All, entriesBytes, entryBytes}
 use Rattle.scene.specs.declared.step.Step.{Step}
 use Rattle.scene.specs.Group.{joined}
-use Rattle.scene.specs.Compile.{powerBytes, entryData, lastOf, follows, joins, fills, listOf, entriesOf, batchesOf}
+use Rattle.scene.specs.Compile.{powerBytes, entryData, lastOf, follows, joins, fills, listOf, entriesOf, batchesOf, entryLimit, listLimit}
+use Rattle.scene.specs.Run.{Limits}
 use Rattle.scene.proofs.Groups.{all-snoc, joined-group, all-group}
 use Rattle.scene.proofs.Faults.{Good}
 
@@ -50,23 +51,30 @@ module _ (entryMost : ℕ) (six : 6 ≤ entryMost) where
   pub runs : (ss : List Step) → All Good ss → All (Run entryMost) (entriesOf entryMost ss)
   runs = all-group (joins entryMost) (Run entryMost) Good run-one run-more
 
-  module _ (listMost : ℕ) (one : entryMost + 6 ≤ listMost) (h : ℕ) where
-    -- the entries of a list that is at most `listMost`
-    pub record Filling (rs : List (List Step)) : Type 0 where
-      pub entries : All (Run entryMost) rs
-      pub size : length (listOf h rs) ≤ listMost
+-- the entries of a list that is at most `listMost`
+pub record Filling (entryMost listMost h : ℕ) (rs : List (List Step)) : Type 0 where
+  pub entries : All (Run entryMost) rs
+  pub size : length (listOf h rs) ≤ listMost
 
-    filling-one : (r : List Step) → Run entryMost r → Filling (r ∷ [])
-    unfolding entriesBytes entryBytes
-    filling-one [] r = absurd r
-    filling-one (s ∷ ss) r = record { entries = (r, tt); size = simp length-append (omega (arith, r .2)) }
+module _ {entryMost listMost : ℕ} {front : List ℕ} (l : Limits entryMost listMost front) (h : ℕ) where
+  filling-one : (r : List Step) → Run entryMost r → Filling entryMost listMost h (r ∷ [])
+  unfolding entriesBytes entryBytes
+  filling-one [] r = absurd r
+  filling-one (s ∷ ss) r = record { entries = (r, tt); size = simp length-append (omega (arith, r .2, l .list)) }
 
-    filling-more : (rs : List (List Step)) (r : List Step) → Filling rs → Run entryMost r → fills listMost h rs r ≡ true → Filling (rs ++ (r ∷ []))
-    filling-more rs r b q f = record { entries = all-snoc (Run entryMost) rs r (b .entries) q; size = leb-true _ _ f }
+  filling-more : (rs : List (List Step)) (r : List Step) → Filling entryMost listMost h rs → Run entryMost r → fills listMost h rs r ≡ true
+      → Filling entryMost listMost h (rs ++ (r ∷ []))
+  filling-more rs r b q f = record { entries = all-snoc (Run entryMost) rs r (b .entries) q; size = leb-true _ _ f }
 
-    -- filling makes such lists
-    pub fillings : (ss : List Step) → All Good ss → All Filling (batchesOf entryMost listMost h ss)
-    fillings ss a = all-group (fills listMost h) Filling (Run entryMost) filling-one filling-more (entriesOf entryMost ss) (runs ss a)
+  -- filling makes such lists
+  pub fillings : (ss : List Step) → All Good ss → All (Filling entryMost listMost h) (batchesOf entryMost listMost h ss)
+  fillings ss a =
+      all-group (fills listMost h) (Filling entryMost listMost h) (Run entryMost) filling-one filling-more (entriesOf entryMost ss)
+      (runs entryMost (l .entry) ss a)
+
+-- the paper's limits
+pub limits : Limits entryLimit listLimit []
+limits = record { entry = omega arith; list = omega arith; frame = omega arith }
 
 -- joining keeps the steps' order and loses none
 pub joining-keeps : (entryMost : ℕ) (ss : List Step) → joined (entriesOf entryMost ss) ≡ ss

@@ -6,12 +6,12 @@ use native.Mathlib.Omega.{arith}
 use lib.Dec.{eqb, ltb}
 use lib.ListN.{length, length-append}
 use Rattle.dpa.proofs.Bool.{by-test}
-use Rattle.dpa.specs.Frame.{headerSize, pdataMax, longestFrame}
+use Rattle.dpa.specs.Frame.{headerSize, longestFrame}
 use Rattle.batch.proofs.RoundTrip.{entry-length}
 use Rattle.batch.specs.Batch.{All, entryBytes, entriesBytes}
 use Rattle.scene.specs.declared.step.Step.{Step}
-use Rattle.scene.specs.Compile.{powerBytes, powersBytes, values, entryData, runData, itemOf, itemsOf, listOf, batchesOf, requestBytes, requestsOf, entryLimit, listLimit, compiled}
-use Rattle.scene.specs.Run.{powerSize, stepSize}
+use Rattle.scene.specs.Compile.{powerBytes, powersBytes, values, entryData, runData, joinedItem, joinedItems, listOf, batchesOf, requestBytes, requestsOf}
+use Rattle.scene.specs.Run.{powerSize, stepSize, Limits}
 use Rattle.scene.proofs.Faults.{Good}
 use Rattle.scene.proofs.Runs.{Filling, fillings}
 
@@ -38,23 +38,23 @@ data-length p ps x =
 
 -- an entry more in a list
 pub entries-snoc : (h : ℕ) (rs : List (List Step)) (r : List Step)
-    → entriesBytes (itemsOf h (rs ++ (r ∷ []))) ≡ entriesBytes (itemsOf h rs) ++ entryBytes (itemOf h r)
+    → entriesBytes (joinedItems h (rs ++ (r ∷ []))) ≡ entriesBytes (joinedItems h rs) ++ entryBytes (joinedItem h r)
 unfolding entriesBytes
-entries-snoc h [] r = append-nil (entryBytes (itemOf h r))
+entries-snoc h [] r = append-nil (entryBytes (joinedItem h r))
 entries-snoc h (x ∷ rs) r =
-    ap (λ (t : List ℕ). entryBytes (itemOf h x) ++ t) (entries-snoc h rs r)
-    ∙ sym (append-assoc (entryBytes (itemOf h x)) (entriesBytes (itemsOf h rs)) (entryBytes (itemOf h r)))
+    ap (λ (t : List ℕ). entryBytes (joinedItem h x) ++ t) (entries-snoc h rs r)
+    ∙ sym (append-assoc (entryBytes (joinedItem h x)) (entriesBytes (joinedItems h rs)) (entryBytes (joinedItem h r)))
 
 pub list-snoc : (h : ℕ) (rs : List (List Step)) (r : List Step)
     → length (listOf h (rs ++ (r ∷ []))) ≡ length (listOf h rs) + (5 + length (runData r))
 list-snoc h rs r =
     omega (
       arith,
-      length-append (entriesBytes (itemsOf h (rs ++ (r ∷ [])))) (0 ∷ []),
-      length-append (entriesBytes (itemsOf h rs)) (0 ∷ []),
+      length-append (entriesBytes (joinedItems h (rs ++ (r ∷ [])))) (0 ∷ []),
+      length-append (entriesBytes (joinedItems h rs)) (0 ∷ []),
       ap length (entries-snoc h rs r),
-      length-append (entriesBytes (itemsOf h rs)) (entryBytes (itemOf h r)),
-      entry-length (itemOf h r),
+      length-append (entriesBytes (joinedItems h rs)) (entryBytes (joinedItem h r)),
+      entry-length (joinedItem h r),
     )
 
 pub list-one : (h : ℕ) (r : List Step) → length (listOf h (r ∷ [])) ≡ 6 + length (runData r)
@@ -69,22 +69,18 @@ request-length pcmd front a h rs = omega (arith, length-append front (listOf h r
 abbrev pub Frame-sized : List ℕ → Type 0
 Frame-sized r = (headerSize ≤ length r) × (length r ≤ longestFrame)
 
--- every request fits a frame where the bytes in front and the longest list do
-module _ (entryMost listMost : ℕ) (six : 6 ≤ entryMost) (one : entryMost + 6 ≤ listMost)
-    (pcmd : ℕ) (front : List ℕ) (fits : length front + listMost ≤ pdataMax) (a h : ℕ) where
-  pub filling-fits : (rs : List (List Step)) → Filling entryMost six listMost one h rs → Frame-sized (requestBytes pcmd front a h rs)
+-- every request fits a frame
+module _ {entryMost listMost : ℕ} {front : List ℕ} (l : Limits entryMost listMost front) (pcmd a h : ℕ) where
+  pub filling-fits : (rs : List (List Step)) → Filling entryMost listMost h rs → Frame-sized (requestBytes pcmd front a h rs)
   filling-fits rs b =
       let n = request-length pcmd front a h rs in
       let s = b .size in
+      let f = l .frame in
       (omega arith, omega arith)
 
   pub requests-fit : (ss : List Step) → All Good ss → All Frame-sized (requestsOf entryMost listMost pcmd front a h ss)
-  requests-fit ss g = each (batchesOf entryMost listMost h ss) (fillings entryMost six listMost one h ss g)
+  requests-fit ss g = each (batchesOf entryMost listMost h ss) (fillings l h ss g)
     where
-      each : (bs : List (List (List Step))) → All (Filling entryMost six listMost one h) bs → All Frame-sized (map (requestBytes pcmd front a h) bs)
+      each : (bs : List (List (List Step))) → All (Filling entryMost listMost h) bs → All Frame-sized (map (requestBytes pcmd front a h) bs)
       each [] a = tt
       each (b ∷ bs) a = (filling-fits b (a .0), each bs (a .1))
-
--- with the paper's limits
-pub compiled-fit : (a h : ℕ) (ss : List Step) → All Good ss → All Frame-sized (compiled a h ss)
-compiled-fit a h = requests-fit entryLimit listLimit (omega arith) (omega arith) 0x05 [] (omega arith) a h

@@ -11,7 +11,7 @@ use borrow.Author.Tests.{eq-eqb, ne-eqb, lt-ltb, le-ltb}
 use Rattle.batch.specs.Batch.{entryBytes}
 use Rattle.scene.specs.declared.step.Step.{Step}
 use Rattle.scene.specs.Book.{stepsIn}
-use Rattle.scene.specs.Compile.{powerBytes, powersBytes, values, bitmapOf, fourBytes, itemOf, entryData, runData}
+use Rattle.scene.specs.Compile.{powerBytes, powersBytes, values, bitmapOf, fourBytes, joinedItem, entryData, runData}
 use Rattle.scene.specs.Run.{stepAt, headBytes}
 use Rattle.scene.proofs.Outputs.{steps-length}
 use Rattle.scene.proofs.Joining.{none, steps-at}
@@ -154,7 +154,7 @@ pub values-count : (n : ℕ) (a : List ℕ) → length (values (stepsIn n a)) �
 values-count n a = values-length (stepsIn n a) ∙ steps-length n a
 
 pub entry-split : (n : ℕ) (a : List ℕ) (h size : ℕ) → 0 < n → size ≡ length (runData (stepsIn n a))
-    → entryBytes (itemOf h (stepsIn n a)) ≡ headBytes (stepAt a 0 .kind) h size ++ runData (stepsIn n a)
+    → entryBytes (joinedItem h (stepsIn n a)) ≡ headBytes (stepAt a 0 .kind) h size ++ runData (stepsIn n a)
 unfolding entryBytes
 entry-split zero a h size p e = absurd (omega arith)
 entry-split (suc n) a h size p e = rw e

@@ -1,11 +1,13 @@
 -- Document 01, "Scenes" and "Frames": the compile call, its refusals and its output.
-use mathlib.Core.Bool.{Bool, cond, not, _&&_, _||_}
+use mathlib.Core.Bool.{Bool, cond, not, _||_}
 use mathlib.Core.List.{List, [], _∷_, _++_}
 use mathlib.Core.Option.{Option, none, some}
 use Prim.Native.Nat.{ℕ, suc}
 use lib.Dec.{ltb, leb, eqb}
 use lib.ListN.{length, getD, take, drop}
+use Rattle.dpa.specs.Frame.{broadcastNadr}
 use Rattle.dpa.specs.Lists.{over}
+use Rattle.dpa.specs.Settings.{nodeAddress}
 use Rattle.scene.specs.declared.compile.CompileAnswer.{CompileAnswer}
 use Rattle.scene.specs.declared.step.Step.{Step}
 use Rattle.scene.specs.Book.{countOf, bookOk, sceneOf}
@@ -39,36 +41,36 @@ outputRoom = 4096
 -- ---- the call
 
 -- what it leaves: the refusal, a bad step's number, the output's length, and the buffer
-pub record Compiled : Type 0 where
+pub record CompileResult : Type 0 where
   pub refusal : ℕ
   pub step : ℕ
   pub length : ℕ
   pub buffer : List ℕ
 
-abbrev pub compiledAs : CompileAnswer → List ℕ → Compiled
+abbrev pub compiledAs : CompileAnswer → List ℕ → CompileResult
 compiledAs r out = record { refusal = r .refusal; step = r .step; length = r .length; buffer = out }
 
 -- refused: nothing is written
-abbrev pub refusedAt : ℕ → ℕ → List ℕ → Compiled
+abbrev pub refusedAt : ℕ → ℕ → List ℕ → CompileResult
 refusedAt r s out = record { refusal = r; step = s; length = 0; buffer = out }
 
 -- an output at the front of the buffer; later bytes stay
-abbrev pub written : List ℕ → List ℕ → Compiled
+abbrev pub written : List ℕ → List ℕ → CompileResult
 written o out = record { refusal = 0; step = 0; length = length o; buffer = over o out }
 
 -- a node's address, or 255
 unfoldable pub addressOk : ℕ → Bool
-addressOk a = eqb a 255 || (leb 1 a && leb a 239)
+addressOk a = eqb a broadcastNadr || nodeAddress a
 
 -- steps of which this one is the first bad one
-abbrev pub compileSteps : Option ℕ → ℕ → ℕ → List Step → List ℕ → Compiled
+abbrev pub compileSteps : Option ℕ → ℕ → ℕ → List Step → List ℕ → CompileResult
 compileSteps (some j) a h ss out = refusedAt 8 j out
 compileSteps none a h ss out =
     cond (ltb (length out) outputRoom) (refusedAt 9 0 out)
     (written (output (compiled a h ss)) out)
 
 -- a book, a scene's number, an address, a profile, and the output buffer
-unfoldable pub compileOf : List ℕ → ℕ → ℕ → ℕ → List ℕ → Compiled
+unfoldable pub compileOf : List ℕ → ℕ → ℕ → ℕ → List ℕ → CompileResult
 compileOf b k a h out =
     cond (not (addressOk a)) (refusedAt 1 0 out)
     (cond (not (bookOk b)) (refusedAt 6 0 out)

@@ -57,15 +57,15 @@ unfoldable pub pcmdOf : ℕ → ℕ
 pcmdOf k = cond (ltb k 3) k 0x01
 
 -- the entry of joined steps for the profile h
-abbrev pub itemOf : ℕ → List Step → Item
-itemOf h run = item (pnumOf (kindOf run)) (pcmdOf (kindOf run)) h (runData run)
+abbrev pub joinedItem : ℕ → List Step → Item
+joinedItem h run = item (pnumOf (kindOf run)) (pcmdOf (kindOf run)) h (runData run)
 
-abbrev pub itemsOf : ℕ → List (List Step) → List Item
-itemsOf h runs = map (itemOf h) runs
+abbrev pub joinedItems : ℕ → List (List Step) → List Item
+joinedItems h runs = map (joinedItem h) runs
 
 -- the list of these entries
 abbrev pub listOf : ℕ → List (List Step) → List ℕ
-listOf h runs = listBytes (itemsOf h runs)
+listOf h runs = listBytes (joinedItems h runs)
 
 -- ---- joining and filling, for any two limits
 

@@ -1,17 +1,19 @@
--- What the compiler's inner functions compute: the first entry and the first batch of the steps that are left.
-use mathlib.Core.Bool.{true, cond, _&&_}
-use mathlib.Core.List.{List, [], _∷_}
+-- What the compiler's inner functions compute: the first entry of the steps that are left, and what is left to write. All
+-- are for any two limits and any bytes in front of a list.
+use mathlib.Core.Bool.{Bool, true, cond, _&&_}
+use mathlib.Core.List.{List, [], _∷_, _++_}
 use mathlib.Core.Path.{_≡_}
 use Prim.Native.Nat.{ℕ, _+_, _*_, _≤_, _<_}
 use lib.Dec.{ltb, leb, eqb}
 use lib.ListN.{length, getD, take, drop}
+use Rattle.dpa.specs.Frame.{pdataMax}
 use Rattle.dpa.specs.Number.{low, high, word}
+use Rattle.batch.specs.Batch.{entryBytes}
 use Rattle.scene.specs.declared.book.Content.{Content}
 use Rattle.scene.specs.declared.step.Step.{Step}
 use Rattle.scene.specs.Book.{content}
 use Rattle.scene.specs.Step.{goodStep}
-use Rattle.scene.specs.Group.{group}
-use Rattle.scene.specs.Compile.{pnumOf, pcmdOf, follows, fills, runData, listOf, entriesOf, entryLimit, listLimit}
+use Rattle.scene.specs.Compile.{pnumOf, pcmdOf, follows, runData, joinedItem, entriesOf}
 
 -- step i of a scene's bytes
 abbrev pub stepAt : List ℕ → ℕ → Step
@@ -39,28 +41,55 @@ unfoldable pub firstSize : Step → ℕ
 firstSize s = stepSize (s .kind) s + cond (ltb (s .kind) 3) 4 1
 
 -- the PData of `size` bytes with x added behind p in an entry of kind k, or 0 where x does not join
-unfoldable pub joinedSize : Step → Step → ℕ → ℕ → ℕ
-joinedSize p x k size = cond (follows p x && leb (stepSize k x + size) entryLimit) (stepSize k x + size) 0
+unfoldable pub joinedSize : ℕ → Step → Step → ℕ → ℕ → ℕ
+joinedSize entryMost p x k size = cond (follows p x && leb (stepSize k x + size) entryMost) (stepSize k x + size) 0
 
 -- the first entry takes k steps and has `size` bytes of PData
-pub record FirstRun (ss : List Step) (k size : ℕ) : Type 0 where
+pub record FirstRun (entryMost : ℕ) (ss : List Step) (k size : ℕ) : Type 0 where
   pub some : 1 ≤ k
   pub within : k ≤ length ss
-  pub small : size ≤ entryLimit
+  pub small : size ≤ entryMost
   pub fits : size ≡ length (runData (take k ss))
-  pub first : entriesOf entryLimit ss ≡ take k ss ∷ entriesOf entryLimit (drop k ss)
+  pub first : entriesOf entryMost ss ≡ take k ss ∷ entriesOf entryMost (drop k ss)
 
--- the first batch takes e entries of k steps together, and its list has `size` bytes
-pub record FirstBatch (ss : List Step) (e k size : ℕ) : Type 0 where
-  pub some : 1 ≤ k
-  pub within : k ≤ length ss
-  pub few : e ≤ k
-  pub there : e ≤ length (entriesOf entryLimit ss)
-  pub small : size ≤ listLimit
-  pub fits : (h : ℕ) → size ≡ length (listOf h (take e (entriesOf entryLimit ss)))
-  pub first : (h : ℕ) → group (fills listLimit h) (entriesOf entryLimit ss)
-      ≡ take e (entriesOf entryLimit ss) ∷ group (fills listLimit h) (drop e (entriesOf entryLimit ss))
-  pub rest : drop e (entriesOf entryLimit ss) ≡ entriesOf entryLimit (drop k ss)
+-- ---- an open list of `size` bytes, its closing zero counted, and an entry with `more` bytes of PData that comes next
+
+-- whether the entry goes into it
+abbrev pub takes : ℕ → ℕ → ℕ → Bool
+takes listMost size more = leb (size + (5 + more)) listMost
+
+-- the bytes of the list that it went into
+unfoldable pub nextSize : ℕ → ℕ → ℕ → ℕ
+nextSize listMost size more = cond (takes listMost size more) (size + (5 + more)) (6 + more)
+
+-- the bytes in front of it: none, or the zero of the full list and what the next list's request begins with
+unfoldable pub turnBytes : ℕ → List ℕ → ℕ → ℕ → List ℕ
+turnBytes listMost head size more = cond (takes listMost size more) [] (0 ∷ head)
+
+-- the length byte of the request of a list that is full, with `head` bytes in front of the list
+unfoldable pub turnLength : ℕ → ℕ → ℕ → ℕ → List ℕ
+turnLength listMost head size more = cond (takes listMost size more) [] ((size + head) ∷ [])
+
+-- all bytes behind an open list's entries, where these entries are left
+abbrev pub bytesLeft : ℕ → List ℕ → ℕ → ℕ → List (List Step) → List ℕ
+bytesLeft listMost head h size [] = 0 ∷ []
+bytesLeft listMost head h size (r ∷ rs) =
+    let more = length (runData r) in
+    turnBytes listMost head size more ++ (entryBytes (joinedItem h r) ++ bytesLeft listMost head h (nextSize listMost size more) rs)
+
+-- the length bytes of its request and of those behind it
+abbrev pub lengthsLeft : ℕ → ℕ → ℕ → List (List Step) → List ℕ
+lengthsLeft listMost head size [] = (size + head) ∷ []
+lengthsLeft listMost head size (r ∷ rs) =
+    let more = length (runData r) in
+    turnLength listMost head size more ++ lengthsLeft listMost head (nextSize listMost size more) rs
+
+-- what the limits and the bytes in front of the lists keep: an entry has room for a step, a list for an entry, and a frame
+-- for a list
+pub record Limits (entryMost listMost : ℕ) (front : List ℕ) : Type 0 where
+  pub entry : 6 ≤ entryMost
+  pub list : entryMost + 6 ≤ listMost
+  pub frame : length front + listMost ≤ pdataMax
 
 -- each of the n steps is good
 abbrev pub AllGood : List ℕ → ℕ → Type 0

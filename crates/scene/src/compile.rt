@@ -6,6 +6,7 @@ use crate::step::first_bad;
 use dpa::frame::Frame;
 use dpa::number::wide;
 use dpa::refusal;
+use dpa::settings::LAST_ADDRESS;
 ghost use mathlib.Core.Path.{_≡_};
 ghost use Prim.Native.Nat.{_*_, _≤_};
 ghost use lib.ListN.{length};
@@ -43,7 +44,7 @@ fn address_ok(a: u16) -> bool
     if a < 1 {
         return false;
     }
-    a <= 239
+    a <= LAST_ADDRESS
 }
 
 // Steps of a scene, compiled into the output buffer.

@@ -11,7 +11,7 @@ ghost use lib.ListN.{length, drop};
 ghost use lib.Seq.{sets};
 ghost use Rattle.batch.specs.Batch.{entryBytes};
 ghost use Rattle.scene.specs.Book.{stepsIn};
-ghost use Rattle.scene.specs.Compile.{values, runData, pnumOf, pcmdOf, itemOf, entryLimit};
+ghost use Rattle.scene.specs.Compile.{values, runData, pnumOf, pcmdOf, joinedItem, entryLimit};
 ghost use Rattle.scene.specs.Run.{Writable, headBytes};
 
 // The values of n steps.
@@ -79,7 +79,7 @@ fn write_entry(s: &[u8], n: usize, h: u16, size: usize, out: &mut [u8], at: usiz
     requires { ⌜ (4 * n ≤ length (now s)) × (0 < n) × (n ≤ 64) × (size ≤ entryLimit) × (size ≡ length (runData (stepsIn n (now s))))
         × (at + 5 + size ≤ length (now out)) × Writable (now s) n ⌝ }
     ensures { λ r. ⌜ (r ≡ at + 5 + size)
-        × (now (out .exit) ≡ sets (now (out .entry)) at (entryBytes (itemOf h (stepsIn n (now (s .entry)))))) ⌝ }
+        × (now (out .exit) ≡ sets (now (out .entry)) at (entryBytes (joinedItem h (stepsIn n (now (s .entry)))))) ⌝ }
 {
     let x = step_at(s, 0);
     let w = write_head(x.kind, h, size, out, at);
@@ -100,7 +100,7 @@ pub fn write_entry_at(
         × (size ≡ length (runData (stepsIn k (drop (4 * i) (now s))))) × (at + 5 + size ≤ length (now out))
         × Writable (drop (4 * i) (now s)) k ⌝ }
     ensures { λ r. ⌜ (r ≡ at + 5 + size)
-        × (now (out .exit) ≡ sets (now (out .entry)) at (entryBytes (itemOf h (stepsIn k (drop (4 * i) (now (s .entry))))))) ⌝ }
+        × (now (out .exit) ≡ sets (now (out .entry)) at (entryBytes (joinedItem h (stepsIn k (drop (4 * i) (now (s .entry))))))) ⌝ }
 {
     let from = 4 * i;
     write_entry(&s[from..], k, h, size, out, at)

@@ -1,76 +1,69 @@
-// Entries filled into batches.
+// Entries filled into lists, and the lengths of the lists' requests.
 use crate::join::run_from;
-use crate::join::run_of;
 use batch::entry::HEAD;
+use dpa::frame::Frame;
 ghost use mathlib.Core.Path.{_≡_};
-ghost use Prim.Native.Nat.{ℕ, _*_, _≤_, _<_};
-ghost use lib.ListN.{length, drop};
+ghost use Prim.Native.Nat.{ℕ, _+_, _*_, _≤_};
+ghost use lib.ListN.{length};
+ghost use lib.Seq.{sets};
+ghost use Rattle.dpa.specs.Frame.{headerSize};
 ghost use Rattle.scene.specs.Book.{stepsIn};
-ghost use Rattle.scene.specs.Compile.{batchesOf, entryLimit, listLimit};
-ghost use Rattle.scene.specs.Run.{FirstBatch};
+ghost use Rattle.scene.specs.Compile.{compiled, entryLimit, listLimit};
+ghost use Rattle.scene.specs.Call.{lengths};
+ghost use Rattle.scene.specs.Run.{nextSize, turnLength, AllGood};
 
 // The longest list of a batch, its closing zero included.
 pub const LIMIT: usize = 56;
 
-// The bytes of a list around the PData of its only entry: the entry's head and the closing zero.
-const AROUND: usize = HEAD + 1;
+// The bytes of a list without entries: its closing zero.
+pub const EMPTY: usize = 1;
 
-// The first batch of a scene: its entries, their steps, and the length of its list.
-pub struct Batch {
-    pub entries: usize,
-    pub steps: usize,
+// Where what is next goes, and the bytes of the list that the entry went into.
+pub struct Place {
+    pub at: usize,
     pub size: usize,
 }
 
-pub fn batch_of(s: &[u8], n: usize) -> Batch
-    requires { ⌜ (4 * n ≤ length (now s)) × (0 < n) × (n ≤ 64) ⌝ }
-    ensures { λ r. ⌜ FirstBatch (stepsIn n (now (s .entry))) (r .entries) (r .steps) (r .size) ⌝ }
+// The length byte of a list's request if an entry with `more` bytes of PData finds the list full.
+fn next_length(size: usize, more: usize, out: &mut [u8], at: usize) -> Place
+    requires { ⌜ (size ≤ listLimit) × (more ≤ entryLimit) × (at + length (turnLength listLimit headerSize size more) ≤ length (now out)) ⌝ }
+    ensures { λ r. ⌜ (r .at ≡ at + length (turnLength listLimit headerSize size more)) × (r .size ≡ nextSize listLimit size more)
+        × (now (out .exit) ≡ sets (now (out .entry)) at (turnLength listLimit headerSize size more)) ⌝ }
 {
-    let r = run_of(s, n);
-    let mut done = r.steps;
-    let mut size = r.size + AROUND;
-    let mut entries: usize = 1;
-    while done < n {
-        let t = run_from(s, n, done);
-        let more = size + t.size + HEAD;
-        if LIMIT < more {
-            return Batch {
-                entries: entries,
-                steps: done,
-                size: size,
-            };
-        }
-        size = more;
-        done = done + t.steps;
-        entries = entries + 1;
+    let entry = HEAD + more;
+    if size + entry <= LIMIT {
+        return Place {
+            at: at,
+            size: size + entry,
+        };
     }
-    Batch {
-        entries: entries,
-        steps: done,
-        size: size,
+    out[at] = (size + Frame::HEADER) as u8;
+    Place {
+        at: at + 1,
+        size: EMPTY + entry,
     }
 }
 
-// The batch that begins at step `done`.
-pub fn batch_from(s: &[u8], n: usize, done: usize) -> Batch
-    requires { ⌜ (4 * n ≤ length (now s)) × (done < n) × (n ≤ 64) ⌝ }
-    ensures { λ r. ⌜ FirstBatch (drop done (stepsIn n (now (s .entry)))) (r .entries) (r .steps) (r .size) ⌝ }
+// One length byte for each request.
+pub fn write_lengths(s: &[u8], n: usize, out: &mut [u8], at: usize) -> usize
+    requires { ⌜ (4 * n ≤ length (now s)) × (n ≤ 64) × AllGood (now s) n
+        × ((a h : ℕ) → at + length (compiled a h (stepsIn n (now s))) ≤ length (now out)) ⌝ }
+    ensures { λ r. ⌜ ((a h : ℕ) → (r ≡ at + length (compiled a h (stepsIn n (now (s .entry)))))
+        × (now (out .exit) ≡ sets (now (out .entry)) at (lengths (compiled a h (stepsIn n (now (s .entry))))))) ⌝ }
 {
-    let from = 4 * done;
-    batch_of(&s[from..], n - done)
-}
-
-// The number of a scene's batches.
-pub fn count_batches(s: &[u8], n: usize) -> usize
-    requires { ⌜ (4 * n ≤ length (now s)) × (n ≤ 64) ⌝ }
-    ensures { λ r. ⌜ ((h : ℕ) → r ≡ length (batchesOf entryLimit listLimit h (stepsIn n (now (s .entry))))) ⌝ }
-{
+    if n == 0 {
+        return at;
+    }
     let mut done: usize = 0;
-    let mut count: usize = 0;
+    let mut size = EMPTY;
+    let mut w = at;
     while done < n {
-        let b = batch_from(s, n, done);
-        done = done + b.steps;
-        count = count + 1;
+        let r = run_from(s, n, done);
+        let p = next_length(size, r.size, out, w);
+        size = p.size;
+        w = p.at;
+        done = done + r.steps;
     }
-    count
+    out[w] = (size + Frame::HEADER) as u8;
+    w + 1
 }

@@ -53,7 +53,7 @@ fn first_size(s: Step) -> usize
 // The length of an entry's PData of `size` bytes with step k added, or 0 where step k does not join it.
 fn joined_size(s: &[u8], k: usize, kind: u8, size: usize) -> usize
     requires { ⌜ (0 < k) × (4 * k + 4 ≤ length (now s)) × (size ≤ entryLimit) × (k ≤ 64) ⌝ }
-    ensures { λ r. ⌜ r ≡ joinedSize (stepAt (now (s .entry)) (k - 1)) (stepAt (now (s .entry)) k) kind size ⌝ }
+    ensures { λ r. ⌜ r ≡ joinedSize entryLimit (stepAt (now (s .entry)) (k - 1)) (stepAt (now (s .entry)) k) kind size ⌝ }
 {
     let p = step_at(s, k - 1);
     let x = step_at(s, k);
@@ -72,7 +72,7 @@ pub struct Run {
 
 pub fn run_of(s: &[u8], n: usize) -> Run
     requires { ⌜ (4 * n ≤ length (now s)) × (0 < n) × (n ≤ 64) ⌝ }
-    ensures { λ r. ⌜ FirstRun (stepsIn n (now (s .entry))) (r .steps) (r .size) ⌝ }
+    ensures { λ r. ⌜ FirstRun entryLimit (stepsIn n (now (s .entry))) (r .steps) (r .size) ⌝ }
 {
     let first = step_at(s, 0);
     let kind = first.kind;
@@ -98,7 +98,7 @@ pub fn run_of(s: &[u8], n: usize) -> Run
 // The entry that begins at step `done`.
 pub fn run_from(s: &[u8], n: usize, done: usize) -> Run
     requires { ⌜ (4 * n ≤ length (now s)) × (done < n) × (n ≤ 64) ⌝ }
-    ensures { λ r. ⌜ FirstRun (drop done (stepsIn n (now (s .entry)))) (r .steps) (r .size) ⌝ }
+    ensures { λ r. ⌜ FirstRun entryLimit (drop done (stepsIn n (now (s .entry)))) (r .steps) (r .size) ⌝ }
 {
     let from = 4 * done;
     run_of(&s[from..], n - done)

@@ -43,13 +43,7 @@ fn power_of_two(t: u8) -> u64
     requires { ⌜ t < 32 ⌝ }
     ensures { λ r. ⌜ (r ≡ 2 ^ t) × (r ≤ 4294967296) ⌝ }
 {
-    let mut r: u64 = 1;
-    let mut i: u8 = 0;
-    while i < t {
-        r = r + r;
-        i = i + 1;
-    }
-    r
+    1u64 << t
 }
 
 // The bitmap of n lamp steps.

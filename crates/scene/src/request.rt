@@ -1,50 +1,24 @@
 // The requests of a scene, and the output that holds them.
 use crate::entry::write_entry_at;
-use crate::fill::batch_from;
-use crate::fill::count_batches;
+use crate::fill::EMPTY;
+use crate::fill::LIMIT;
+use crate::fill::Place;
+use crate::fill::write_lengths;
 use crate::join::run_from;
+use batch::entry::HEAD;
 use dpa::frame::Frame;
 use dpa::pnum;
 use handler::os::BATCH;
 ghost use mathlib.Core.Path.{_≡_};
-ghost use Prim.Native.Nat.{ℕ, _+_, _*_, _≤_};
-ghost use lib.ListN.{length, take, drop};
+ghost use Prim.Native.Nat.{_+_, _*_, _≤_};
+ghost use lib.ListN.{length};
 ghost use lib.Seq.{sets};
 ghost use Rattle.dpa.specs.Frame.{frame, headerBytes};
 ghost use Rattle.scene.specs.Book.{stepsIn};
 ghost use Rattle.scene.specs.Group.{joined};
-ghost use Rattle.scene.specs.Compile.{listOf, entriesOf, entryLimit, compiled};
-ghost use Rattle.scene.specs.Call.{lengths, output, outputRoom};
-ghost use Rattle.scene.specs.Run.{AllGood};
-
-// The list of `entries` entries from step `done` on.
-fn write_list(
-    s: &[u8],
-    n: usize,
-    h: u16,
-    done: usize,
-    entries: usize,
-    out: &mut [u8],
-    at: usize,
-) -> usize
-    requires { ⌜ (4 * n ≤ length (now s)) × (n ≤ 64) × (done ≤ n) × AllGood (now s) n
-        × (entries ≤ length (entriesOf entryLimit (drop done (stepsIn n (now s)))))
-        × (at + length (listOf h (take entries (entriesOf entryLimit (drop done (stepsIn n (now s)))))) ≤ length (now out)) ⌝ }
-    ensures { λ r. ⌜ (r ≡ at + length (listOf h (take entries (entriesOf entryLimit (drop done (stepsIn n (now (s .entry))))))))
-        × (now (out .exit) ≡ sets (now (out .entry)) at (listOf h (take entries (entriesOf entryLimit (drop done (stepsIn n (now (s .entry)))))))) ⌝ }
-{
-    let mut i = done;
-    let mut w = at;
-    let mut j: usize = 0;
-    while j < entries {
-        let r = run_from(s, n, i);
-        w = write_entry_at(s, i, r.steps, h, r.size, out, w);
-        i = i + r.steps;
-        j = j + 1;
-    }
-    out[w] = 0;
-    w + 1
-}
+ghost use Rattle.scene.specs.Compile.{compiled, entryLimit, listLimit};
+ghost use Rattle.scene.specs.Call.{output, outputRoom};
+ghost use Rattle.scene.specs.Run.{nextSize, turnBytes, AllGood};
 
 // The header of a batch.
 fn write_header(a: u16, h: u16, out: &mut [u8], at: usize) -> usize
@@ -61,21 +35,27 @@ fn write_header(a: u16, h: u16, out: &mut [u8], at: usize) -> usize
     at + Frame::HEADER
 }
 
-// One length byte for each request.
-fn write_lengths(s: &[u8], n: usize, out: &mut [u8], at: usize) -> usize
-    requires { ⌜ (4 * n ≤ length (now s)) × (n ≤ 64) × ((a h : ℕ) → at + length (compiled a h (stepsIn n (now s))) ≤ length (now out)) ⌝ }
-    ensures { λ r. ⌜ ((a h : ℕ) → (r ≡ at + length (compiled a h (stepsIn n (now (s .entry)))))
-        × (now (out .exit) ≡ sets (now (out .entry)) at (lengths (compiled a h (stepsIn n (now (s .entry))))))) ⌝ }
+// The zero and the next header if an entry with `more` bytes of PData finds the list of `size` bytes full.
+fn next_list(a: u16, h: u16, size: usize, more: usize, out: &mut [u8], at: usize) -> Place
+    requires { ⌜ (size ≤ listLimit) × (more ≤ entryLimit)
+        × (at + length (turnBytes listLimit (headerBytes (frame a 0x02 0x05 h)) size more) ≤ length (now out)) ⌝ }
+    ensures { λ r. ⌜ (r .at ≡ at + length (turnBytes listLimit (headerBytes (frame a 0x02 0x05 h)) size more))
+        × (r .size ≡ nextSize listLimit size more)
+        × (now (out .exit) ≡ sets (now (out .entry)) at (turnBytes listLimit (headerBytes (frame a 0x02 0x05 h)) size more)) ⌝ }
 {
-    let mut done: usize = 0;
-    let mut w = at;
-    while done < n {
-        let b = batch_from(s, n, done);
-        out[w] = (b.size + Frame::HEADER) as u8;
-        w = w + 1;
-        done = done + b.steps;
+    let entry = HEAD + more;
+    if size + entry <= LIMIT {
+        return Place {
+            at: at,
+            size: size + entry,
+        };
     }
-    w
+    out[at] = 0;
+    let w = write_header(a, h, out, at + 1);
+    Place {
+        at: w,
+        size: EMPTY + entry,
+    }
 }
 
 // The requests one behind another.
@@ -85,15 +65,21 @@ fn write_requests(s: &[u8], n: usize, a: u16, h: u16, out: &mut [u8], at: usize)
     ensures { λ r. ⌜ (r ≡ at + length (joined (compiled a h (stepsIn n (now (s .entry))))))
         × (now (out .exit) ≡ sets (now (out .entry)) at (joined (compiled a h (stepsIn n (now (s .entry)))))) ⌝ }
 {
-    let mut done: usize = 0;
-    let mut w = at;
-    while done < n {
-        let b = batch_from(s, n, done);
-        let v = write_header(a, h, out, w);
-        w = write_list(s, n, h, done, b.entries, out, v);
-        done = done + b.steps;
+    if n == 0 {
+        return at;
     }
-    w
+    let mut w = write_header(a, h, out, at);
+    let mut size = EMPTY;
+    let mut done: usize = 0;
+    while done < n {
+        let r = run_from(s, n, done);
+        let p = next_list(a, h, size, r.size, out, w);
+        size = p.size;
+        w = write_entry_at(s, done, r.steps, h, r.size, out, p.at);
+        done = done + r.steps;
+    }
+    out[w] = 0;
+    w + 1
 }
 
 // The whole output of a scene; returns its length.
@@ -102,8 +88,8 @@ pub fn write_output(s: &[u8], n: usize, a: u16, h: u16, out: &mut [u8]) -> usize
     ensures { λ r. ⌜ (r ≡ length (output (compiled a h (stepsIn n (now (s .entry))))))
         × (now (out .exit) ≡ sets (now (out .entry)) 0 (output (compiled a h (stepsIn n (now (s .entry)))))) ⌝ }
 {
-    let count = count_batches(s, n);
-    out[0] = count as u8;
     let w = write_lengths(s, n, out, 1);
+    let count = w - 1;
+    out[0] = count as u8;
     write_requests(s, n, a, h, out, w)
 }

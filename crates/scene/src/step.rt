@@ -1,11 +1,15 @@
 // One step of a scene, and what is bad about it.
 use crate::fault;
+use dpa::number::wide;
+use memory::block::Memory;
+use memory::block::size_of;
 ghost use mathlib.Core.Path.{_≡_};
 ghost use mathlib.Core.Bool.{cond};
 ghost use mathlib.Core.Option.{some, none};
 ghost use Prim.Native.Nat.{_+_, _*_, _≤_};
 ghost use lib.ListN.{length};
 ghost use lib.Dec.{ltb};
+ghost use Rattle.memory.specs.Block.{sizeOf};
 ghost use Rattle.scene.specs.Book.{stepsIn};
 ghost use Rattle.scene.specs.Step.{lampFault, byteFault, stepFault, badFrom};
 ghost use Rattle.scene.specs.Run.{stepAt};
@@ -50,10 +54,10 @@ fn lamp_fault(step: Step) -> u8
     fault::NONE
 }
 
-fn byte_fault(size: u8, step: Step) -> u8
-    ensures { λ r. ⌜ r ≡ byteFault size step ⌝ }
+fn byte_fault(memory: Memory, step: Step) -> u8
+    ensures { λ r. ⌜ r ≡ byteFault (sizeOf memory) step ⌝ }
 {
-    if size <= step.target {
+    if size_of(memory) <= wide(step.target) {
         return fault::TARGET;
     }
     if step.time == 0 {
@@ -70,10 +74,10 @@ pub fn step_fault(step: Step) -> u8
         return lamp_fault(step);
     }
     if step.kind == 3 {
-        return byte_fault(48, step);
+        return byte_fault(Memory::Ram, step);
     }
     if step.kind == 4 {
-        return byte_fault(192, step);
+        return byte_fault(Memory::Eeprom, step);
     }
     fault::KIND
 }

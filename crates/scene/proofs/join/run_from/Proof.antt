@@ -1,6 +1,7 @@
 use native.Mathlib.Omega.{arith}
 use borrow.Author.Needs.{needs}
-use Rattle.scene.proofs.Filling.{run-part}
+use Rattle.scene.specs.Compile.{entryLimit}
+use Rattle.scene.proofs.Joining.{run-part}
 use Rattle.scene.proofs.join.run_from.Statement.{statement}
 use Rattle.scene.proofs.join.run_from.Tie as tie
 
@@ -25,7 +26,7 @@ run-of-requires c κs = search needs
 returns : tie.Need-returns
 returns c =
     let a = c .before .before .before .args in
-    run-part (a .n) (a .done) (a .s .now) _ _ (omega arith) (c .run-of .ensures)
+    run-part entryLimit (a .n) (a .done) (a .s .now) _ _ (omega arith) (c .run-of .ensures)
 
 pub run-from-spec : {M : Type 1} → statement M
 run-from-spec =

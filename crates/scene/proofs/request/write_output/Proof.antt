@@ -1,27 +1,39 @@
-use mathlib.Core.List.{[]}
-use mathlib.Core.Path.{_≡_, _∙_}
+use mathlib.Core.List.{List, []}
+use mathlib.Core.Path.{_∙_}
+use Prim.Native.Nat.{ℕ, suc, _+_, _≤_}
 use native.Mathlib.Omega.{arith}
 use lib.ListN.{length, length-set}
 use borrow.Author.Needs.{needs}
 use Rattle.scene.specs.Book.{stepsIn}
+use Rattle.scene.specs.Group.{joined}
 use Rattle.scene.specs.Compile.{compiled, entryLimit, listLimit}
 use Rattle.scene.proofs.Outputs.{output-length, requests-few, steps-length}
-use Rattle.scene.proofs.Requests.{short, output-written, count-is}
+use Rattle.scene.proofs.Requests.{short, output-written}
 use Rattle.scene.proofs.request.write_output.Statement.{statement}
 use Rattle.scene.proofs.request.write_output.Tie as tie
 
-count-batches-requires : tie.Need-count-batches-requires
-count-batches-requires c κs = search needs
+abbrev requests : (s : tie.Start) → ℕ → ℕ → List (List ℕ)
+requests s a h = compiled a h (stepsIn (s .args .n) (s .args .s .now))
+
+-- the output fits, for any address and profile
+room : (s : tie.Start) (a h : ℕ) → suc (length (requests s a h) + length (joined (requests s a h))) ≤ length (s .args .out .now)
+room s a h = omega (arith, s .pre .3, short (s .args .n) (s .args .s .now) (s .pre .2) (s .pre .1) a h, output-length (requests s a h))
+
+write-lengths-requires : tie.Need-write-lengths-requires
+write-lengths-requires c κs =
+    let s = c .before .before .before in
+    (s .pre .0, s .pre .1, s .pre .2, λ a h. omega (arith, room s a h))
+
+sub-count : tie.Need-sub-count
+sub-count c = omega (arith, c .before .before .write-lengths .ensures 0 0 .0)
 
 cast-out : tie.Need-cast-out
 cast-out c =
-    let s = c .before .before .before in
-    let ss = stepsIn (s .args .n) (s .args .s .now) in
-    let n = c .count-batches in
+    let s = c .before .before .before .before .before .before in
     omega (
       arith,
-      count-is 0 0 ss (n .result) (n .ensures 0),
-      requests-few entryLimit listLimit 5 [] 0 0 ss,
+      c .before .before .write-lengths .ensures 0 0 .0,
+      requests-few entryLimit listLimit 5 [] 0 0 (stepsIn (s .args .n) (s .args .s .now)),
       steps-length (s .args .n) (s .args .s .now),
       s .pre .1,
     )
@@ -29,63 +41,38 @@ cast-out c =
 slice-write-out : tie.Need-slice-write-out
 slice-write-out c = search needs
 
-write-lengths-requires : tie.Need-write-lengths-requires
-write-lengths-requires c κs =
-    let s = c .before .before .before .before in (
-      s .pre .0,
-      s .pre .1,
-      λ a h. rw length-set (omega (
-        arith,
-        s .pre .3,
-        short (s .args .n) (s .args .s .now) (s .pre .2) (s .pre .1) a h,
-        output-length (compiled a h (stepsIn (s .args .n) (s .args .s .now))),
-      )),
-    )
-
 write-requests-requires : tie.Need-write-requests-requires
 write-requests-requires c κs =
-    let s = c .before .before .before .before .before .before .before .before in
-    let p = c .before .before .before .write-lengths in
-    let w = p .ensures (s .args .a) (s .args .h) in (
+    let s = c .before .before .before .before .before .before .before in
+    let p = c .before .before .before .write-lengths in (
       s .pre .0,
       s .pre .1,
       s .pre .2,
-      omega (
-        arith,
-        s .pre .3,
-        w .0,
-        p .kept .1 .1 .0,
-        length-set (s .args .out .now) 0 (c .before .before .before .before .before .count-batches .result),
-        short (s .args .n) (s .args .s .now) (s .pre .2) (s .pre .1) (s .args .a) (s .args .h),
-        output-length (compiled (s .args .a) (s .args .h) (stepsIn (s .args .n) (s .args .s .now))),
-      ),
+      rw length-set (omega (arith, room s (s .args .a) (s .args .h), p .ensures (s .args .a) (s .args .h) .0, p .kept .1 .1 .0)),
     )
 
 same-length : tie.Need-same-length
 same-length c =
-    let s = c .before .before .before .before .before .before .before .before .before .before .before in
-    c .before .before .write-requests .kept .1 .1 .1 .1 .0 ∙ c .before .before .before .before .before .before .write-lengths .kept .1 .1 .0
-    ∙ length-set (s .args .out .now) 0 (c .before .before .before .before .before .before .before .before .count-batches .result)
+    let p = c .before .before .before .before .before .before .write-lengths in
+    c .before .before .write-requests .kept .1 .1 .1 .1 .0 ∙ length-set (p .last .1 .1 .0) 0 _ ∙ p .kept .1 .1 .0
 
 returns : tie.Need-returns
 returns c =
-    let s = c .before .before .before .before .before .before .before .before .before .before .before in
-    let n = c .before .before .before .before .before .before .before .before .count-batches in
-    let ss = stepsIn (s .args .n) (s .args .s .now) in
-    let rs = compiled (s .args .a) (s .args .h) ss in
-    let is : n .result ≡ length rs = count-is (s .args .a) (s .args .h) ss (n .result) (n .ensures (s .args .h)) in
-    let l = c .before .before .before .before .before .before .write-lengths .ensures (s .args .a) (s .args .h) in
+    let s = c .before .before .before .before .before .before .before .before .before .before in
+    let p = c .before .before .before .before .before .before .write-lengths in
+    let l = p .ensures (s .args .a) (s .args .h) in
     let q = c .before .before .write-requests .ensures in
-    output-written (s .args .out .now) _ _ rs (n .result) _ _ is (l .1) (l .0) (q .1) (q .0)
+    output-written (s .args .out .now) (p .last .1 .1 .0) _ (requests s (s .args .a) (s .args .h)) _ (p .result) _ (omega (arith, l .0))
+    (l .1) (l .0) (q .1) (q .0)
 
 pub write-output-spec : {M : Type 1} → statement M
 write-output-spec =
     tie.close
     (tie.spec
-    count-batches-requires
+    write-lengths-requires
+    sub-count
     cast-out
     slice-write-out
-    write-lengths-requires
     write-requests-requires
     same-length
     returns)

@@ -1,77 +1,162 @@
-use Prim.Native.Nat.{_-_}
+use mathlib.Core.List.{List, [], _∷_, _++_}
+use mathlib.Core.Path.{_≡_, refl, sym, ap, _∙_}
+use Prim.Native.Nat.{ℕ, _+_, _-_, _≤_}
 use native.Mathlib.Omega.{arith}
-use lib.ListN.{length-drop}
+use lib.ListN.{length, length-append, length-drop, length-set}
+use lib.Seq.{sets}
+use Rattle.dpa.specs.Frame.{frame, headerBytes}
+use Rattle.batch.specs.Batch.{entryBytes}
+use Rattle.scene.specs.declared.step.Step.{Step}
 use Rattle.scene.specs.Book.{stepsIn}
+use Rattle.scene.specs.Group.{joined}
+use Rattle.scene.specs.Compile.{runData, joinedItem, entriesOf, compiled, entryLimit, listLimit}
+use Rattle.scene.specs.Run.{bytesLeft}
 use Rattle.scene.proofs.Outputs.{steps-length}
-use Rattle.scene.proofs.Requests.{Requests, left-start, six-room, batch-room, requests-more, requests-end}
+use Rattle.scene.proofs.Runs.{limits}
+use Rattle.scene.proofs.Writing.{put-two}
+use Rattle.scene.proofs.Lists.{good-steps, steps-part, entry-ok}
+use Rattle.scene.proofs.Filling.{bytes-begin}
+use Rattle.scene.proofs.Requests.{Left, Open, open-start, open-end, left-end, turn-room, entry-room, bytes-more}
 use Rattle.scene.proofs.request.write_requests.Statement.{statement}
 use Rattle.scene.proofs.request.write_requests.Tie as tie
 
 abbrev Inv-loop : tie.InvT-loop
-Inv-loop s n a h out₀ at done₀ w₀ out done w = Requests a h (stepsIn n s) out₀ at done out w
+Inv-loop s n a h out₀ at w₀ size₀ done₀ out w size done =
+    Open entryLimit listLimit (bytesLeft listLimit (headerBytes (frame a 2 5 h)) h) (stepsIn n s) out₀ w₀ done size out w
 
 abbrev μ-loop : tie.MeasureT-loop
-μ-loop s n a h out₀ at done₀ w₀ out done w = n - done
+μ-loop s n a h out₀ at w₀ size₀ done₀ out w size done = n - done
 
-loop-holds : tie.Need-loop-holds Inv-loop μ-loop
-loop-holds c = record { within = omega arith; left = left-start _ _ _ }
+-- the header, and all behind it
+abbrev head : (c : tie.Start Inv-loop μ-loop) → List ℕ
+head s = headerBytes (frame (s .args .a) 2 5 (s .args .h))
 
-batch-from-requires : tie.Need-batch-from-requires Inv-loop μ-loop
-batch-from-requires c κs = omega arith
+abbrev steps : (c : tie.Start Inv-loop μ-loop) → List Step
+steps s = stepsIn (s .args .n) (s .args .s .now)
+
+abbrev all : (c : tie.Start Inv-loop μ-loop) → List ℕ
+all s = bytesLeft listLimit (head s) (s .args .h) 1 (entriesOf entryLimit (steps s))
+
+all-is : (c : tie.Else1 Inv-loop μ-loop) → let s = c .before .before .before in joined (compiled (s .args .a) (s .args .h) (steps s)) ≡ head s ++ all s
+all-is c =
+    let s = c .before .before .before in
+    bytes-begin limits (head s) (s .args .h) (steps s) (good-steps (s .args .n) (s .args .s .now) (s .pre .2))
+    (omega (arith, c .if1 .left, steps-length (s .args .n) (s .args .s .now)))
+
+room : (c : tie.After-slice-known2 Inv-loop μ-loop) → let s = c .before .before .before .before .before .before .before in
+    c .before .before .write-header .result + length (all s) ≤ length (c .before .before .write-header .last .1 .1 .0)
+room c =
+    let s = c .before .before .before .before .before .before .before in
+    let w = c .before .before .write-header in
+    omega (arith, s .pre .3, ap length (all-is (c .before .before .before .before)), length-append (head s) (all s), w .ensures .0, w .kept .1 .1 .0)
+
+-- no steps, no requests
+returns : tie.Need-returns Inv-loop μ-loop
+returns c = rw (c .if1 .taken) (omega arith, refl)
 
 write-header-requires : tie.Need-write-header-requires Inv-loop μ-loop
 write-header-requires c κs =
-    six-room _ _ _ _ _ _ _ _ (c .before .before .before .loop .inv) _ _ _ (c .before .batch-from .ensures)
-    (c .before .before .before .before .before .before .pre .3)
+    let s = c .before .before .before .before in
+    omega (arith, s .pre .3, ap length (all-is (c .before)), length-append (head s) (all s))
 
-write-list-requires : tie.Need-write-list-requires Inv-loop μ-loop
-write-list-requires c κs =
+loop-holds : tie.Need-loop-holds Inv-loop μ-loop
+loop-holds c = open-start limits _ _ _ _
+
+run-from-requires : tie.Need-run-from-requires Inv-loop μ-loop
+run-from-requires c κs =
+    let s = c .before .before .before .before .before .before .before .before .before in
+    (s .pre .0, c .loop-test .taken, s .pre .1)
+
+next-list-requires : tie.Need-next-list-requires Inv-loop μ-loop
+next-list-requires c κs =
+    let d = c .before .before .before in
+    let r = c .before .run-from in (
+      d .loop .inv .small,
+      r .ensures .small,
+      turn-room limits _ _ _ _ _ _ _ _ _ (r .ensures) _ _ (d .loop .inv) (room (d .before)),
+    )
+
+-- the entry's steps are within the scene
+part-of : (c : tie.After-run-from Inv-loop μ-loop)
+    → c .before .before .loop .done + c .run-from .result .steps ≤ c .before .before .before .before .before .before .before .before .before .before .args .n
+part-of c =
     let s = c .before .before .before .before .before .before .before .before .before .before in
-    let b = c .before .before .before .before .before .batch-from .ensures in
-    let x = c .before .before .before .write-header .ensures in (
-      s .pre .0,
-      s .pre .1,
-      omega (arith, c .before .before .before .before .before .before .loop-test .taken),
-      s .pre .2,
-      b .there,
-      batch-room _ _ _ _ _ _ _ _ (c .before .before .before .before .before .before .before .loop .inv) _ _ _ b _ _ (x .1) (x .0) (s .pre .3),
+    omega (
+      arith,
+      c .run-from .ensures .within,
+      length-drop (c .before .before .loop .done) (steps s),
+      steps-length (s .args .n) (s .args .s .now),
+      c .before .loop-test .taken,
+    )
+
+write-entry-at-requires : tie.Need-write-entry-at-requires Inv-loop μ-loop
+write-entry-at-requires c κs =
+    let t = c .before .before .before .next-list .ensures in
+    let d = c .before .before .before .before .before in
+    let s = d .before .before .before .before .before .before .before .before .before .before in
+    let l = d .before .before .loop in
+    let r = d .run-from .ensures in
+    let part = part-of d in (
+      omega (arith, part, s .pre .0),
+      r .some,
+      omega (arith, part, s .pre .1),
+      r .small,
+      r .fits ∙ ap (λ (t : List Step). length (runData t))
+          (steps-part (s .args .n) (l .done) (d .run-from .result .steps) (s .args .s .now) part),
+      entry-room limits _ _ _ _ _ _ _ _ _ r _ _ (l .inv) _ _ (t .2) (t .0) (room (d .before .before .before)),
+      entry-ok entryLimit (omega arith) _ _ _ _ _ (s .pre .2) part r,
     )
 
 add-done : tie.Need-add-done Inv-loop μ-loop
 add-done c =
     let d = c .before .before .before .before .before .before .before .before .before in
-    let s = d .before .before .before .before .before in
-    omega (
-      arith,
-      d .batch-from .ensures .within,
-      length-drop (d .before .before .loop .done) (stepsIn (s .args .n) (s .args .s .now)),
-      steps-length (s .args .n) (s .args .s .now),
-      s .pre .1,
-      d .before .loop-test .taken,
-    )
+    omega (arith, part-of d, d .before .before .before .before .before .before .before .before .before .before .pre .1)
 
 loop-less : tie.Need-loop-less Inv-loop μ-loop
 loop-less c =
-    omega (
-      arith,
-      c .before .before .before .before .before .before .before .before .before .batch-from .ensures .some,
-      c .before .before .before .before .before .before .before .before .before .before .loop-test .taken,
-    )
+    let d = c .before .before .before .before .before .before .before .before .before in
+    omega (arith, d .run-from .ensures .some, d .before .loop-test .taken)
 
 loop-again : tie.Need-loop-again Inv-loop μ-loop
 loop-again c =
+    let e = c .before .before .before .write-entry-at .ensures in
+    let t = c .before .before .before .before .before .before .before .next-list in
     let d = c .before .before .before .before .before .before .before .before .before in
-    let x = c .before .before .before .before .before .before .before .write-header .ensures in
-    let y = c .before .before .before .write-list .ensures in
-    requests-more _ _ _ _ _ _ _ _ (d .before .before .loop .inv) _ _ _ (d .batch-from .ensures) _ _ _ _ (x .1) (x .0) (y .1) (y .0)
+    let s = d .before .before .before .before .before .before .before .before .before .before in
+    let l = d .before .before .loop in
+    bytes-more limits _ _ _ _ _ _ _ _ _ (d .run-from .ensures) _ _ (l .inv) _ _ (t .ensures .2) (t .ensures .0) _ _ _
+    (e .1 ∙ ap (λ (x : List Step). sets (t .last .1 .1 .1 .1 .0) (t .result .at) (entryBytes (joinedItem (s .args .h) x)))
+    (sym (steps-part (s .args .n) (l .done) (d .run-from .result .steps) (s .args .s .now) (part-of d))))
+    (e .0) (t .ensures .1)
+
+-- the last zero
+last : (c : tie.After-loop Inv-loop μ-loop) → let s = c .before .before .before .before .before .before .before .before .before in
+    let w = c .before .before .before .before .write-header in
+    Left (w .last .1 .1 .0) (w .result) (all s) (c .before .loop .out) (c .before .loop .w) (0 ∷ [])
+last c =
+    let s = c .before .before .before .before .before .before .before .before .before in
+    let w = c .before .before .before .before .write-header in
+    open-end limits (bytesLeft listLimit (head s) (s .args .h)) (steps s) (w .last .1 .1 .0) (w .result) _ _ _ _ (c .before .loop .inv)
+    (omega (arith, steps-length (s .args .n) (s .args .s .now), c .loop-test .left))
+
+slice-write-out : tie.Need-slice-write-out Inv-loop μ-loop
+slice-write-out c = omega (arith, last c .place, last c .kept, room (c .before .before))
+
+add-result : tie.Need-add-result Inv-loop μ-loop
+add-result c = omega (arith, last c .place, last c .kept, room (c .before .before))
 
 same-length : tie.Need-same-length Inv-loop μ-loop
-same-length c = c .before .loop .inv .left .kept
+same-length c =
+    length-set (c .before .loop .out) (c .before .loop .w) _ ∙ c .before .loop .inv .rest .kept
+    ∙ c .before .before .before .before .write-header .kept .1 .1 .0
 
-returns : tie.Need-returns Inv-loop μ-loop
-returns c =
-    let s = c .before .before .before .before in
-    requests-end _ _ _ _ _ _ _ _ (c .before .loop .inv) (omega (arith, steps-length (s .args .n) (s .args .s .now), c .loop-test .left))
+returns-2 : tie.Need-returns-2 Inv-loop μ-loop
+returns-2 c =
+    let s = c .before .before .before .before .before .before .before .before .before in
+    let w = c .before .before .before .before .write-header in
+    let x = left-end (w .last .1 .1 .0) (w .result) (all s) _ _ _ (last c) _ _ refl refl in
+    put-two (s .args .out .now) (w .last .1 .1 .0) _ (head s) (all s) _ (s .args .at) (w .result) _ (w .ensures .1) (w .ensures .0) (x .1) (x .0)
+    (all-is (c .before .before .before .before .before .before))
 
 pub write-requests-spec : {M : Type 1} → statement M
 write-requests-spec =
@@ -79,12 +164,16 @@ write-requests-spec =
     (tie.spec
     Inv-loop
     μ-loop
-    loop-holds
-    batch-from-requires
+    returns
     write-header-requires
-    write-list-requires
+    loop-holds
+    run-from-requires
+    next-list-requires
+    write-entry-at-requires
     add-done
     loop-less
     loop-again
+    slice-write-out
+    add-result
     same-length
-    returns)
+    returns-2)
