@@ -36,7 +36,7 @@ word-of-requires-3 : tie.Need-word-of-requires-3
 word-of-requires-3 c κs = search needs
 
 returns : tie.Need-returns
-returns c = cc
+returns c = rw (c .word-of3 .ensures, c .before .before .before .word-of2 .ensures, c .before .before .before .before .before .before .word-of .ensures)
 
 pub read-image-spec : {M : Type 1} → statement M
 read-image-spec =
