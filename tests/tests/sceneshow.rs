@@ -60,7 +60,7 @@ const PRINTED: &str = "lamp level actual left\n0 10 10 0\n1 0 0 0\n2 100 100 120
 /// The longest whole book: 16 scenes of 64 steps.
 fn longest() -> Vec<u8> {
     let steps: Vec<[u8; 4]> =
-        (0..64u8).map(|i| [i % 3, i % 5, (i * 7) % 101, if i % 4 == 0 { 0x80 | i | 1 } else { 0 }]).collect();
+        (0..64u8).map(|i| [i % 3, i % 5, (i as u16 * 7 % 101) as u8, if i % 4 == 0 { 0x80 | i | 1 } else { 0 }]).collect();
     let book = book_of(&vec![steps; 16]);
     assert_eq!(book.len(), 4145);
     book

@@ -655,6 +655,7 @@ fn scene_call(g: &mut Rng, seen: &mut Seen, what: &str, lib: &mut Board, own: &m
     let mut out = vec![0; 4200 + GUARD];
     g.fill(&mut out);
     let mut want = out.clone();
+    let mut quick = out.clone();
     let mut read = book.clone();
     read.extend_from_slice(&[0x5A; 8]);
     let a = if default {
@@ -679,7 +680,6 @@ fn scene_call(g: &mut Rng, seen: &mut Seen, what: &str, lib: &mut Board, own: &m
         first_difference(&out, &want)
     );
     // The plain reference is checked too: the same bytes from the fast one.
-    let mut quick = want.clone();
     let c = fast::compile(&book, scene, address, hwpid, &mut quick[..room]);
     assert!(c == b && quick == want, "{what}: fast compile {}", inputs());
 
