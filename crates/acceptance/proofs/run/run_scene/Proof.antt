@@ -1,6 +1,9 @@
 use borrow.Author.Needs.{needs}
-use mathlib.Core.Path.{ap, sym, _∙_}
+use mathlib.Core.Path.{_≡_, ap, sym, _∙_}
 use borrow.Author.Tests.{not-true, not-false}
+use mathlib.Core.Bool.{true}
+use lib.ListN.{length}
+use Rattle.node.specs.Node.{nodeOk}
 use Rattle.handler.specs.Request.{state}
 use Rattle.scene.specs.Call.{compiledAs}
 use Rattle.acceptance.specs.declared.run.SceneAnswer.{SceneAnswer}
@@ -15,6 +18,16 @@ use Rattle.acceptance.proofs.run.take_output.Reads as take-output-reads
 use Rattle.memory.proofs.block.size_of.Reads as size-of-reads
 use Rattle.node.proofs.record.node_ok.Reads as node-ok-reads
 use Rattle.scene.proofs.compile.compile.Reads as compile-reads
+
+-- what the tests on the way have shown
+node-sound : (c : tie.Else1) → nodeOk (c .before .before .before .before .before .before .args .node) ≡ true
+node-sound c = sym (c .before .node-ok .ensures) ∙ not-false _ (c .if1 .left)
+
+eeprom-size : (c : tie.Else2) → length (c .before .before .before .before .before .before .before .before .args .eeprom .now) ≡ 192
+eeprom-size c = c .if2 .left ∙ c .before .size-of .ensures .0
+
+external-size : (c : tie.Else3) → length (c .before .before .before .before .before .before .before .before .before .before .args .external .now) ≡ 16384
+external-size c = c .if3 .left ∙ c .before .size-of2 .ensures .0
 
 node-ok-requires : tie.Need-node-ok-requires
 node-ok-requires c κs = search needs
@@ -38,7 +51,7 @@ returns-2 : tie.Need-returns-2
 returns-2 c =
     let a = c .before .before .before .before .before .before .before .before .before .args in
     ap (λ (r : SceneAnswer). ranAs r (a .eeprom .now) (a .external .now) (a .out .now)) (c .answer2 .ensures)
-    ∙ run-eeprom (a .book .now) (a .scene) (state (a .node) (a .eeprom .now) (a .external .now)) (a .out .now) (sym (c .before .before .before .before .node-ok .ensures) ∙ not-false _ (c .before .before .before .if1 .left)) (λ z. c .before .if2 .taken (z ∙ sym (c .before .before .size-of .ensures .0)))
+    ∙ run-eeprom (a .book .now) (a .scene) (state (a .node) (a .eeprom .now) (a .external .now)) (a .out .now) (node-sound (c .before .before .before)) (λ z. c .before .if2 .taken (z ∙ sym (c .before .before .size-of .ensures .0)))
 
 size-of-requires-2 : tie.Need-size-of-requires-2
 size-of-requires-2 c κs = search needs
@@ -50,7 +63,7 @@ returns-3 : tie.Need-returns-3
 returns-3 c =
     let a = c .before .before .before .before .before .before .before .before .before .before .before .args in
     ap (λ (r : SceneAnswer). ranAs r (a .eeprom .now) (a .external .now) (a .out .now)) (c .answer3 .ensures)
-    ∙ run-external (a .book .now) (a .scene) (state (a .node) (a .eeprom .now) (a .external .now)) (a .out .now) (sym (c .before .before .before .before .before .before .node-ok .ensures) ∙ not-false _ (c .before .before .before .before .before .if1 .left)) (c .before .before .before .if2 .left ∙ c .before .before .before .before .size-of .ensures .0) (λ z. c .before .if3 .taken (z ∙ sym (c .before .before .size-of2 .ensures .0)))
+    ∙ run-external (a .book .now) (a .scene) (state (a .node) (a .eeprom .now) (a .external .now)) (a .out .now) (node-sound (c .before .before .before .before .before)) (eeprom-size (c .before .before .before)) (λ z. c .before .if3 .taken (z ∙ sym (c .before .before .size-of2 .ensures .0)))
 
 compile-requires : tie.Need-compile-requires
 compile-requires c κs = search needs
@@ -63,14 +76,16 @@ same-length c = search needs
 
 returns-4 : tie.Need-returns-4
 returns-4 c =
-    let a = c .before .before .before .before .before .before .before .before .before .before .before .before .before .before .before .before .before .before .args in
-    ap (λ (r : SceneAnswer). ranAs r (a .eeprom .now) (a .external .now) (c .before .before .before .before .before .compile .last .1 .1 .1 .1 .0)) (c .answer4 .ensures)
-    ∙ run-refused (a .book .now) (a .scene) (state (a .node) (a .eeprom .now) (a .external .now)) (a .out .now) (sym (c .before .before .before .before .before .before .before .before .before .before .before .before .before .node-ok .ensures) ∙ not-false _ (c .before .before .before .before .before .before .before .before .before .before .before .before .if1 .left)) (c .before .before .before .before .before .before .before .before .before .before .if2 .left ∙ c .before .before .before .before .before .before .before .before .before .before .before .size-of .ensures .0) (c .before .before .before .before .before .before .before .before .if3 .left ∙ c .before .before .before .before .before .before .before .before .before .size-of2 .ensures .0) (compiledAs (c .before .before .before .before .before .compile .result) (c .before .before .before .before .before .compile .last .1 .1 .1 .1 .0)) (c .before .before .before .before .before .compile .ensures) (c .before .if4 .taken)
+    let k = c .before .before .before .before .before in
+    let a = k .before .before .before .before .before .before .before .before .before .before .before .before .before .args in
+    ap (λ (r : SceneAnswer). ranAs r (a .eeprom .now) (a .external .now) (k .compile .last .1 .1 .1 .1 .0)) (c .answer4 .ensures)
+    ∙ run-refused (a .book .now) (a .scene) (state (a .node) (a .eeprom .now) (a .external .now)) (a .out .now) (node-sound (k .before .before .before .before .before .before .before)) (eeprom-size (k .before .before .before .before .before)) (external-size (k .before .before .before)) (compiledAs (k .compile .result) (k .compile .last .1 .1 .1 .1 .0)) (k .compile .ensures) (c .before .if4 .taken)
 
 take-output-requires : tie.Need-take-output-requires
 take-output-requires c κs =
-    let a = c .before .before .before .before .before .before .before .before .before .before .before .before .before .before .before .before .before .before .before .before .args in
-    run-holds (a .book .now) (a .scene) (state (a .node) (a .eeprom .now) (a .external .now)) (a .out .now) (sym (c .before .before .before .before .before .before .before .before .before .before .before .before .before .before .before .node-ok .ensures) ∙ not-false _ (c .before .before .before .before .before .before .before .before .before .before .before .before .before .before .if1 .left)) (c .before .before .before .before .before .before .before .before .before .before .before .before .if2 .left ∙ c .before .before .before .before .before .before .before .before .before .before .before .before .before .size-of .ensures .0) (c .before .before .before .before .before .before .before .before .before .before .if3 .left ∙ c .before .before .before .before .before .before .before .before .before .before .before .size-of2 .ensures .0) (compiledAs (c .before .before .before .before .before .before .before .compile .result) (c .before .before .before .before .before .before .before .compile .last .1 .1 .1 .1 .0)) (c .before .before .before .before .before .before .before .compile .ensures) (c .before .before .before .if4 .left)
+    let k = c .before .before .before .before .before .before .before in
+    let a = k .before .before .before .before .before .before .before .before .before .before .before .before .before .args in
+    run-holds (a .book .now) (a .scene) (state (a .node) (a .eeprom .now) (a .external .now)) (a .out .now) (node-sound (k .before .before .before .before .before .before .before)) (eeprom-size (k .before .before .before .before .before)) (external-size (k .before .before .before)) (compiledAs (k .compile .result) (k .compile .last .1 .1 .1 .1 .0)) (k .compile .ensures) (c .before .before .before .if4 .left)
 
 answer-requires-5 : tie.Need-answer-requires-5
 answer-requires-5 c κs = search needs
@@ -86,9 +101,10 @@ same-length-4 c = search needs
 
 returns-5 : tie.Need-returns-5
 returns-5 c =
-    let a = c .before .before .before .before .before .before .before .before .before .before .before .before .before .before .before .before .before .before .before .before .before .before .before .before .before .before .args in
-    ap (λ (r : SceneAnswer). ranAs r (c .before .before .before .before .before .take-output .last .1 .1 .0) (c .before .before .before .before .before .take-output .last .1 .1 .1 .0) (c .before .before .before .before .before .before .before .before .before .before .before .before .before .compile .last .1 .1 .1 .1 .0)) (c .answer5 .ensures)
-    ∙ run-done (a .book .now) (a .scene) (state (a .node) (a .eeprom .now) (a .external .now)) (a .out .now) (sym (c .before .before .before .before .before .before .before .before .before .before .before .before .before .before .before .before .before .before .before .before .before .node-ok .ensures) ∙ not-false _ (c .before .before .before .before .before .before .before .before .before .before .before .before .before .before .before .before .before .before .before .before .if1 .left)) (c .before .before .before .before .before .before .before .before .before .before .before .before .before .before .before .before .before .before .if2 .left ∙ c .before .before .before .before .before .before .before .before .before .before .before .before .before .before .before .before .before .before .before .size-of .ensures .0) (c .before .before .before .before .before .before .before .before .before .before .before .before .before .before .before .before .if3 .left ∙ c .before .before .before .before .before .before .before .before .before .before .before .before .before .before .before .before .before .size-of2 .ensures .0) (compiledAs (c .before .before .before .before .before .before .before .before .before .before .before .before .before .compile .result) (c .before .before .before .before .before .before .before .before .before .before .before .before .before .compile .last .1 .1 .1 .1 .0)) (c .before .before .before .before .before .before .before .before .before .before .before .before .before .compile .ensures) (c .before .before .before .before .before .before .before .before .before .if4 .left) _ (c .before .before .before .before .before .take-output .ensures)
+    let k = c .before .before .before .before .before .before .before .before .before .before .before .before .before in
+    let a = k .before .before .before .before .before .before .before .before .before .before .before .before .before .args in
+    ap (λ (r : SceneAnswer). ranAs r (c .before .before .before .before .before .take-output .last .1 .1 .0) (c .before .before .before .before .before .take-output .last .1 .1 .1 .0) (k .compile .last .1 .1 .1 .1 .0)) (c .answer5 .ensures)
+    ∙ run-done (a .book .now) (a .scene) (state (a .node) (a .eeprom .now) (a .external .now)) (a .out .now) (node-sound (k .before .before .before .before .before .before .before)) (eeprom-size (k .before .before .before .before .before)) (external-size (k .before .before .before)) (compiledAs (k .compile .result) (k .compile .last .1 .1 .1 .1 .0)) (k .compile .ensures) (c .before .before .before .before .before .before .before .before .before .if4 .left) _ (c .before .before .before .before .before .take-output .ensures)
 
 pub run-scene-spec : {M : Type 1} → statement M
 run-scene-spec =
