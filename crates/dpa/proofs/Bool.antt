@@ -54,9 +54,10 @@ first-taken false k m n h e = absurd (h e)
 
 -- `allBelow`
 
-pub all-step : (i : ℕ) (f : ℕ → Bool) → allBelow i f ≡ true → f i ≡ true → allBelow (i + 1) f ≡ true
+-- one number more
+pub all-more : (i : ℕ) (f : ℕ → Bool) (a b : Bool) → a ≡ allBelow i f → b ≡ f i → (a && b) ≡ allBelow (i + 1) f
 unfolding allBelow
-all-step i f p q = rw add-one (both p q)
+all-more i f a b p q = rw (add-one, p, q)
 
 pub all-intro : (n : ℕ) (f : ℕ → Bool) → ((k : ℕ) → k < n → f k ≡ true) → allBelow n f ≡ true
 unfolding allBelow
@@ -71,6 +72,3 @@ pub all-elim : (n : ℕ) (f : ℕ → Bool) → allBelow n f ≡ true → (k : �
 unfolding allBelow
 all-elim zero f h k l = absurd (omega arith)
 all-elim (suc n) f h k l = last-or n k f (eqb k n) refl l (and-right (allBelow n f) _ h) (all-elim n f (and-left _ _ h) k)
-
-pub all-fails : (n : ℕ) (f : ℕ → Bool) (k : ℕ) → k < n → f k ≡ false → allBelow n f ≡ false
-all-fails n f k l e = is-false (allBelow n f) (λ p. let q : f k ≡ true = all-elim n f p k l in let z : _≡_ {A = ℕ} 0 1 = cc in omega arith)

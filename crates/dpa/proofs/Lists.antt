@@ -23,11 +23,15 @@ pub set-first : (xs : List ℕ) (v : ℕ) → 0 < length xs → set xs 0 v ≡ o
 set-first [] v h = absurd (omega arith)
 set-first (x ∷ xs) v h = refl
 
+-- what is kept from k on, seen from the next place
+pub kept-next : {A : Type 0} (out old : List A) (k : ℕ) → drop k out ≡ drop k old → drop (k + 1) out ≡ drop (k + 1) old
+kept-next out old k e = sym (drop-drop 1 k out) ∙ ap (drop 1) e ∙ drop-drop 1 k old
+
 -- a store in front of what is kept
-pub kept-more : (out old : List ℕ) (k r : ℕ) → drop k out ≡ drop k old → drop (k + 1) (set out k r) ≡ drop (k + 1) old
+pub kept-more : {A : Type 0} (out old : List A) (k : ℕ) (r : A) → drop k out ≡ drop k old → drop (k + 1) (set out k r) ≡ drop (k + 1) old
 kept-more out old k r e =
     let u : k < k + 1 = omega arith in
-    drop-set-lt (k + 1) out k r u ∙ sym (drop-drop 1 k out) ∙ ap (drop 1) e ∙ drop-drop 1 k old
+    drop-set-lt (k + 1) out k r u ∙ kept-next out old k e
 
 -- a buffer whose first k bytes are xs and whose later ones stayed
 pub over-done : (xs out old : List ℕ) (k : ℕ) → k ≤ length out → xs ≡ take k out → drop k out ≡ drop k old → out ≡ over xs old

@@ -10,7 +10,10 @@ use lib.Arith.{lt-one}
 use lib.Pow.{shr-lt}
 use lib.Bits.{block-half, block-odd}
 use lib.Count.{ones, ones-step}
+use lib.Dec.{ltb}
+use borrow.Author.Tests.{ltb-true, ltb-false}
 use Rattle.dpa.specs.Lists.{Bytes}
+use Rattle.dpa.proofs.Bool.{by-test}
 use Rattle.lights.specs.Bits.{bits, count, bitmap, maskOf}
 
 pub count-cons : (b : ℕ) (bs : List ℕ) → b < 2 → count (b ∷ bs) ≡ b + count bs
@@ -77,3 +80,15 @@ unfolding bits
 bits-more i m h =
     let j : 32 - i ≡ suc (32 - (i + 1)) = omega arith in
     rw j
+
+-- where a bit is left, so is its lamp
+pub bits-inside : (i m : ℕ) → m < 2 ^ (32 - i) → (m ≡ 0 → ⊥) → i < 32
+bits-inside i m h some =
+    by-test (ltb i 32) (ltb-true i 32)
+    (λ t. let j : 32 - i ≡ 0 = omega (arith, ltb-false i 32 t) in
+    absurd (some (lt-one (subst (λ (x : ℕ). m < 2 ^ x) j h))))
+
+pub bits-half : (i m : ℕ) → i < 32 → m < 2 ^ (32 - i) → m / 2 < 2 ^ (32 - (i + 1))
+bits-half i m l h =
+    let j : 32 - i ≡ suc (32 - (i + 1)) = omega arith in
+    half-lt (32 - (i + 1)) m (subst (λ (x : ℕ). m < 2 ^ x) j h)

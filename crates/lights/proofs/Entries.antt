@@ -1,15 +1,16 @@
 -- Laws of reading the entries, one for each way through the reading loop.
 use mathlib.Core.Path.{_≡_, refl, sym, ap, _∙_}
 use mathlib.Core.Bool.{Bool, true, false, cond}
-use mathlib.Core.List.{List, [], _∷_, _++_, append-assoc, append-nil}
+use mathlib.Core.List.{List, [], _∷_}
 use Prim.Native.Nat.{ℕ, zero, suc, _+_, _-_, _%_, _≤_, _<_}
 use native.Mathlib.Omega.{arith}
 use native.Mathlib.Numerals.{add-one}
-use lib.ListN.{length, getD, take, drop, set, length-drop, drop-of-length-le}
-use lib.Seq.{drop-cons, drop-drop, take-suc-set}
-use lib.Dec.{ltb}
-use borrow.Author.Tests.{lt-ltb, le-ltb}
-use Rattle.lights.specs.Lights.{powerOk, timeOk, secondsOf, change, timedEntry, firstEntry, Reading, good, bad, prepend, andThen, entries}
+use lib.ListN.{length, getD, drop, length-drop, drop-of-length-le}
+use lib.Seq.{drop-cons, drop-drop}
+use lib.Dec.{ltb, eqb}
+use borrow.Author.Tests.{lt-ltb, le-ltb, ltb-true, ltb-false, eq-eqb, ne-eqb}
+use Rattle.dpa.proofs.Bool.{by-test}
+use Rattle.lights.specs.Lights.{powerOk, timeOk, secondsOf, change, timedEntry, firstEntry, isValid, Reading, good, bad, prepend, andThen, entries, isGood}
 use Rattle.lights.specs.declared.entry.Change.{Change}
 use Rattle.lights.specs.declared.entry.Entry.{Entry}
 use Rattle.lights.specs.declared.entry.Entry.the-variants.{Valid, Invalid}
@@ -42,19 +43,65 @@ module _ (src : List ℕ) (at : ℕ) where
             → cond ok (Valid (change (byte % 128) (secondsOf time)) 2) Invalid ≡ firstEntry (drop at src)
         entry-timed g ok e = rw (drop-cons src at 0, p, le-ltb byte 128 l, ← add-one at, drop-cons src (at + 1) 0, e)
 
+-- ---- a valid entry: one law for each test that it passes
+
+module _ (src : List ℕ) (at : ℕ) (v : isValid (firstEntry (drop at src)) ≡ true) where
+  not-invalid : {R : Type 0} → Invalid ≡ firstEntry (drop at src) → R
+  not-invalid q = let z : _≡_ {A = ℕ} 0 1 = cc in absurd (omega arith)
+
+  pub valid-here : at < length src
+  valid-here = by-test (ltb at (length src)) (ltb-true _ _) (λ t. not-invalid (entry-none src at (ltb-false _ _ t)))
+
+  pub valid-power : powerOk (getD src at 0 % 128) ≡ true
+  valid-power = by-test (powerOk (getD src at 0 % 128)) (λ t. t) (λ t. not-invalid (entry-power src at valid-here t))
+
+  pub valid-plain : getD src at 0 < 128 → firstEntry (drop at src) ≡ Valid (change (getD src at 0 % 128) 0) 1
+  valid-plain l = sym (entry-plain src at valid-here valid-power l)
+
+  module _ (l : 128 ≤ getD src at 0) where
+    pub valid-next : at + 1 < length src
+    valid-next =
+        by-test (ltb (at + 1) (length src)) (ltb-true _ _) (λ t. not-invalid (entry-cut src at valid-here valid-power l (ltb-false _ _ t)))
+
+    pub valid-timed : firstEntry (drop at src) ≡ Valid (change (getD src at 0 % 128) (secondsOf (getD src (at + 1) 0))) 2
+    valid-timed =
+        let timed : (ok : Bool) → timeOk (getD src (at + 1) 0) ≡ ok
+        → cond ok (Valid (change (getD src at 0 % 128) (secondsOf (getD src (at + 1) 0))) 2) Invalid ≡ firstEntry (drop at src)
+        = entry-timed src at valid-here valid-power l valid-next in
+        by-test (timeOk (getD src (at + 1) 0)) (λ t. sym (timed true t)) (λ t. not-invalid (timed false t))
+
 -- ---- the entries of a request
 
 -- an entry of zeros, where a list has none
 abbrev pub still : Change
 still = change 0 0
 
-prepend-prepend : (es fs : List Change) (r : Reading) → prepend es (prepend fs r) ≡ prepend (es ++ fs) r
-prepend-prepend es fs (good gs) = ap good (sym (append-assoc es fs gs))
-prepend-prepend es fs bad = refl
+-- the entries that were read
+abbrev pub itemsOf : Reading → List Change
+itemsOf (good es) = es
+itemsOf bad = []
 
-pub prepend-nil : (r : Reading) → prepend [] r ≡ r
-prepend-nil (good es) = refl
-prepend-nil bad = refl
+pub good-items : (r : Reading) → isGood r ≡ true → r ≡ good (itemsOf r)
+good-items (good es) g = refl
+good-items bad g = let z : _≡_ {A = ℕ} 0 1 = cc in absurd (omega arith)
+
+pub bad-entries : (r : Reading) → isGood r ≡ false → r ≡ bad
+bad-entries (good es) g = let z : _≡_ {A = ℕ} 0 1 = cc in absurd (omega arith)
+bad-entries bad g = refl
+
+-- an entry in front
+pub good-prepend : (e : Change) (r : Reading) → isGood (prepend (e ∷ []) r) ≡ isGood r
+good-prepend e (good es) = refl
+good-prepend e bad = refl
+
+pub items-prepend : (e : Change) (r : Reading) → isGood r ≡ true → itemsOf (prepend (e ∷ []) r) ≡ e ∷ itemsOf r
+items-prepend e (good es) g = refl
+items-prepend e bad g = let z : _≡_ {A = ℕ} 0 1 = cc in absurd (omega arith)
+
+-- where all entries are valid the first one is
+pub good-first : (f : Entry) (rest : ℕ → Reading) → isGood (andThen f rest) ≡ true → isValid f ≡ true
+good-first (Valid e size) rest g = refl
+good-first Invalid rest g = g
 
 -- an entry is no longer than the bytes that it is read from
 first-size : (xs : List ℕ) (e : Change) (size : ℕ) → firstEntry xs ≡ Valid e size → size ≤ length xs
@@ -77,29 +124,29 @@ first-size (b ∷ xs) e size h = go (powerOk (b % 128)) (ltb b 128) xs h
 pub first-room : (src : List ℕ) (at : ℕ) (e : Change) (size : ℕ) → firstEntry (drop at src) ≡ Valid e size → size ≤ length src - at
 first-room src at e size h = rw length-drop at (first-size (drop at src) e size h)
 
--- one entry more
-pub entries-more : (src : List ℕ) (items : List Change) (at k n : ℕ) (e : Change) (size : ℕ)
-    → k < n → k < length items → firstEntry (drop at src) ≡ Valid e size
-    → prepend (take k items) (entries (n - k) (drop at src))
-    ≡ prepend (take (k + 1) (set items k e)) (entries (n - (k + 1)) (drop (at + size) src))
-entries-more src items at k n e size h l q =
-    let j : n - k ≡ suc (n - (k + 1)) = omega arith in
-    rw (j, q, drop-drop, add-one, take-suc-set)
-    (prepend-prepend (take k items) (e ∷ []) (entries (n - suc k) (drop (at + size) src)))
+module _ (src : List ℕ) (at k n : ℕ) where
+  -- one entry more
+  pub good-more : (e : Change) (size : ℕ) → k < n → firstEntry (drop at src) ≡ Valid e size
+      → isGood (entries (n - k) (drop at src)) ≡ isGood (entries (n - (k + 1)) (drop (at + size) src))
+  good-more e size h q =
+      let j : n - k ≡ suc (n - (k + 1)) = omega arith in
+      rw (j, q, drop-drop) (good-prepend e (entries (n - (k + 1)) (drop (at + size) src)))
 
--- an entry that is not valid
-pub entries-stop : (src : List ℕ) (es : List Change) (at k n : ℕ) → k < n → firstEntry (drop at src) ≡ Invalid → prepend es (entries (n - k) (drop at src)) ≡ bad
-entries-stop src es at k n h q =
-    let j : n - k ≡ suc (n - (k + 1)) = omega arith in
-    rw (j, q)
+  -- an entry that is not valid
+  pub good-stop : k < n → firstEntry (drop at src) ≡ Invalid → isGood (entries (n - k) (drop at src)) ≡ false
+  good-stop h q =
+      let j : n - k ≡ suc (n - (k + 1)) = omega arith in
+      rw (j, q)
 
--- all entries read, and no byte behind them
-pub entries-end : (src : List ℕ) (es : List Change) (at j : ℕ) → j ≡ 0 → length src ≤ at → prepend es (entries j (drop at src)) ≡ good es
-entries-end src es at j z h = rw (z, drop-of-length-le src h) (ap good (append-nil es))
-
--- all entries read, and bytes behind them
-pub entries-extra : (src : List ℕ) (es : List Change) (at j : ℕ) → j ≡ 0 → at < length src → prepend es (entries j (drop at src)) ≡ bad
-entries-extra src es at j z h = rw (z, drop-cons src at 0)
+  -- all entries read: no byte may follow
+  pub good-end : n ≤ k → at ≤ length src → isGood (entries (n - k) (drop at src)) ≡ eqb at (length src)
+  good-end h l =
+      let j : n - k ≡ 0 = omega arith in
+      rw j (by-test (ltb at (length src))
+      (λ t. let a : at < length src = ltb-true _ _ t in
+      rw (drop-cons src at 0 a, ne-eqb at (length src) (λ e. omega arith)))
+      (λ t. let a : length src ≤ at = ltb-false _ _ t in
+      rw (drop-of-length-le src a, eq-eqb at (length src) (omega arith))))
 
 -- ---- what has been read
 

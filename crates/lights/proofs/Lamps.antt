@@ -82,15 +82,6 @@ fits-rule count k l e =
     (λ t. lamp-facts l (rw t at e))
     (λ t. rw (zero-facts l (rw t at e)) off-rule)
 
--- what the last returns of `lamp_ok` and `lamp_fits` compute
-pub ok-last : (l : Lamp) → l .level ≤ 100 → l .seconds ≤ 7620 → l .level ≡ 0 → eqb (l .seconds) 0 ≡ lampOk l
-unfolding lampOk
-ok-last l a b e = simp (le-leb _ _ a, le-leb _ _ b, eq-eqb _ _ e)
-
-pub fits-last : (count k : ℕ) (l : Lamp) → count ≤ k → l .level ≡ 0 → eqb (l .seconds) 0 ≡ lampFits count k l
-unfolding lampFits lampZero
-fits-last count k l h e = simp (le-ltb _ _ h, eq-eqb _ _ e)
-
 -- The actual level, for settings in range
 
 -- a dimming step is at most 100

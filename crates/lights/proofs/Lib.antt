@@ -4,6 +4,7 @@ pub mod Selected
 pub mod Entries
 pub mod Turns
 pub mod Answers
+pub mod Walk
 pub mod Places
 pub mod Rule
 pub mod Requests

@@ -16,7 +16,7 @@ use Rattle.lights.specs.Lights.{Reading, good, bad, entries, lampsAfter,
 use Rattle.lights.proofs.Lamps.{fits-test, fits-rule, fits-above, zero-facts}
 use Rattle.lights.proofs.Bits.{count-length}
 use Rattle.lights.proofs.Selected.{bitmap-length, count-selected, rank-selected, selected-digit}
-use Rattle.lights.proofs.Entries.{still, entries-length}
+use Rattle.lights.proofs.Entries.{still, itemsOf, entries-length}
 use Rattle.lights.proofs.Places.{lampBy, lamp-place, lamp-idle, lamps-length, level-place}
 use Rattle.lights.proofs.Answers.{levels-length}
 use Rattle.lights.proofs.Rule.{ChangeRule, entries-rule, lamp-after-rule}
@@ -24,11 +24,6 @@ use Rattle.lights.specs.declared.apply.Command.{Command}
 use Rattle.lights.specs.declared.apply.Command.the-variants.{Set, Raise, Lower}
 use Rattle.lights.specs.declared.lamp.Lamp.{Lamp}
 use Rattle.lights.specs.declared.entry.Change.{Change}
-
--- the entries that were read
-abbrev pub itemsOf : Reading → List Change
-itemsOf (good es) = es
-itemsOf bad = []
 
 -- the entries that PData holds, and lamp k's own among them
 abbrev pub entriesOf : List ℕ → List Change

@@ -1,8 +1,8 @@
--- What is left to do at lamp i of the walks over the bitmap, one law for each way through a turn.
-use mathlib.Core.Path.{_≡_, refl}
+-- What is left to do at lamp i of the walk over the bitmap, one law for each way through a turn.
+use mathlib.Core.Path.{_≡_, refl, ap}
 use mathlib.Core.Bool.{cond}
 use mathlib.Core.List.{List, [], _∷_, _++_}
-use Prim.Native.Nat.{ℕ, suc, _+_, _-_, _/_, _%_, _≤_, _<_}
+use Prim.Native.Nat.{ℕ, zero, suc, _+_, _-_, _/_, _%_, _≤_, _<_}
 use native.Mathlib.Omega.{arith}
 use native.Mathlib.Numerals.{add-one}
 use lib.ListN.{length, getD, take, drop, set, take-append-drop}
@@ -14,7 +14,6 @@ use Rattle.lights.specs.Bits.{bits}
 use Rattle.lights.specs.Lamp.{off, actualLevel}
 use Rattle.lights.specs.Lights.{lampAfter, lampsAfter, levelsBefore}
 use Rattle.lights.proofs.Bits.{bits-more}
-use Rattle.lights.proofs.Entries.{still}
 use Rattle.lights.specs.declared.apply.Command.{Command}
 use Rattle.lights.specs.declared.lamp.Lamp.{Lamp}
 use Rattle.lights.specs.declared.entry.Change.{Change}
@@ -33,34 +32,36 @@ module _ (c : Command) (n : ℕ) where
       rw (bits-more i m h, z, drop-cons ls i off, s, add-one, take-suc ls i off, append-snoc)
 
   -- a selected lamp that is not implemented
-  pub from-idle : (i m k : ℕ) (items : List Change) (ls : List Lamp)
-      → i < 32 → length ls ≡ 32 → k < length items → m % 2 ≡ 1 → n ≤ i
-      → from i m (drop k items) ls ≡ from (i + 1) (m / 2) (drop (k + 1) items) ls
+  pub from-idle : (i m : ℕ) (e : Change) (es : List Change) (ls : List Lamp) → i < 32 → length ls ≡ 32 → m % 2 ≡ 1 → n ≤ i
+      → from i m (e ∷ es) ls ≡ from (i + 1) (m / 2) es ls
   unfolding lampsAfter
-  from-idle i m k items ls h l x z q =
+  from-idle i m e es ls h l z q =
       let w : i < length ls = omega arith in
       let s : (n - i) - 1 ≡ n - suc i = omega arith in
       let t : n - i ≤ 0 = omega arith in
-      rw (bits-more i m h, z, drop-cons items k still, drop-cons ls i off, s, le-ltb 0 (n - i) t, add-one k, add-one i, take-suc ls i off, append-snoc)
+      rw (bits-more i m h, z, drop-cons ls i off, s, le-ltb 0 (n - i) t, add-one i, take-suc ls i off, append-snoc)
 
   -- a selected lamp
-  pub from-done : (i m k : ℕ) (items : List Change) (ls : List Lamp) (r : Lamp)
-      → i < 32 → length ls ≡ 32 → k < length items → m % 2 ≡ 1 → i < n
-      → r ≡ lampAfter c (getD ls i off) (getD items k still .power) (getD items k still .seconds)
-      → from i m (drop k items) ls ≡ from (i + 1) (m / 2) (drop (k + 1) items) (set ls i r)
+  pub from-done : (i m : ℕ) (e : Change) (es : List Change) (ls : List Lamp) (r : Lamp) → i < 32 → length ls ≡ 32 → m % 2 ≡ 1 → i < n
+      → r ≡ lampAfter c (getD ls i off) (e .power) (e .seconds)
+      → from i m (e ∷ es) ls ≡ from (i + 1) (m / 2) es (set ls i r)
   unfolding lampsAfter
-  from-done i m k items ls r h l x z q e =
+  from-done i m e es ls r h l z q x =
       let w : i < length ls = omega arith in
       let s : (n - i) - 1 ≡ n - suc i = omega arith in
       let t : 0 < n - i = omega arith in
       let u : i < suc i = omega arith in
-      rw (bits-more i m h, z, drop-cons items k still, drop-cons ls i off, s, lt-ltb 0 (n - i) t, ← e, add-one k, add-one i, take-suc-set, drop-set-lt, append-snoc)
+      rw (bits-more i m h, z, drop-cons ls i off, s, lt-ltb 0 (n - i) t, ← x, add-one i, take-suc-set, drop-set-lt, append-snoc)
 
-  pub from-end : (i m : ℕ) (es : List Change) (ls : List Lamp) → 32 ≤ i → length ls ≡ 32 → from i m es ls ≡ ls
+  lamps-none : (k j : ℕ) (es : List Change) (ls : List Lamp) → lampsAfter c j (bits k 0) es ls ≡ ls
   unfolding lampsAfter bits
-  from-end i m es ls h l =
-      let j : 32 - i ≡ 0 = omega arith in
-      rw j (take-append-drop i ls)
+  lamps-none zero j es ls = refl
+  lamps-none (suc k) j es [] = refl
+  lamps-none (suc k) j es (l ∷ ls) = ap (λ (xs : List Lamp). l ∷ xs) (lamps-none k (j - 1) es ls)
+
+  -- no selected lamp is left
+  pub from-end : (i : ℕ) (es : List Change) (ls : List Lamp) → from i 0 es ls ≡ ls
+  from-end i es ls = rw (lamps-none (32 - i) (n - i) es (drop i ls)) (take-append-drop i ls)
 
 module _ (s : Settings) (n : ℕ) (ls : List Lamp) where
   -- the levels of the selected lamps from i on
@@ -86,11 +87,14 @@ module _ (s : Settings) (n : ℕ) (ls : List Lamp) where
       let t : (n - i) - 1 ≡ n - suc i = omega arith in
       rw (bits-more i m h, z, drop-cons ls i off, t, ← e, add-one k, add-one i, take-suc-set, append-snoc)
 
-  pub told-end : (i m : ℕ) → 32 ≤ i → told i m ≡ []
+  levels-none : (k j : ℕ) (xs : List Lamp) → levelsBefore s j (bits k 0) xs ≡ []
   unfolding levelsBefore bits
-  told-end i m h =
-      let j : 32 - i ≡ 0 = omega arith in
-      rw j
+  levels-none zero j xs = refl
+  levels-none (suc k) j [] = refl
+  levels-none (suc k) j (x ∷ xs) = levels-none k (j - 1) xs
+
+  pub told-end : (i : ℕ) → told i 0 ≡ []
+  told-end i = levels-none (32 - i) (n - i) (drop i ls)
 
 pub shown-lit : (n i v w : ℕ) → i < n → v ≡ w → v ≡ cond (ltb 0 (n - i)) w 0
 shown-lit n i v w h e =

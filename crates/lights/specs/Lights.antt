@@ -46,6 +46,10 @@ firstEntry (b ∷ xs) =
     (cond (ltb b 128) (Valid (change (b % 128) 0) 1) (timedEntry (b % 128) xs))
     Invalid
 
+abbrev pub isValid : Entry → Bool
+isValid (Valid e size) = true
+isValid Invalid = false
+
 -- ---- all entries, read before any lamp changes
 
 pub data Reading : Type 0 where
@@ -67,10 +71,9 @@ entries zero [] = good []
 entries zero (x ∷ xs) = bad
 entries (suc n) xs = andThen (firstEntry xs) (λ size. entries n (drop size xs))
 
--- what was read, from a verdict and the entries up to there
-abbrev pub reading : Bool → List Change → Reading
-reading true es = good es
-reading false es = bad
+abbrev pub isGood : Reading → Bool
+isGood (good es) = true
+isGood bad = false
 
 -- ---- a lamp after its entry
 
@@ -121,6 +124,10 @@ changeLamps s c xs ls =
 -- 3E hex: the count of lamps
 unfoldable pub enumerateLamps : Settings → List ℕ → List Lamp → Served (List Lamp)
 enumerateLamps s xs ls = cond (eqb (length xs) 0) (served ls 0 (s .«lamp_count» ∷ [])) (refused ls 5)
+
+-- the command of a PCMD up to 02 hex
+unfoldable pub commandOf : ℕ → Command
+commandOf pcmd = cond (eqb pcmd 0x00) Set (cond (eqb pcmd 0x01) Raise Lower)
 
 unfoldable pub lightsRequest : Settings → ℕ → List ℕ → List Lamp → Served (List Lamp)
 lightsRequest s pcmd xs ls =

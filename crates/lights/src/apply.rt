@@ -1,6 +1,6 @@
-// What entries do to lamps, and the levels that are answered. Both walk the bitmap from its lowest bit.
-use crate::entry::Change;
+// What entries do to lamps, and the levels that are answered, in one walk over the bitmap from its lowest bit.
 use crate::entry::KEEP;
+use crate::entry::change_at;
 use crate::lamp::Lamp;
 use crate::lamp::actual_level;
 use dpa::number::wide;
@@ -8,12 +8,12 @@ use dpa::settings::Settings;
 ghost use mathlib.Core.Path.{_≡_};
 ghost use mathlib.Core.Bool.{true};
 ghost use Prim.Native.Nat.{_≤_};
-ghost use lib.ListN.{length};
-ghost use Rattle.dpa.specs.Lists.{over};
+ghost use lib.ListN.{length, drop};
+ghost use Rattle.dpa.specs.Served.{laid, layOut};
 ghost use Rattle.dpa.specs.Settings.{settingsOk};
-ghost use Rattle.lights.specs.Bits.{bits};
+ghost use Rattle.lights.specs.Bits.{bits, count};
 ghost use Rattle.lights.specs.Lamp.{Dimmed};
-ghost use Rattle.lights.specs.Lights.{newLevel, lampAfter, lampsAfter, levelsBefore};
+ghost use Rattle.lights.specs.Lights.{newLevel, lampAfter, entries, isGood, answered};
 
 pub enum Command {
     Set,
@@ -51,52 +51,42 @@ pub fn lamp_after(command: Command, lamp: Lamp, power: u8, seconds: u16) -> Lamp
     next
 }
 
-// The lamps after a request's entries, of which the first n lamps are implemented.
+// The lamps after a request's entries, with their actual levels before at the front of out. The walk ends behind the
+// highest selected lamp.
 pub fn apply(
+    settings: Settings,
     command: Command,
     mask: u32,
-    n: usize,
-    items: [Change; 32],
+    pdata: &[u8],
     lamps: [Lamp; 32],
+    out: &mut [u8],
 ) -> [Lamp; 32]
-    ensures { λ r. ⌜ r ≡ lampsAfter command n (bits 32 mask) items lamps ⌝ }
+    requires { ⌜ (settingsOk settings ≡ true) × Dimmed lamps × (32 ≤ length (now out)) × (4 ≤ length (now pdata))
+        × (isGood (entries (count (bits 32 mask)) (drop 4 (now pdata))) ≡ true) ⌝ }
+    ensures { λ r. ⌜ laid r 0 (count (bits 32 mask)) (now (out .exit))
+        ≡ layOut (answered settings command (bits 32 mask) lamps (entries (count (bits 32 mask)) (drop 4 (now (pdata .entry))))) (now (out .entry)) ⌝ }
 {
+    let n = wide(settings.lamp_count);
     let mut after = lamps;
     let mut m = mask;
+    let mut at: usize = 4;
     let mut k: usize = 0;
     let mut i: usize = 0;
-    while i < 32 {
+    while m != 0 {
         if m % 2 == 1 {
+            let entry = change_at(pdata, at);
             if i < n {
-                after[i] = lamp_after(command, after[i], items[k].power, items[k].seconds);
+                let lamp = after[i];
+                out[k] = actual_level(settings, lamp.level);
+                after[i] = lamp_after(command, lamp, entry.power, entry.seconds);
+            } else {
+                out[k] = 0;
             }
+            at = at + entry.size;
             k = k + 1;
         }
         m = m / 2;
         i = i + 1;
     }
     after
-}
-
-// The actual levels of the selected lamps, at the front of out.
-pub fn write_levels(settings: Settings, mask: u32, lamps: [Lamp; 32], out: &mut [u8])
-    requires { ⌜ (settingsOk settings ≡ true) × Dimmed lamps × (32 ≤ length (now out)) ⌝ }
-    ensures { λ _. ⌜ now (out .exit) ≡ over (levelsBefore settings (settings .«lamp_count») (bits 32 mask) lamps) (now (out .entry)) ⌝ }
-{
-    let n = wide(settings.lamp_count);
-    let mut m = mask;
-    let mut k: usize = 0;
-    let mut i: usize = 0;
-    while i < 32 {
-        if m % 2 == 1 {
-            if i < n {
-                out[k] = actual_level(settings, lamps[i].level);
-            } else {
-                out[k] = 0;
-            }
-            k = k + 1;
-        }
-        m = m / 2;
-        i = i + 1;
-    }
 }

@@ -1,8 +1,10 @@
 // The entries of a request: a power byte each and, if its bit 7 is set, a time byte.
 ghost use mathlib.Core.Path.{_≡_};
+ghost use mathlib.Core.Bool.{true};
 ghost use Prim.Native.Nat.{_≤_};
-ghost use lib.ListN.{length, take, drop};
-ghost use Rattle.lights.specs.Lights.{powerOk, timeOk, secondsOf, firstEntry, entries, reading};
+ghost use lib.ListN.{length, drop};
+ghost use Rattle.lights.specs.Lights.{powerOk, timeOk, secondsOf, change, firstEntry, isValid, entries, isGood};
+ghost use Rattle.lights.specs.declared.entry.Entry.the-variants.{Valid};
 
 // The power that keeps a lamp as it is.
 pub const KEEP: u8 = 127;
@@ -19,10 +21,11 @@ pub enum Entry {
     Invalid,
 }
 
-// The entries of a whole request; ok where all are valid and no byte follows them.
-pub struct Entries {
-    pub ok: bool,
-    pub items: [Change; 32],
+// What a valid entry asks of its lamp, and how many bytes it takes.
+pub struct Taken {
+    pub power: u8,
+    pub seconds: u16,
+    pub size: usize,
 }
 
 fn power_ok(power: u8) -> bool
@@ -76,27 +79,43 @@ fn entry_at(src: &[u8], at: usize) -> Entry
     Entry::Valid(Change { power, seconds }, 2)
 }
 
-// The n entries behind the four bitmap bytes.
-pub fn read_entries(src: &[u8], n: usize) -> Entries
-    requires { ⌜ (n ≤ 32) × (4 ≤ length (now src)) ⌝ }
-    ensures { λ r. ⌜ (entries n (drop 4 (now (src .entry))) ≡ reading (r .ok) (take n (r .items))) × (length (r .items) ≡ 32) ⌝ }
+// Whether n valid entries stand behind the four bitmap bytes, and no byte behind them.
+pub fn entries_ok(src: &[u8], n: usize) -> bool
+    requires { ⌜ 4 ≤ length (now src) ⌝ }
+    ensures { λ r. ⌜ r ≡ isGood (entries n (drop 4 (now (src .entry)))) ⌝ }
 {
-    let mut items = [Change {
-        power: KEEP,
-        seconds: 0,
-    }; 32];
     let mut at: usize = 4;
     let mut k: usize = 0;
     while k < n {
         let Entry::Valid(change, size) = entry_at(src, at) else {
-            return Entries { ok: false, items };
+            return false;
         };
-        items[k] = change;
         at = at + size;
         k = k + 1;
     }
-    if at == src.len() {
-        return Entries { ok: true, items };
+    at == src.len()
+}
+
+// The entry that starts at a place, once it is known to be valid.
+pub fn change_at(src: &[u8], at: usize) -> Taken
+    requires { ⌜ isValid (firstEntry (drop at (now src))) ≡ true ⌝ }
+    ensures { λ r. ⌜ firstEntry (drop at (now (src .entry))) ≡ Valid (change (r .power) (r .seconds)) (r .size) ⌝ }
+{
+    let byte = src[at];
+    let power = byte % 128;
+    if byte < 128 {
+        return Taken {
+            power,
+            seconds: 0,
+            size: 1,
+        };
     }
-    Entries { ok: false, items }
+    let next = at + 1;
+    let time = src[next];
+    let seconds = seconds_of(time);
+    Taken {
+        power,
+        seconds,
+        size: 2,
+    }
 }

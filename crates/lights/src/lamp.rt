@@ -4,7 +4,7 @@ ghost use mathlib.Core.Path.{_≡_};
 ghost use mathlib.Core.Bool.{true};
 ghost use Prim.Native.Nat.{_≤_};
 ghost use Rattle.dpa.specs.Settings.{settingsOk};
-ghost use Rattle.lights.specs.Lamp.{lampOk, lampFits, actualLevel, tickLamp};
+ghost use Rattle.lights.specs.Lamp.{lampOk, lampZero, actualLevel, tickLamp};
 
 #[repr(C)]
 pub struct Lamp {
@@ -14,33 +14,18 @@ pub struct Lamp {
     pub seconds: u16,
 }
 
-// The rule of an implemented lamp.
-fn lamp_ok(lamp: Lamp) -> bool
+// The rule of an implemented lamp. It has no branch, so that a loop over lamps has none.
+pub fn lamp_ok(lamp: Lamp) -> bool
     ensures { λ r. ⌜ r ≡ lampOk lamp ⌝ }
 {
-    if 100 < lamp.level {
-        return false;
-    }
-    if 7620 < lamp.seconds {
-        return false;
-    }
-    if lamp.level == 0 {
-        return lamp.seconds == 0;
-    }
-    true
+    (lamp.level <= 100) & (lamp.seconds <= 7620) & ((lamp.level != 0) | (lamp.seconds == 0))
 }
 
-// The rule of the lamp at a place among a node's thirty-two.
-pub fn lamp_fits(count: usize, at: usize, lamp: Lamp) -> bool
-    ensures { λ r. ⌜ r ≡ lampFits count at lamp ⌝ }
+// The rule of a lamp that is not implemented.
+pub fn lamp_zero(lamp: Lamp) -> bool
+    ensures { λ r. ⌜ r ≡ lampZero lamp ⌝ }
 {
-    if at < count {
-        return lamp_ok(lamp);
-    }
-    if lamp.level != 0 {
-        return false;
-    }
-    lamp.seconds == 0
+    (lamp.level == 0) & (lamp.seconds == 0)
 }
 
 // The smallest multiple of the step that is not below the level.

@@ -1,11 +1,9 @@
 // The lights peripheral.
 use crate::apply::Command;
 use crate::apply::apply;
-use crate::apply::write_levels;
-use crate::entry::read_entries;
+use crate::entry::entries_ok;
 use crate::lamp::Lamp;
 use dpa::error;
-use dpa::number::wide;
 use dpa::number::wide_word;
 use dpa::number::word_of;
 use dpa::settings::Settings;
@@ -18,7 +16,7 @@ ghost use Rattle.dpa.specs.Served.{laid, layOut};
 ghost use Rattle.dpa.specs.Settings.{settingsOk};
 ghost use Rattle.lights.specs.Bits.{bits, count, maskOf};
 ghost use Rattle.lights.specs.Lamp.{Dimmed};
-ghost use Rattle.lights.specs.Lights.{changeLamps, enumerateLamps, lightsRequest};
+ghost use Rattle.lights.specs.Lights.{commandOf, changeLamps, enumerateLamps, lightsRequest};
 
 pub const SET: u8 = 0x00;
 
@@ -62,6 +60,16 @@ fn refuse(error: u8, lamps: [Lamp; 32]) -> LightsReply
     }
 }
 
+fn command_of(pcmd: u8) -> Command
+    ensures { λ r. ⌜ r ≡ commandOf pcmd ⌝ }
+{
+    match pcmd {
+        SET => Command::Set,
+        RAISE => Command::Raise,
+        _ => Command::Lower,
+    }
+}
+
 // Set, raise or lower. The number of one-bits is the number of entries and the answer's length.
 fn change_lamps(
     settings: Settings,
@@ -78,14 +86,10 @@ fn change_lamps(
     }
     let mask = mask_of(pdata);
     let length = selected(mask);
-    let read = read_entries(pdata, length);
-    if !read.ok {
+    if !entries_ok(pdata, length) {
         return refuse(error::DATA, lamps);
     }
-    write_levels(settings, mask, lamps, out);
-    let items = read.items;
-    let n = wide(settings.lamp_count);
-    let after = apply(command, mask, n, items, lamps);
+    let after = apply(settings, command, mask, pdata, lamps, out);
     LightsReply {
         error: error::NONE,
         length,
@@ -119,11 +123,11 @@ pub fn request(
     requires { ⌜ (settingsOk settings ≡ true) × Dimmed lamps × (pdataMax ≤ length (now out)) ⌝ }
     ensures { λ r. ⌜ laid (r .lamps) (r .error) (r .length) (now (out .exit)) ≡ layOut (lightsRequest settings pcmd (now (pdata .entry)) lamps) (now (out .entry)) ⌝ }
 {
-    match pcmd {
-        SET => change_lamps(settings, lamps, Command::Set, pdata, out),
-        RAISE => change_lamps(settings, lamps, Command::Raise, pdata, out),
-        LOWER => change_lamps(settings, lamps, Command::Lower, pdata, out),
-        ENUMERATE => enumerate(settings, lamps, pdata, out),
-        _ => refuse(error::PCMD, lamps),
+    if pcmd == ENUMERATE {
+        return enumerate(settings, lamps, pdata, out);
     }
+    if LOWER < pcmd {
+        return refuse(error::PCMD, lamps);
+    }
+    change_lamps(settings, lamps, command_of(pcmd), pdata, out)
 }

@@ -3,8 +3,13 @@ use dpa::number::wide;
 use dpa::settings::Settings;
 use dpa::settings::settings_ok;
 use lights::lamp::Lamp;
-use lights::lamp::lamp_fits;
+use lights::lamp::lamp_ok;
+use lights::lamp::lamp_zero;
 ghost use mathlib.Core.Path.{_≡_};
+ghost use Prim.Native.Nat.{_≤_};
+ghost use lib.ListN.{getD};
+ghost use Rattle.dpa.specs.Lists.{allBelow};
+ghost use Rattle.lights.specs.Lamp.{off, lampFits};
 ghost use Rattle.node.specs.Node.{lampsOk, nodeOk};
 
 #[repr(C)]
@@ -21,18 +26,33 @@ pub struct NodeAnswer {
     pub node: Node,
 }
 
-fn lamps_ok(count: usize, lamps: [Lamp; 32]) -> bool
-    ensures { λ r. ⌜ r ≡ lampsOk count lamps ⌝ }
+// Whether each implemented lamp keeps its rule. The loop has no way out before its end, so it goes over several lamps at once.
+fn implemented_ok(count: usize, lamps: [Lamp; 32]) -> bool
+    requires { ⌜ count ≤ 32 ⌝ }
+    ensures { λ r. ⌜ r ≡ allBelow count (λ k. lampFits count k (getD lamps k off)) ⌝ }
 {
+    let mut ok = true;
     let mut i: usize = 0;
-    while i < 32 {
+    while i < count {
         let lamp = lamps[i];
-        if !lamp_fits(count, i, lamp) {
-            return false;
-        }
+        ok = ok & lamp_ok(lamp);
         i = i + 1;
     }
-    true
+    ok
+}
+
+fn lamps_ok(count: usize, lamps: [Lamp; 32]) -> bool
+    requires { ⌜ count ≤ 32 ⌝ }
+    ensures { λ r. ⌜ r ≡ lampsOk count lamps ⌝ }
+{
+    let mut ok = implemented_ok(count, lamps);
+    let mut i = count;
+    while i < 32 {
+        let lamp = lamps[i];
+        ok = ok & lamp_zero(lamp);
+        i = i + 1;
+    }
+    ok
 }
 
 // The node rule.

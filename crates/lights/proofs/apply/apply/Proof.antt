@@ -1,103 +1,112 @@
--- `apply::apply` meets its contract: below lamp i the entries are applied, from i on they are still to come.
+-- `apply::apply` meets its contract: proofs/Walk says what a turn keeps.
 use borrow.Author.Needs.{needs}
 use native.Mathlib.Omega.{arith}
-use mathlib.Core.Path.{_≡_, sym, _∙_}
+use mathlib.Core.Path.{_≡_}
 use mathlib.Core.Logic.{⊎-elim}
-use Prim.Native.Nat.{_≤_, _<_, _-_}
-use lib.ListN.{length, drop, length-set}
-use Rattle.lights.specs.Bits.{bits}
-use Rattle.lights.specs.Lights.{lampsAfter}
-use Rattle.lights.proofs.Turns.{from, from-skip, from-idle, from-done, from-end}
+use Prim.Native.Nat.{_<_}
+use lib.ListN.{length}
+use denote.Ref.{now}
+use Rattle.lights.proofs.Walk.{Walk, walk-start, walk-end, walk-dimmed, walk-inside, walk-free, walk-skip, walk-valid, walk-room, walk-done, walk-idle}
 use Rattle.lights.proofs.apply.apply.Statement.{statement}
 use Rattle.lights.proofs.apply.apply.Tie as tie
 
 abbrev Inv-loop : tie.InvT-loop
-Inv-loop command mask n items after₀ m₀ k₀ i₀ after m k i =
-    (k ≤ i) × (i ≤ 32) × (length after ≡ 32)
-    × (lampsAfter command n (bits 32 mask) items after₀ ≡ from command n i m (drop k items) after)
+Inv-loop settings command mask pdata out₀ n after₀ m₀ at₀ k₀ i₀ out after m at k i =
+    Walk settings command mask pdata after₀ out₀ n after out m at k i
 
 abbrev μ-loop : tie.MeasureT-loop
-μ-loop command mask n items after₀ m₀ k₀ i₀ after m k i = 32 - i
+μ-loop settings command mask pdata out₀ n after₀ m₀ at₀ k₀ i₀ out after m at k i = m
 
-items-length : (c : tie.Start Inv-loop μ-loop) → length (c .args .t4) ≡ 32
-items-length c = search needs
+wide-requires : tie.Need-wide-requires Inv-loop μ-loop
+wide-requires c κs = search needs
+
+lamps-length : (c : tie.Start Inv-loop μ-loop) → length (c .args .lamps) ≡ 32
+lamps-length c = search needs
 
 loop-holds : tie.Need-loop-holds Inv-loop μ-loop
 loop-holds c =
-    let z : c .args .n - 0 ≡ c .args .n = omega arith in
-    (omega arith, omega arith, search needs, rw z)
+    let s = c .before .before .before in
+    let a = s .args in
+    walk-start (a .settings) (a .command) (a .mask) (now (a .pdata)) (a .lamps) (now (a .out)) (c .wide .result)
+    (c .wide .ensures .0) (lamps-length s) (s .pre .2) (s .pre .3) (s .fits .mask .fits) (s .pre .4)
 
-mul-lamp-after : tie.Need-mul-lamp-after Inv-loop μ-loop
-mul-lamp-after c = search needs
+change-at-requires : tie.Need-change-at-requires Inv-loop μ-loop
+change-at-requires c κs =
+    let l = c .before .before .loop in
+    walk-valid (l .inv) (c .before .loop-test .taken) (c .if1 .taken)
 
-array-copy-out-lamp-after : tie.Need-array-copy-out-lamp-after Inv-loop μ-loop
-array-copy-out-lamp-after c = search needs
+inside : (c : tie.In-loop Inv-loop μ-loop) → c .before .loop .i < 32
+inside c = walk-inside (c .before .loop .inv) (c .loop-test .taken)
 
-mul-lamp-after-2 : tie.Need-mul-lamp-after-2 Inv-loop μ-loop
-mul-lamp-after-2 c = search needs
+free : (c : tie.In-loop Inv-loop μ-loop) → c .before .loop .k < length (c .before .loop .out)
+free c = walk-free (c .before .loop .inv) (c .loop-test .taken)
 
-element-copy-out-lamp-after : tie.Need-element-copy-out-lamp-after Inv-loop μ-loop
-element-copy-out-lamp-after c = search needs
+mul-lamp : tie.Need-mul-lamp Inv-loop μ-loop
+mul-lamp c = omega (arith, inside (c .before .before .before))
 
-mul-lamp-after-3 : tie.Need-mul-lamp-after-3 Inv-loop μ-loop
-mul-lamp-after-3 c = search needs
+array-copy-out-lamp : tie.Need-array-copy-out-lamp Inv-loop μ-loop
+array-copy-out-lamp c = inside (c .before .before .before)
 
-element-copy-out-lamp-after-2 : tie.Need-element-copy-out-lamp-after-2 Inv-loop μ-loop
-element-copy-out-lamp-after-2 c = search needs
+actual-level-requires : tie.Need-actual-level-requires Inv-loop μ-loop
+actual-level-requires c κs =
+    let l = c .before .before .before .before .before .loop in
+    let s = c .before .before .before .before .before .before .before .before .before in
+    (s .pre .0, walk-dimmed (l .inv) (s .pre .1))
+
+slice-write-out : tie.Need-slice-write-out Inv-loop μ-loop
+slice-write-out c = free (c .before .before .before .before .before)
 
 lamp-after-requires : tie.Need-lamp-after-requires Inv-loop μ-loop
 lamp-after-requires c κs = search needs
 
 mul-after : tie.Need-mul-after Inv-loop μ-loop
-mul-after c = search needs
+mul-after c = omega (arith, inside (c .before .before .before .before .before .before))
 
 array-set-from-after : tie.Need-array-set-from-after Inv-loop μ-loop
-array-set-from-after c = search needs
+array-set-from-after c = inside (c .before .before .before .before .before .before)
+
+slice-write-out-2 : tie.Need-slice-write-out-2 Inv-loop μ-loop
+slice-write-out-2 c = free (c .before .before .before)
+
+add-at : tie.Need-add-at Inv-loop μ-loop
+add-at c =
+    let t = c .before .before .before .before in
+    omega (arith, walk-room (t .before .loop .inv) (t .loop-test .taken) (c .before .before .before .if1 .taken) _ _ (c .before .before .change-at .ensures))
 
 add-k : tie.Need-add-k Inv-loop μ-loop
-add-k c = search needs
+add-k c =
+    let t = c .before .before .before .before in
+    omega (arith, inside t, t .before .loop .inv .levels-max)
 
 add-i : tie.Need-add-i Inv-loop μ-loop
-add-i c = search needs
+add-i c = omega (arith, inside (c .before))
 
 loop-less : tie.Need-loop-less Inv-loop μ-loop
 loop-less c = search needs
 
 loop-again : tie.Need-loop-again Inv-loop μ-loop
 loop-again c =
+    let t = c .before .loop-test .taken in
     let l = c .before .before .loop in
-    let a = c .before .before .before .args in
-    let v = l .inv in
-    let t : l .k < length (a .t4) = omega (arith, items-length (c .before .before .before)) in
     ⊎-elim
-    (λ w. rw (w .3, w .2)
+    (λ w. rw (w .7, w .6, w .5, w .4)
     (⊎-elim
-    (λ u. rw (u .3) (
-      omega arith,
-      omega arith,
-      simp length-set (v .2),
-      v .3 ∙ from-done (a .command) (a .n) (l .i) (l .m) (l .k) (a .t4) (l .after) _ (omega arith) (v .2) t (w .0 .taken) (u .0 .taken) (u .2 .ensures),
-    ))
-    (λ u. rw (u .1) (
-      omega arith,
-      omega arith,
-      v .2,
-      v .3 ∙ from-idle (a .command) (a .n) (l .i) (l .m) (l .k) (a .t4) (l .after) (omega arith) (v .2) t (w .0 .taken) (u .0 .left),
-    ))
-    (w .1 .came)))
-    (λ w. rw (w .2, w .1) (
-      omega arith,
-      omega arith,
-      v .2,
-      v .3 ∙ from-skip (a .command) (a .n) (l .i) (l .m) _ (l .after) (omega arith) (v .2) (omega arith),
-    ))
+    (λ u. rw (u .5, u .4)
+    (walk-done (l .inv) t (w .0 .taken) _ _ (w .1 .ensures) _ _ (u .0 .taken) (u .2 .ensures) (u .3 .ensures)))
+    (λ u. rw (u .2, u .1)
+    (walk-idle (l .inv) t (w .0 .taken) _ _ (w .1 .ensures) (u .0 .left)))
+    (w .2 .came)))
+    (λ w. rw (w .4, w .3, w .2, w .1)
+    (walk-skip (l .inv) t (omega arith)))
     (c .if1 .came)
+
+same-length : tie.Need-same-length Inv-loop μ-loop
+same-length c = c .before .loop .inv .out-length
 
 returns : tie.Need-returns Inv-loop μ-loop
 returns c =
     let l = c .before .loop in
-    let a = c .before .before .args in
-    sym (l .inv .3 ∙ from-end (a .command) (a .n) (l .i) (l .m) _ (l .after) (omega arith) (l .inv .2))
+    walk-end (l .inv) (c .loop-test .left)
 
 pub apply-spec : {M : Type 1} → statement M
 apply-spec =
@@ -105,18 +114,21 @@ apply-spec =
     (tie.spec
     Inv-loop
     μ-loop
+    wide-requires
     loop-holds
-    mul-lamp-after
-    array-copy-out-lamp-after
-    mul-lamp-after-2
-    element-copy-out-lamp-after
-    mul-lamp-after-3
-    element-copy-out-lamp-after-2
+    change-at-requires
+    mul-lamp
+    array-copy-out-lamp
+    actual-level-requires
+    slice-write-out
     lamp-after-requires
     mul-after
     array-set-from-after
+    slice-write-out-2
+    add-at
     add-k
     add-i
     loop-less
     loop-again
+    same-length
     returns)

@@ -1,0 +1,50 @@
+-- `record::implemented_ok` meets its contract. The invariant: the verdict is that over the lamps before `i`.
+use borrow.Author.Needs.{needs}
+use Prim.Native.Nat.{_≤_, _-_}
+use mathlib.Core.Path.{_≡_, refl, sym, _∙_}
+use native.Mathlib.Omega.{arith}
+use lib.ListN.{getD}
+use Rattle.dpa.specs.Lists.{allBelow}
+use Rattle.dpa.proofs.Bool.{all-more}
+use Rattle.lights.specs.Lamp.{off, lampFits}
+use Rattle.lights.proofs.Lamps.{fits-below}
+use Rattle.node.proofs.record.implemented_ok.Statement.{statement}
+use Rattle.node.proofs.record.implemented_ok.Tie as tie
+
+abbrev Inv-loop : tie.InvT-loop
+Inv-loop count lamps ok₀ i₀ ok i = (i ≤ count) × (ok ≡ allBelow i (λ k. lampFits count k (getD lamps k off)))
+
+abbrev μ-loop : tie.MeasureT-loop
+μ-loop count lamps ok₀ i₀ ok i = count - i
+
+loop-holds : tie.Need-loop-holds Inv-loop μ-loop
+unfolding allBelow
+loop-holds c = (omega arith, refl)
+
+mul-lamp : tie.Need-mul-lamp Inv-loop μ-loop
+mul-lamp c = omega arith
+
+array-copy-out-lamp : tie.Need-array-copy-out-lamp Inv-loop μ-loop
+array-copy-out-lamp c = omega arith
+
+lamp-ok-requires : tie.Need-lamp-ok-requires Inv-loop μ-loop
+lamp-ok-requires c κs = search needs
+
+add-i : tie.Need-add-i Inv-loop μ-loop
+add-i c = omega arith
+
+loop-less : tie.Need-loop-less Inv-loop μ-loop
+loop-less c = omega arith
+
+loop-again : tie.Need-loop-again Inv-loop μ-loop
+loop-again c =
+    (omega arith, all-more _ _ _ _ (c .before .before .before .loop .inv .1) (c .lamp-ok .ensures ∙ sym (fits-below _ _ _ (c .before .before .loop-test .taken))))
+
+returns : tie.Need-returns Inv-loop μ-loop
+returns c =
+    let e : c .before .loop .i ≡ c .before .before .args .count = omega arith in
+    rw e at (c .before .loop .inv .1)
+
+pub implemented-ok-spec : {M : Type 1} → statement M
+implemented-ok-spec =
+    tie.close (tie.spec Inv-loop μ-loop loop-holds mul-lamp array-copy-out-lamp lamp-ok-requires add-i loop-less loop-again returns)
