@@ -73,22 +73,23 @@ take-requests-part-take-requests-end-2 t c = search needs
 
 take-requests-take-requests-requires : (t : ℕ) → take-requests-lts.Need-take-requests-requires (calls t) (take-requests-at t) take-requests.Post
 take-requests-take-requests-requires t c κs =
-    let a = c .before .before .before .before .before .before .before .before .before .before .before .before .before .before .before .before .before .before .before .args in
-    let z = c .before .before .before .before .before .before .before .before .before .before .before .before .before .before .if1 .left in (
-      simp (length-take, length-drop) (omega arith),
-      rest-covered (a .lengths .now) (a .requests .now) z (c .before .before .before .before .before .before .before .before .before .before .before .before .wide .ensures .0) (c .before .before .before .before .before .before .before .before .before .before .before .before .before .before .before .before .before .before .before .pre .1),
-    )
+    let w = c .before .before .before .before .before .before .before .before .before .before .before .before in
+    let a = w .before .before .before .before .before .before .before .args in
+    let z = w .before .before .if1 .left in
+    (simp (length-take, length-drop) (omega arith), rest-covered (a .lengths .now) (a .requests .now) z (w .wide .ensures .0) (w .before .before .before .before .before .before .before .pre .1))
 
 take-requests-same-length : (t : ℕ) → take-requests-lts.Need-same-length (calls t) (take-requests-at t) take-requests.Post
-take-requests-same-length t c = c .before .before .before .before .take-requests .kept .1 .1 .1 .0 ∙ c .before .before .before .before .before .before .before .before .before .before .before .before .before .take-request .kept .1 .1 .0
+take-requests-same-length t c = let r = c .before .before .before .before in r .take-requests .kept .1 .1 .1 .0 ∙ r .before .before .before .before .before .before .before .before .before .take-request .kept .1 .1 .0
 
 take-requests-same-length-2 : (t : ℕ) → take-requests-lts.Need-same-length-2 (calls t) (take-requests-at t) take-requests.Post
-take-requests-same-length-2 t c = c .before .before .before .before .take-requests .kept .1 .1 .1 .1 .0 ∙ c .before .before .before .before .before .before .before .before .before .before .before .before .before .take-request .kept .1 .1 .1 .0
+take-requests-same-length-2 t c = let r = c .before .before .before .before in r .take-requests .kept .1 .1 .1 .1 .0 ∙ r .before .before .before .before .before .before .before .before .before .take-request .kept .1 .1 .1 .0
 
 take-requests-returns-2 : (t : ℕ) → take-requests-lts.Need-returns-2 (calls t) (take-requests-at t) take-requests.Post
 take-requests-returns-2 t c =
-    let a = c .before .before .before .before .before .before .before .before .before .before .before .before .before .before .before .before .before .before .before .before .before .before .before .before .args in
-    one-taken (a .lengths .now) (a .requests .now) (state (a .node) (a .eeprom .now) (a .external .now)) (c .before .before .before .before .before .before .before .before .before .before .before .before .before .before .before .before .before .before .before .if1 .left) (c .before .before .before .before .before .before .before .before .before .before .before .before .before .before .before .before .before .wide .ensures .0) (c .before .before .before .before .before .before .before .before .before .before .before .before .before .take-request .ensures) (c .before .before .before .before .take-requests .ensures)
+    let r = c .before .before .before .before in
+    let w = r .before .before .before .before .before .before .before .before .before .before .before .before .before in
+    let a = w .before .before .before .before .before .before .before .args in
+    one-taken (a .lengths .now) (a .requests .now) (state (a .node) (a .eeprom .now) (a .external .now)) (w .before .before .if1 .left) (w .wide .ensures .0) (r .before .before .before .before .before .before .before .before .before .take-request .ensures) (r .take-requests .ensures)
 
 pub +take-requests-spec : {M : Type 1} → statement M
 +take-requests-spec = close μ-take-requests λ t. take-requests-lts.spec (calls t)
