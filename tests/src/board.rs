@@ -1,28 +1,56 @@
-//! A node with its memories and its response buffer, and books of steps.
-use crate::ffi::{self, Node, Settings};
+//! A node with its memories and its response buffer on one side, and books
+//! of steps.
+use crate::ffi::{Node, RequestAnswer, Settings};
+use crate::reference::{EEPROM_SIZE, EXTERNAL_SIZE};
+use crate::sides::Side;
 
 #[derive(Clone)]
 pub struct Board {
+    pub side: Side,
     pub node: Node,
     pub eeprom: Vec<u8>,
     pub external: Vec<u8>,
     pub response: Vec<u8>,
 }
 
+/// How much of each buffer a call is lent.
+#[derive(Clone, Copy, Debug)]
+pub struct Lengths {
+    pub eeprom: usize,
+    pub external: usize,
+    pub response: usize,
+}
+
+impl Lengths {
+    pub const USUAL: Lengths = Lengths { eeprom: EEPROM_SIZE, external: EXTERNAL_SIZE, response: 64 };
+}
+
 impl Board {
     /// A started node 1 of the profile 0x2471, its memories zeros.
-    pub fn started(lamp_count: u8, step: u8) -> Board {
+    pub fn started(side: Side, lamp_count: u8, step: u8) -> Board {
         let settings = Settings { address: 1, hwpid: 0x2471, dpa_value: 7, lamp_count, step };
-        let a = ffi::start(settings);
+        let a = (side.start)(settings);
         assert_eq!(a.refusal, 0);
         assert_eq!(a.node, Node { settings, ..Node::ZERO });
-        Board { node: a.node, eeprom: vec![0; 192], external: vec![0; 16_384], response: vec![0xEE; 64] }
+        let (eeprom, external) = (vec![0; EEPROM_SIZE], vec![0; EXTERNAL_SIZE]);
+        Board { side, node: a.node, eeprom, external, response: vec![0xEE; 64] }
+    }
+
+    /// The call itself; the board's own node stays as it is.
+    pub fn request(&mut self, node: Node, frame: &[u8], lent: Lengths) -> RequestAnswer {
+        (self.side.handle_request)(
+            node,
+            frame,
+            &mut self.eeprom[..lent.eeprom],
+            &mut self.external[..lent.external],
+            &mut self.response[..lent.response],
+        )
     }
 
     /// The whole answer: its bytes, and the load mark.
     pub fn frame(&mut self, frame: &[u8]) -> (Vec<u8>, bool) {
         self.response.fill(0xEE);
-        let a = ffi::handle_request(self.node, frame, &mut self.eeprom, &mut self.external, &mut self.response);
+        let a = self.request(self.node, frame, Lengths::USUAL);
         assert_eq!(a.refusal, 0);
         assert!(self.response[a.length..].iter().all(|&b| b == 0xEE), "later bytes stay");
         self.node = a.node;

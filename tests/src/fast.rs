@@ -67,36 +67,21 @@ pub fn handle_request(
     if !broadcast && nadr != node.settings.address {
         return RequestAnswer { refusal: 0, length: 0, load: false, node };
     }
-    let mut memories =
-        Memories { eeprom: eeprom.try_into().unwrap(), external: external.try_into().unwrap() };
+    let mut memories = Memories { eeprom: eeprom.try_into().unwrap(), external: external.try_into().unwrap() };
     let mut scratch = [0u8; 56];
-    let data: &mut [u8; 56] = if broadcast {
-        &mut scratch
-    } else {
-        (&mut response[8..64]).try_into().unwrap()
-    };
+    let data: &mut [u8; 56] = if broadcast { &mut scratch } else { (&mut response[8..64]).try_into().unwrap() };
     let mut load = false;
-    let (error, length) =
-        match one(&mut node, &mut memories, &frame[2..6], &frame[6..], Some(data), &mut load) {
-            Ok(length) => (0, length),
-            Err(error) => (error, 0),
-        };
+    let (error, length) = match one(&mut node, &mut memories, &frame[2..6], &frame[6..], Some(data), &mut load) {
+        Ok(length) => (0, length),
+        Err(error) => (error, 0),
+    };
     if broadcast {
         return RequestAnswer { refusal: 0, length: 0, load, node };
     }
     let s = &node.settings;
     let a = s.address.to_le_bytes();
     let h = s.hwpid.to_le_bytes();
-    response[..8].copy_from_slice(&[
-        a[0],
-        a[1],
-        frame[2],
-        frame[3] | 0x80,
-        h[0],
-        h[1],
-        error,
-        s.dpa_value,
-    ]);
+    response[..8].copy_from_slice(&[a[0], a[1], frame[2], frame[3] | 0x80, h[0], h[1], error, s.dpa_value]);
     RequestAnswer { refusal: 0, length: 8 + length, load, node }
 }
 
@@ -154,13 +139,7 @@ fn at(width: usize, p: &[u8]) -> usize {
 }
 
 #[inline]
-fn read(
-    bytes: &[u8],
-    width: usize,
-    longest: usize,
-    p: &[u8],
-    data: Option<&mut [u8; 56]>,
-) -> Result<usize, u8> {
+fn read(bytes: &[u8], width: usize, longest: usize, p: &[u8], data: Option<&mut [u8; 56]>) -> Result<usize, u8> {
     if p.len() != width + 1 || p[width] as usize > longest {
         return Err(5);
     }

@@ -199,15 +199,7 @@ pub fn handle_request(
 
 pub fn view_status(eeprom: &[u8], external: &[u8], pnum: u8, start: usize, length: usize) -> u8 {
     unsafe {
-        raw::grelfint_view_status(
-            eeprom.as_ptr(),
-            eeprom.len(),
-            external.as_ptr(),
-            external.len(),
-            pnum,
-            start,
-            length,
-        )
+        raw::grelfint_view_status(eeprom.as_ptr(), eeprom.len(), external.as_ptr(), external.len(), pnum, start, length)
     }
 }
 
@@ -215,14 +207,7 @@ pub fn frc(node: Node, command: u8, user_data: &[u8], stuck: u32, alarm: u32) ->
     unsafe { raw::grelfint_frc(node, command, user_data.as_ptr(), user_data.len(), stuck, alarm) }
 }
 
-pub fn confirm(
-    frame: &[u8],
-    dpa_value: u8,
-    hops: u8,
-    response_hops: u8,
-    lp: bool,
-    out: &mut [u8],
-) -> LengthAnswer {
+pub fn confirm(frame: &[u8], dpa_value: u8, hops: u8, response_hops: u8, lp: bool, out: &mut [u8]) -> LengthAnswer {
     unsafe {
         raw::grelfint_confirm(
             frame.as_ptr(),
@@ -250,42 +235,13 @@ pub fn earliest_send(
     lp: bool,
     broadcast: bool,
 ) -> SendAnswer {
-    unsafe {
-        raw::grelfint_earliest_send(
-            hops,
-            request_length,
-            delay,
-            response_hops,
-            response_length,
-            lp,
-            broadcast,
-        )
-    }
+    unsafe { raw::grelfint_earliest_send(hops, request_length, delay, response_hops, response_length, lp, broadcast) }
 }
 
 pub fn compile(book: &[u8], scene: usize, address: u16, hwpid: u16, out: &mut [u8]) -> CompileAnswer {
-    unsafe {
-        raw::grelfint_compile(
-            book.as_ptr(),
-            book.len(),
-            scene,
-            address,
-            hwpid,
-            out.as_mut_ptr(),
-            out.len(),
-        )
-    }
+    unsafe { raw::grelfint_compile(book.as_ptr(), book.len(), scene, address, hwpid, out.as_mut_ptr(), out.len()) }
 }
 
 pub fn compile_default(book: &[u8], scene: usize, address: u16, out: &mut [u8]) -> CompileAnswer {
-    unsafe {
-        raw::grelfint_compile_default(
-            book.as_ptr(),
-            book.len(),
-            scene,
-            address,
-            out.as_mut_ptr(),
-            out.len(),
-        )
-    }
+    unsafe { raw::grelfint_compile_default(book.as_ptr(), book.len(), scene, address, out.as_mut_ptr(), out.len()) }
 }

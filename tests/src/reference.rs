@@ -1,8 +1,7 @@
 //! Document 01, "Exact rules and what to build", written again in the
 //! plainest way: no cleverness, no speed. Each part names its section.
 use super::ffi::{
-    CompileAnswer, FrcAnswer, Lamp, LengthAnswer, Node, NodeAnswer, RequestAnswer, SendAnswer,
-    Settings, SlotAnswer,
+    CompileAnswer, FrcAnswer, Lamp, LengthAnswer, Node, NodeAnswer, RequestAnswer, SendAnswer, Settings, SlotAnswer,
 };
 
 // ---- Frames: ErrN ----
@@ -22,13 +21,17 @@ fn word(low: u8, high: u8) -> u16 {
     low as u16 + 256 * high as u16
 }
 
+fn low(word: u16) -> u8 {
+    (word % 256) as u8
+}
+
+fn high(word: u16) -> u8 {
+    (word / 256) as u8
+}
+
 // ---- Node and lamps ----
 pub fn settings_in_range(s: &Settings) -> bool {
-    s.address >= 1
-        && s.address <= 239
-        && s.lamp_count >= 1
-        && s.lamp_count <= 32
-        && STEPS.contains(&s.step)
+    s.address >= 1 && s.address <= 239 && s.lamp_count >= 1 && s.lamp_count <= 32 && STEPS.contains(&s.step)
 }
 
 pub fn node_rule(node: &Node) -> bool {
@@ -88,15 +91,23 @@ pub fn tick_in_place(node: &mut Node) -> u8 {
 }
 
 // ---- Taking a request ----
-/// What a request works on.
-pub struct State<'a> {
+/// The node record and both memories that the node gets.
+pub struct Parts<'a> {
     pub node: Node,
     pub eeprom: &'a mut [u8],
     pub external: &'a mut [u8],
 }
 
-/// Data of the answer and the load mark.
-type Outcome = Result<(Vec<u8>, bool), u8>;
+/// A request without its address, or an entry of a batch.
+pub struct Request<'a> {
+    pub pnum: u8,
+    pub pcmd: u8,
+    pub hwpid: u16,
+    pub pdata: &'a [u8],
+}
+
+/// Data of the answer and the load mark, or ErrN.
+type DataOrError = Result<(Vec<u8>, bool), u8>;
 
 pub fn handle_request(
     node: Node,
@@ -105,98 +116,91 @@ pub fn handle_request(
     external: &mut [u8],
     response: &mut [u8],
 ) -> RequestAnswer {
-    let refused = |refusal| RequestAnswer { refusal, length: 0, load: false, node };
+    let nothing_done = |refusal| RequestAnswer { refusal, length: 0, load: false, node };
     if !node_rule(&node) {
-        return refused(1);
+        return nothing_done(1);
     }
     if frame.len() < 6 || frame.len() > 62 {
-        return refused(2);
+        return nothing_done(2);
     }
     if response.len() < 64 {
-        return refused(3);
+        return nothing_done(3);
     }
     if eeprom.len() != EEPROM_SIZE || external.len() != EXTERNAL_SIZE {
-        return refused(4);
+        return nothing_done(4);
     }
     let nadr = word(frame[0], frame[1]);
     if nadr != node.settings.address && nadr != 0x00FF {
-        return refused(0); // not mine
+        return nothing_done(0); // not mine
     }
-    let mut state = State { node, eeprom, external };
-    let outcome = carry_out(
-        &mut state,
-        frame[2],
-        frame[3],
-        word(frame[4], frame[5]),
-        &frame[6..],
-        false,
-        &mut Vec::new(),
-    );
-    let (error, data, load) = match outcome {
+    let (pnum, pcmd) = (frame[2], frame[3]);
+    let request = Request { pnum, pcmd, hwpid: word(frame[4], frame[5]), pdata: &frame[6..] };
+    let mut parts = Parts { node, eeprom, external };
+    let (error, data, load) = match do_request(&mut parts, &request) {
         Ok((data, load)) => (0, data, load),
         Err(error) => (error, Vec::new(), false),
     };
     let mut length = 0;
     if nadr != 0x00FF {
-        let s = &state.node.settings;
-        let mut bytes = vec![
-            (s.address % 256) as u8,
-            (s.address / 256) as u8,
-            frame[2],
-            frame[3] | 0x80,
-            (s.hwpid % 256) as u8,
-            (s.hwpid / 256) as u8,
-            error,
-            s.dpa_value,
-        ];
-        bytes.extend_from_slice(&data);
+        let bytes = response_bytes(&node.settings, pnum, pcmd, error, &data);
         length = bytes.len();
         response[..length].copy_from_slice(&bytes);
     }
-    RequestAnswer { refusal: 0, length, load, node: state.node }
+    RequestAnswer { refusal: 0, length, load, node: parts.node }
 }
 
-/// A request or a batch entry. `entry_errors` gets the ErrN of each entry of
-/// a batch, which no answer shows.
-pub fn carry_out(
-    state: &mut State,
-    pnum: u8,
-    pcmd: u8,
-    hwpid: u16,
-    pdata: &[u8],
-    in_batch: bool,
-    entry_errors: &mut Vec<u8>,
-) -> Outcome {
-    if hwpid != state.node.settings.hwpid && hwpid != 0xFFFF {
+fn response_bytes(s: &Settings, pnum: u8, pcmd: u8, error: u8, data: &[u8]) -> Vec<u8> {
+    let mut bytes = vec![low(s.address), high(s.address), pnum, pcmd | 0x80];
+    bytes.extend_from_slice(&[low(s.hwpid), high(s.hwpid), error, s.dpa_value]);
+    bytes.extend_from_slice(data);
+    bytes
+}
+
+fn wrong_hwpid(node: &Node, request: &Request) -> bool {
+    request.hwpid != node.settings.hwpid && request.hwpid != 0xFFFF
+}
+
+fn do_request(parts: &mut Parts, request: &Request) -> DataOrError {
+    if wrong_hwpid(&parts.node, request) {
         return Err(HWPID);
     }
-    if in_batch && pnum == 0x02 {
+    match (request.pnum, request.pcmd) {
+        (0x02, 0x05) => do_batch(parts, request.pdata).map(|_| (Vec::new(), false)),
+        (0x02, 0x0A) => code_check(parts, request.pdata),
+        (0x02, _) => Err(PCMD),
+        _ => do_peripheral(parts, request),
+    }
+}
+
+/// An entry of a batch.
+fn do_entry(parts: &mut Parts, entry: &Request) -> DataOrError {
+    if wrong_hwpid(&parts.node, entry) {
+        return Err(HWPID);
+    }
+    if entry.pnum == 0x02 {
         return Err(PNUM); // the papers decide only that it is an error
     }
+    do_peripheral(parts, entry)
+}
+
+/// Memories and lights, which a request and an entry of a batch may name.
+fn do_peripheral(parts: &mut Parts, request: &Request) -> DataOrError {
+    let Request { pnum, pcmd, pdata, .. } = *request;
     match pnum {
-        0x02 => match pcmd {
-            0x05 => batch(state, pdata, entry_errors),
-            0x0A => code_check(state, pdata),
-            _ => Err(PCMD),
-        },
         0x03 | 0x05 => match pcmd {
-            0x00 => memory_read(state, pnum, 1, pdata),
-            0x01 => memory_write(state, pnum, 1, pdata),
+            0x00 => memory_read(parts, pnum, 1, pdata),
+            0x01 => memory_write(parts, pnum, 1, pdata),
             _ => Err(PCMD),
         },
         0x04 => match pcmd {
-            0x02 => memory_read(state, pnum, 2, pdata),
-            0x03 => memory_write(state, pnum, 2, pdata),
+            0x02 => memory_read(parts, pnum, 2, pdata),
+            0x03 => memory_write(parts, pnum, 2, pdata),
             _ => Err(PCMD),
         },
         0x71 => match pcmd {
-            0x00..=0x02 => lights(state, pcmd, pdata),
-            0x3E => {
-                if !pdata.is_empty() {
-                    return Err(DATA_LEN);
-                }
-                Ok((vec![state.node.settings.lamp_count], false))
-            }
+            0x00..=0x02 => lights(parts, pcmd, pdata),
+            0x3E if pdata.is_empty() => Ok((vec![parts.node.settings.lamp_count], false)),
+            0x3E => Err(DATA_LEN),
             _ => Err(PCMD),
         },
         _ => Err(PNUM),
@@ -204,11 +208,11 @@ pub fn carry_out(
 }
 
 // ---- Memories ----
-fn memory<'a>(state: &'a mut State, pnum: u8) -> &'a mut [u8] {
+fn memory<'a>(parts: &'a mut Parts, pnum: u8) -> &'a mut [u8] {
     match pnum {
-        0x03 => &mut state.eeprom[..],
-        0x04 => &mut state.external[..],
-        _ => &mut state.node.ram[..],
+        0x03 => &mut parts.eeprom[..],
+        0x04 => &mut parts.external[..],
+        _ => &mut parts.node.ram[..],
     }
 }
 
@@ -228,7 +232,7 @@ fn start_address(width: usize, pdata: &[u8]) -> usize {
     }
 }
 
-fn memory_read(state: &mut State, pnum: u8, width: usize, pdata: &[u8]) -> Outcome {
+fn memory_read(parts: &mut Parts, pnum: u8, width: usize, pdata: &[u8]) -> DataOrError {
     if pdata.len() != width + 1 {
         return Err(DATA_LEN);
     }
@@ -237,14 +241,14 @@ fn memory_read(state: &mut State, pnum: u8, width: usize, pdata: &[u8]) -> Outco
     if length > longest_block(pnum) {
         return Err(DATA_LEN);
     }
-    let bytes = memory(state, pnum);
+    let bytes = memory(parts, pnum);
     if start >= bytes.len() || start + length > bytes.len() {
         return Err(ADDR);
     }
     Ok((bytes[start..start + length].to_vec(), false))
 }
 
-fn memory_write(state: &mut State, pnum: u8, width: usize, pdata: &[u8]) -> Outcome {
+fn memory_write(parts: &mut Parts, pnum: u8, width: usize, pdata: &[u8]) -> DataOrError {
     if pdata.len() < width + 1 {
         return Err(DATA_LEN);
     }
@@ -253,7 +257,7 @@ fn memory_write(state: &mut State, pnum: u8, width: usize, pdata: &[u8]) -> Outc
     if data.len() > longest_block(pnum) {
         return Err(DATA_LEN);
     }
-    let bytes = memory(state, pnum);
+    let bytes = memory(parts, pnum);
     if start >= bytes.len() || start + data.len() > bytes.len() {
         return Err(ADDR);
     }
@@ -279,8 +283,8 @@ pub fn view_status(eeprom: &[u8], external: &[u8], pnum: u8, start: usize, lengt
 }
 
 // ---- Lights ----
-/// Seconds of a valid time byte.
-pub fn seconds_of(time: u8) -> Option<u16> {
+/// Seconds of a time byte; none for one that is an error.
+fn seconds_of(time: u8) -> Option<u16> {
     match time {
         0x00 | 0x80 => None,
         0x01..=0x7F => Some(60 * time as u16),
@@ -326,43 +330,40 @@ fn read_lamp_entries(pdata: &[u8]) -> Option<Vec<Entry>> {
     Some(entries)
 }
 
-fn lights(state: &mut State, pcmd: u8, pdata: &[u8]) -> Outcome {
-    let entries = match read_lamp_entries(pdata) {
-        Some(entries) => entries,
-        None => return Err(DATA),
-    };
-    let settings = state.node.settings;
+fn lights(parts: &mut Parts, pcmd: u8, pdata: &[u8]) -> DataOrError {
+    let Some(entries) = read_lamp_entries(pdata) else { return Err(DATA) };
+    let settings = parts.node.settings;
     let mut previous = Vec::new();
     for entry in entries {
         if entry.lamp >= settings.lamp_count as usize {
             previous.push(0);
             continue;
         }
-        let lamp = state.node.lamps[entry.lamp];
+        let lamp = parts.node.lamps[entry.lamp];
         previous.push(actual_level(lamp.level, settings.step));
         if entry.power == 127 {
             continue;
         }
         let level = new_level(pcmd, lamp.level, entry.power);
         let seconds = if level == 0 { 0 } else { entry.seconds.unwrap_or(0) };
-        state.node.lamps[entry.lamp] = Lamp { level, seconds };
+        parts.node.lamps[entry.lamp] = Lamp { level, seconds };
     }
     Ok((previous, false))
 }
 
-/// 0 set, 1 raise, 2 lower.
-fn new_level(kind: u8, level: u8, value: u8) -> u8 {
-    let sum = match kind {
-        0 => value as i32,
-        1 => level as i32 + value as i32,
-        _ => level as i32 - value as i32,
+/// 0 set, 1 raise, 2 lower, trimmed to 0 to 100.
+fn new_level(pcmd: u8, level: u8, power: u8) -> u8 {
+    let sum = match pcmd {
+        0 => power as i32,
+        1 => level as i32 + power as i32,
+        _ => level as i32 - power as i32,
     };
     sum.clamp(0, 100) as u8
 }
 
 // ---- OS ----
-/// PNUM, PCMD, HWPID and PData of each entry; none if the list is malformed.
-pub fn read_batch(list: &[u8]) -> Option<Vec<(u8, u8, u16, &[u8])>> {
+/// The entries of a list; none if it is malformed.
+fn read_batch(list: &[u8]) -> Option<Vec<Request<'_>>> {
     let mut entries = Vec::new();
     let mut at = 0;
     loop {
@@ -375,27 +376,25 @@ pub fn read_batch(list: &[u8]) -> Option<Vec<(u8, u8, u16, &[u8])>> {
             return None;
         }
         let e = &list[at..at + length];
-        entries.push((e[1], e[2], word(e[3], e[4]), &e[5..]));
+        entries.push(Request { pnum: e[1], pcmd: e[2], hwpid: word(e[3], e[4]), pdata: &e[5..] });
         at += length;
     }
 }
 
-fn batch(state: &mut State, pdata: &[u8], entry_errors: &mut Vec<u8>) -> Outcome {
+/// The ErrN of each entry, which no answer shows, or that of the batch.
+pub fn do_batch(parts: &mut Parts, pdata: &[u8]) -> Result<Vec<u8>, u8> {
     if pdata.is_empty() {
         return Err(DATA_LEN);
     }
-    let entries = match read_batch(pdata) {
-        Some(entries) => entries,
-        None => return Err(DATA),
-    };
-    for (pnum, pcmd, hwpid, data) in entries {
-        let error = match carry_out(state, pnum, pcmd, hwpid, data, true, &mut Vec::new()) {
+    let Some(entries) = read_batch(pdata) else { return Err(DATA) };
+    let mut errors = Vec::new();
+    for entry in entries {
+        errors.push(match do_entry(parts, &entry) {
             Ok(_) => 0,
             Err(error) => error,
-        };
-        entry_errors.push(error);
+        });
     }
-    Ok((Vec::new(), false))
+    Ok(errors)
 }
 
 fn byte_sum(a: u8, b: u8) -> u8 {
@@ -417,7 +416,7 @@ pub fn checksum(first: u8, bytes: &[u8]) -> u16 {
     word(low, high)
 }
 
-fn code_check(state: &mut State, pdata: &[u8]) -> Outcome {
+fn code_check(parts: &mut Parts, pdata: &[u8]) -> DataOrError {
     if pdata.len() != 7 {
         return Err(DATA_LEN);
     }
@@ -435,7 +434,7 @@ fn code_check(state: &mut State, pdata: &[u8]) -> Outcome {
     if address + length > EXTERNAL_SIZE {
         return Err(ADDR);
     }
-    let matches = checksum(first, &state.external[address..address + length]) == sum;
+    let matches = checksum(first, &parts.external[address..address + length]) == sum;
     Ok((vec![matches as u8], matches && flags & 1 != 0))
 }
 
@@ -487,14 +486,7 @@ pub fn timeslot(pdata_length: usize, lp: bool) -> SlotAnswer {
     SlotAnswer { refusal: 0, slot: slot(pdata_length, lp) }
 }
 
-pub fn confirm(
-    frame: &[u8],
-    dpa_value: u8,
-    hops: u8,
-    response_hops: u8,
-    lp: bool,
-    out: &mut [u8],
-) -> LengthAnswer {
+pub fn confirm(frame: &[u8], dpa_value: u8, hops: u8, response_hops: u8, lp: bool, out: &mut [u8]) -> LengthAnswer {
     if frame.len() < 6 || frame.len() > 62 {
         return LengthAnswer { refusal: 2, length: 0 };
     }
@@ -558,32 +550,45 @@ pub fn read_book(book: &[u8]) -> Option<Vec<Vec<Step>>> {
 pub fn step_is_good(step: Step) -> bool {
     let [kind, target, value, time] = step;
     match kind {
-        0..=2 => target < 32 && value <= 100 && (time == 0 || seconds_of(time).is_some()),
+        0..=2 => target < 32 && value <= 100 && time != 0x80,
         3 => target < 48 && time == 0,
         4 => (target as usize) < EEPROM_SIZE && time == 0,
         _ => false,
     }
 }
 
-/// One step done singly.
-pub fn do_step(state: &mut State, step: Step) {
+/// The step machine, with arithmetic of its own.
+pub fn do_step(parts: &mut Parts, step: Step) {
     if !step_is_good(step) {
         return;
     }
     let [kind, target, value, time] = step;
-    let target = target as usize;
     match kind {
-        0..=2 => {
-            if target >= state.node.settings.lamp_count as usize {
-                return;
+        3 => parts.node.ram[target as usize] = value,
+        4 => parts.eeprom[target as usize] = value,
+        _ => {
+            if target < parts.node.settings.lamp_count {
+                do_lamp_step(&mut parts.node.lamps[target as usize], kind, value, time);
             }
-            let level = new_level(kind, state.node.lamps[target].level, value);
-            let seconds = if time == 0 || level == 0 { 0 } else { seconds_of(time).unwrap() };
-            state.node.lamps[target] = Lamp { level, seconds };
         }
-        3 => state.node.ram[target] = value,
-        _ => state.eeprom[target] = value,
     }
+}
+
+fn do_lamp_step(lamp: &mut Lamp, kind: u8, value: u8, time: u8) {
+    if kind == 0 {
+        lamp.level = value;
+    } else if kind == 1 {
+        lamp.level = if lamp.level >= 100 - value { 100 } else { lamp.level + value };
+    } else {
+        lamp.level = if lamp.level > value { lamp.level - value } else { 0 };
+    }
+    lamp.seconds = if time == 0 || lamp.level == 0 {
+        0
+    } else if time <= 0x7F {
+        time as u16 * 60
+    } else {
+        (time - 0x80) as u16
+    };
 }
 
 /// The entries that the joining rule makes: kind and the steps of each.
@@ -592,11 +597,7 @@ fn join(steps: &[Step]) -> Vec<Vec<Step>> {
     for &step in steps {
         if let Some(entry) = entries.last_mut() {
             let before = entry[entry.len() - 1];
-            let follows = if step[0] <= 2 {
-                step[1] > before[1]
-            } else {
-                step[1] as usize == before[1] as usize + 1
-            };
+            let follows = if step[0] <= 2 { step[1] > before[1] } else { step[1] as usize == before[1] as usize + 1 };
             let mut longer = entry.clone();
             longer.push(step);
             if step[0] == before[0] && follows && entry_pdata(&longer).len() <= 50 {
@@ -641,13 +642,7 @@ fn entry_bytes(steps: &[Step], hwpid: u16) -> Vec<u8> {
         kind => (0x71, kind),
     };
     let pdata = entry_pdata(steps);
-    let mut bytes = vec![
-        5 + pdata.len() as u8,
-        pnum,
-        pcmd,
-        (hwpid % 256) as u8,
-        (hwpid / 256) as u8,
-    ];
+    let mut bytes = vec![5 + pdata.len() as u8, pnum, pcmd, low(hwpid), high(hwpid)];
     bytes.extend_from_slice(&pdata);
     bytes
 }
@@ -664,14 +659,7 @@ pub fn requests(steps: &[Step], address: u16, hwpid: u16) -> Vec<Vec<u8>> {
     }
     let mut all = Vec::new();
     for list in lists {
-        let mut request = vec![
-            (address % 256) as u8,
-            (address / 256) as u8,
-            0x02,
-            0x05,
-            (hwpid % 256) as u8,
-            (hwpid / 256) as u8,
-        ];
+        let mut request = vec![low(address), high(address), 0x02, 0x05, low(hwpid), high(hwpid)];
         request.extend_from_slice(&list);
         request.push(0);
         all.push(request);
@@ -684,10 +672,7 @@ pub fn compile(book: &[u8], scene: usize, address: u16, hwpid: u16, out: &mut [u
     if !((1..=239).contains(&address) || address == 255) {
         return refused(1, 0);
     }
-    let scenes = match read_book(book) {
-        Some(scenes) => scenes,
-        None => return refused(6, 0),
-    };
+    let Some(scenes) = read_book(book) else { return refused(6, 0) };
     if scene >= scenes.len() {
         return refused(7, 0);
     }
@@ -730,14 +715,13 @@ pub fn sceneshow(book: &[u8]) -> String {
     }
     let mut eeprom = [0; EEPROM_SIZE];
     let mut external = vec![0; EXTERNAL_SIZE];
-    let mut state =
-        State { node: start(settings).node, eeprom: &mut eeprom, external: &mut external };
+    let mut parts = Parts { node: start(settings).node, eeprom: &mut eeprom, external: &mut external };
     for &step in &read_book(book).unwrap()[0] {
-        do_step(&mut state, step);
+        do_step(&mut parts, step);
     }
     let mut text = String::from("lamp level actual left\n");
     for i in 0..3 {
-        let lamp = state.node.lamps[i];
+        let lamp = parts.node.lamps[i];
         let actual = actual_level(lamp.level, settings.step);
         text += &format!("{} {} {} {}\n", i, lamp.level, actual, lamp.seconds);
     }

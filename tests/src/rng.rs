@@ -1,4 +1,22 @@
 //! A xorshift generator: small, and the same sequence from the same seed.
+/// Fixed, so that a run can be repeated.
+const DEFAULT_SEED: u64 = 20_261_115;
+
+/// A number from the environment.
+pub fn number(name: &str, default: u64) -> u64 {
+    match std::env::var(name) {
+        Ok(text) => text.trim().parse().unwrap_or_else(|_| panic!("{name} is no number: {text}")),
+        Err(_) => default,
+    }
+}
+
+/// The seed of a test, which it prints.
+pub fn seed(test: &str) -> u64 {
+    let seed = number("GRELFINT_SEED", DEFAULT_SEED);
+    println!("{test}: seed {seed} (GRELFINT_SEED)");
+    seed
+}
+
 pub struct Rng(u64);
 
 impl Rng {

@@ -2,7 +2,7 @@
 //! with the reference. `SCENESHOW` names another binary.
 use grelfint_tests::board::book_of;
 use grelfint_tests::reference;
-use grelfint_tests::rng::Rng;
+use grelfint_tests::rng::{seed, Rng};
 use std::io::{Read, Write};
 use std::path::PathBuf;
 use std::process::{Command, Stdio};
@@ -59,8 +59,9 @@ const PRINTED: &str = "lamp level actual left\n0 10 10 0\n1 0 0 0\n2 100 100 120
 
 /// The longest whole book: 16 scenes of 64 steps.
 fn longest() -> Vec<u8> {
-    let steps: Vec<[u8; 4]> =
-        (0..64u8).map(|i| [i % 3, i % 5, (i as u16 * 7 % 101) as u8, if i % 4 == 0 { 0x80 | i | 1 } else { 0 }]).collect();
+    let steps: Vec<[u8; 4]> = (0..64u8)
+        .map(|i| [i % 3, i % 5, (i as u16 * 7 % 101) as u8, if i % 4 == 0 { 0x80 | i | 1 } else { 0 }])
+        .collect();
     let book = book_of(&vec![steps; 16]);
     assert_eq!(book.len(), 4145);
     book
@@ -132,8 +133,7 @@ fn slow_pipe() {
 
 #[test]
 fn random_books() {
-    let seed = std::env::var("GRELFINT_SEED").ok().and_then(|v| v.parse().ok()).unwrap_or(20_261_115);
-    println!("random_books: seed {seed} (GRELFINT_SEED)");
+    let seed = seed("random_books");
     let mut g = Rng::new(seed);
     for i in 0..300 {
         let scenes: Vec<Vec<[u8; 4]>> = (0..g.within(1, 4))

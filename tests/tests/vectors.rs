@@ -1,22 +1,54 @@
-//! Figures that stand in the documents, through the C interface: document
-//! 01's worked examples that are not marked P (and, cheaply, those that are),
-//! the light standard's step table and examples (001), the confirmation's
-//! figures (003), and the guide's batch and confirmation examples (000).
+//! Figures that stand in the documents, on the library through its C
+//! interface and on the plain reference: document 01's worked examples that
+//! are not marked P (and, cheaply, those that are), the light standard's step
+//! table and examples (001), the confirmation's figures (003), and the
+//! guide's batch and confirmation examples (000).
 use grelfint_tests::board::Board;
-use grelfint_tests::ffi::{self, FrcAnswer, Lamp};
+use grelfint_tests::ffi::{FrcAnswer, Lamp, Node};
+use grelfint_tests::reference;
+use grelfint_tests::sides::{Side, LIBRARY, REFERENCE};
+
+/// A test of each figure on either side.
+macro_rules! on_both_sides {
+    ($($figure:ident,)*) => {
+        mod on_library {
+            $(#[test] fn $figure() { super::$figure(super::LIBRARY) })*
+        }
+        mod on_reference {
+            $(#[test] fn $figure() { super::$figure(super::REFERENCE) })*
+        }
+    };
+}
+
+on_both_sides! {
+    external_read_at_the_end,
+    level_100_is_accepted_101_is_not,
+    one_bad_entry_changes_no_lamp,
+    batch_first_entry_is_not_all,
+    checksums,
+    batches_of_one_byte_and_of_a_short_entry,
+    compiled_scene,
+    light_standard_step_table,
+    light_standard_examples,
+    light_standard_rules,
+    guide_confirmation_example,
+    timeslot_table,
+    uart_example_of_the_confirmation,
+    guide_batch_example,
+    guide_batch_selects_by_profile,
+    guide_pulse_batch,
+}
 
 // ---- document 01, not marked P ----
-#[test]
-fn external_read_at_the_end() {
-    let mut b = Board::started(3, 1);
+fn external_read_at_the_end(side: Side) {
+    let mut b = Board::started(side, 3, 1);
     b.external[0x3FFF] = 0x5C;
     assert_eq!(b.take(4, 2, &[0xFF, 0x3F, 1]), (0, vec![0x5C]));
     assert_eq!(b.take(4, 2, &[0xFF, 0x3F, 2]), (4, vec![]));
 }
 
-#[test]
-fn level_100_is_accepted_101_is_not() {
-    let mut b = Board::started(1, 1);
+fn level_100_is_accepted_101_is_not(side: Side) {
+    let mut b = Board::started(side, 1, 1);
     assert_eq!(b.take(0x71, 0, &[1, 0, 0, 0, 0x65]), (6, vec![]));
     assert_eq!(b.lamps(1), [(0, 0)]);
     assert_eq!(b.take(0x71, 0, &[1, 0, 0, 0, 0x64]), (0, vec![0]));
@@ -25,10 +57,9 @@ fn level_100_is_accepted_101_is_not() {
     assert_eq!(b.lamps(1), [(100, 0)]);
 }
 
-#[test]
-fn the_half_obeyed_row() {
-    // CONDITIONS: nine lamps raised, the eighth byte bad: none goes up.
-    let mut b = Board::started(9, 1);
+fn one_bad_entry_changes_no_lamp(side: Side) {
+    // nine lamps raised, the eighth power byte bad: none goes up
+    let mut b = Board::started(side, 9, 1);
     let good = [0xFF, 1, 0, 0, 10, 10, 10, 10, 10, 10, 10, 10, 10];
     let mut bad = good;
     bad[4 + 7] = 101;
@@ -38,20 +69,32 @@ fn the_half_obeyed_row() {
     assert_eq!(b.lamps(9), [(10, 0); 9]);
 }
 
-#[test]
-fn batch_first_entry_is_not_all() {
+fn batch_first_entry_is_not_all(side: Side) {
     // document 01, Strength: a set on lamp 0 and then a raise on lamp 1.
-    let mut b = Board::started(3, 1);
+    let mut b = Board::started(side, 3, 1);
     let list = [10, 0x71, 0, 0xFF, 0xFF, 1, 0, 0, 0, 10, 10, 0x71, 1, 0xFF, 0xFF, 2, 0, 0, 0, 20, 0];
     assert_eq!(b.take(2, 5, &list), (0, vec![]));
     assert_eq!(b.lamps(3), [(10, 0), (20, 0), (0, 0)]);
 }
 
-// ---- document 01, marked P: run as well, through the interface ----
+// ---- document 01, marked P: run as well ----
 #[test]
-fn checksums() {
+fn checksums_of_the_reference() {
+    let sums = [
+        (1, vec![0], 0x0101),
+        (1, vec![0xFF], 0x0101),
+        (1, vec![0xFE], 0xFFFF),
+        (1, vec![0; 64], 0x4001),
+        (3, vec![0; 20], 0x3C03),
+    ];
+    for (first, bytes, sum) in sums {
+        assert_eq!(reference::checksum(first, &bytes), sum, "{bytes:?} from {first}");
+    }
+}
+
+fn checksums(side: Side) {
     // flags 0: 64s from 1; flags 2: 20s from 3. 64 zeros 0x4001, 20 zeros 0x3C03.
-    let mut b = Board::started(3, 1);
+    let mut b = Board::started(side, 3, 1);
     assert_eq!(b.take(2, 0x0A, &[0, 0, 0, 64, 0, 0x01, 0x40]), (0, vec![1]));
     assert_eq!(b.take(2, 0x0A, &[0, 0, 0, 64, 0, 0x00, 0x40]), (0, vec![0]));
     assert_eq!(b.take(2, 0x0A, &[2, 0, 0, 20, 0, 0x03, 0x3C]), (0, vec![1]));
@@ -68,47 +111,42 @@ fn checksums() {
     assert_eq!(b.take(2, 0x0A, &[0, 0, 0, 64, 0, 0xFF, 0xFF]), (0, vec![1]));
 }
 
-#[test]
-fn batches_of_one_byte_and_of_a_short_entry() {
-    let mut b = Board::started(3, 1);
+fn batches_of_one_byte_and_of_a_short_entry(side: Side) {
+    let mut b = Board::started(side, 3, 1);
     assert_eq!(b.take(2, 5, &[0]), (0, vec![]));
     assert_eq!(b.take(2, 5, &[4, 0]), (6, vec![]));
     assert_eq!(b.take(2, 5, &[]), (5, vec![]));
     assert_eq!(b.take(2, 5, &[0, 0]), (6, vec![]));
 }
 
-#[test]
-fn compiled_scene() {
+fn compiled_scene(side: Side) {
     let book = [1, 4, 0, 2, 0, 0, 0x0A, 0, 0, 2, 0x64, 2];
-    let want = [
-        1, 0x13, 1, 0, 2, 5, 0xFF, 0xFF, 0x0C, 0x71, 0, 0xFF, 0xFF, 5, 0, 0, 0, 0x0A, 0xE4, 2, 0,
-    ];
+    let want = [1, 0x13, 1, 0, 2, 5, 0xFF, 0xFF, 0x0C, 0x71, 0, 0xFF, 0xFF, 5, 0, 0, 0, 0x0A, 0xE4, 2, 0];
     let mut out = vec![0xEE; 4096];
-    let a = ffi::compile_default(&book, 0, 1, &mut out);
+    let a = (side.compile_default)(&book, 0, 1, &mut out);
     assert_eq!((a.refusal, a.step, a.length), (0, 0, want.len()));
     assert_eq!(out[..want.len()], want);
     assert!(out[want.len()..].iter().all(|&b| b == 0xEE));
-    let mut b = Board::started(3, 1);
+    let mut b = Board::started(side, 3, 1);
     let (bytes, _) = b.frame(&out[2..21]);
     assert_eq!(bytes, [1, 0, 2, 0x85, 0x71, 0x24, 0, 7]);
     assert_eq!(b.lamps(3), [(10, 0), (0, 0), (100, 120)]);
     // a scene of 0 steps, an empty book, steps on the same lamp
-    assert_eq!(ffi::compile_default(&[1, 4, 0, 0], 0, 255, &mut out).length, 1);
+    assert_eq!((side.compile_default)(&[1, 4, 0, 0], 0, 255, &mut out).length, 1);
     assert_eq!(out[0], 0);
-    assert_eq!(ffi::compile_default(&[0], 0, 1, &mut out).refusal, 7);
-    assert_eq!(ffi::compile_default(&[], 0, 1, &mut out).refusal, 6);
+    assert_eq!((side.compile_default)(&[0], 0, 1, &mut out).refusal, 7);
+    assert_eq!((side.compile_default)(&[], 0, 1, &mut out).refusal, 6);
     let twice = [1, 4, 0, 2, 0, 0, 10, 0, 0, 0, 20, 0];
-    let a = ffi::compile(&twice, 0, 255, 0x2471, &mut out);
+    let a = (side.compile)(&twice, 0, 255, 0x2471, &mut out);
     let want = [
-        1, 27, 0xFF, 0, 2, 5, 0x71, 0x24, 10, 0x71, 0, 0x71, 0x24, 1, 0, 0, 0, 10, 10, 0x71, 0,
-        0x71, 0x24, 1, 0, 0, 0, 20, 0,
+        1, 27, 0xFF, 0, 2, 5, 0x71, 0x24, 10, 0x71, 0, 0x71, 0x24, 1, 0, 0, 0, 10, 10, 0x71, 0, 0x71, 0x24, 1, 0, 0, 0,
+        20, 0,
     ];
     assert_eq!((a.refusal, &out[..a.length]), (0, &want[..]));
 }
 
 // ---- the light standard (001) ----
-#[test]
-fn light_standard_step_table() {
+fn light_standard_step_table(side: Side) {
     // 2.2: command, requested, actual, reported previous power
     let table = [
         (0, 15, 15, 20, 0),
@@ -118,7 +156,7 @@ fn light_standard_step_table() {
         (2, 100, 0, 0, 10),
         (1, 0, 0, 0, 0),
     ];
-    let mut b = Board::started(1, 10);
+    let mut b = Board::started(side, 1, 10);
     for (pcmd, value, requested, actual, previous) in table {
         assert_eq!(b.take(0x71, pcmd, &[1, 0, 0, 0, value]), (0, vec![previous]));
         assert_eq!(b.node.lamps[0].level, requested);
@@ -128,16 +166,15 @@ fn light_standard_step_table() {
     }
 }
 
-#[test]
-fn light_standard_examples() {
-    let mut b = Board::started(3, 1);
+fn light_standard_examples(side: Side) {
+    let mut b = Board::started(side, 3, 1);
     // Enumerate lights
     assert_eq!(b.take(0x71, 0x3E, &[]), (0, vec![3]));
     // Set 1st light to 10% and 3rd light to 100% for 2 minutes
     assert_eq!(b.take(0x71, 0, &[5, 0, 0, 0, 0x0A, 0xE4, 2]), (0, vec![0, 0]));
     assert_eq!(b.lamps(3), [(10, 0), (0, 0), (100, 120)]);
     // Read FRC Light On/Off for the 2nd light: off
-    let frc = |node, command, lamp, stuck, alarm| ffi::frc(node, command, &[0x71, lamp], stuck, alarm);
+    let frc = |node: Node, command, lamp, stuck, alarm| (side.frc)(node, command, &[0x71, lamp], stuck, alarm);
     let value = |value| FrcAnswer { refusal: 0, value };
     assert_eq!(frc(b.node, 0x10, 1, 0, 0), value(2));
     // Increase 1st light by +10% for 3 minutes and 2nd light by +50%
@@ -145,7 +182,7 @@ fn light_standard_examples() {
     assert_eq!(b.lamps(3), [(20, 180), (50, 0), (100, 120)]);
     assert_eq!(frc(b.node, 0x10, 1, 0, 0), value(3));
     // 3.1 a closed relay reports on; 3.2 alarm; 3.3 not implemented
-    let dark = Board::started(3, 1).node;
+    let dark = Board::started(side, 3, 1).node;
     assert_eq!(frc(dark, 0x10, 1, 0b010, 0), value(3));
     assert_eq!(frc(dark, 0x10, 1, 0b101, 0), value(2));
     assert_eq!(frc(dark, 0x11, 2, 0, 0b100), value(3));
@@ -154,10 +191,9 @@ fn light_standard_examples() {
     assert_eq!(frc(dark, 0x12, 1, u32::MAX, u32::MAX), value(1));
 }
 
-#[test]
-fn light_standard_rules() {
+fn light_standard_rules(side: Side) {
     // 2.1: the full bitmap sets all lights without knowing their count
-    let mut b = Board::started(3, 1);
+    let mut b = Board::started(side, 3, 1);
     let mut pdata = vec![0xFF; 4];
     pdata.extend_from_slice(&[40; 32]);
     assert_eq!(b.take(0x71, 0, &pdata), (0, vec![0; 32]));
@@ -165,9 +201,9 @@ fn light_standard_rules() {
     // 0x81-0xFF: seconds; 1-127 minutes; after the time the light is at 0 %
     assert_eq!(b.take(0x71, 0, &[3, 0, 0, 0, 0xBC, 0x82, 0xBC, 0x7F]), (0, vec![40, 40]));
     assert_eq!(b.lamps(2), [(60, 2), (60, 7620)]);
-    b.node = ffi::tick(b.node).node;
+    b.node = (side.tick)(b.node).node;
     assert_eq!(b.lamps(2), [(60, 1), (60, 7619)]);
-    assert_eq!(ffi::tick_in_place(&mut b.node), 0);
+    assert_eq!((side.tick_in_place)(&mut b.node), 0);
     assert_eq!(b.lamps(2), [(0, 0), (60, 7618)]);
     // "Previously set ON timing is disabled"; 127 keeps; time ignored at 0 %
     assert_eq!(b.take(0x71, 0, &[2, 0, 0, 0, 127]), (0, vec![60]));
@@ -177,48 +213,52 @@ fn light_standard_rules() {
     assert_eq!(b.take(0x71, 0, &[2, 0, 0, 0, 0x80, 5]), (0, vec![60]));
     assert_eq!(b.node.lamps[1], Lamp { level: 0, seconds: 0 });
     // 101-126 and times 00 and 80: ERROR_DATA; a wrong length too
-    for bad in [&[1, 0, 0, 0, 126][..], &[1, 0, 0, 0, 0x8A, 0], &[1, 0, 0, 0, 0x8A, 0x80], &[1, 0, 0, 0], &[1, 0, 0, 0, 1, 1], &[1, 0, 0]] {
+    for bad in [
+        &[1, 0, 0, 0, 126][..],
+        &[1, 0, 0, 0, 0x8A, 0],
+        &[1, 0, 0, 0, 0x8A, 0x80],
+        &[1, 0, 0, 0],
+        &[1, 0, 0, 0, 1, 1],
+        &[1, 0, 0],
+    ] {
         assert_eq!(b.take(0x71, 0, bad), (6, vec![]), "{bad:?}");
     }
 }
 
 // ---- confirmation and timing (003 and the guide, 2.6.2) ----
-#[test]
-fn guide_confirmation_example() {
+fn guide_confirmation_example(side: Side) {
     // 000, example 3: LED on at node 0x0A, DPA value 7, hops 6, slot 4, response hops 6
     let mut out = [0xEE; 64];
-    let a = ffi::confirm(&[0x0A, 0, 7, 1, 0xFF, 0xFF], 7, 6, 6, false, &mut out);
+    let a = (side.confirm)(&[0x0A, 0, 7, 1, 0xFF, 0xFF], 7, 6, 6, false, &mut out);
     assert_eq!((a.refusal, a.length), (0, 11));
     assert_eq!(out[..11], [0x0A, 0, 7, 1, 0xFF, 0xFF, 0xFF, 7, 6, 4, 6]);
     assert!(out[11..].iter().all(|&b| b == 0xEE));
     // at broadcast the response hops are 0
-    let a = ffi::confirm(&[0xFF, 0, 7, 1, 0xFF, 0xFF], 7, 6, 6, true, &mut out);
+    let a = (side.confirm)(&[0xFF, 0, 7, 1, 0xFF, 0xFF], 7, 6, 6, true, &mut out);
     assert_eq!((a.refusal, a.length), (0, 11));
     assert_eq!(out[..11], [0xFF, 0, 7, 1, 0xFF, 0xFF, 0xFF, 7, 6, 8, 0]);
 }
 
-#[test]
-fn timeslot_table() {
+fn timeslot_table(side: Side) {
     for (length, std, lp) in [(0, 40, 80), (16, 40, 80), (17, 50, 90), (40, 50, 90), (41, 60, 100), (56, 60, 100)] {
-        assert_eq!(ffi::timeslot(length, false).slot as u32 * 10, std);
-        assert_eq!(ffi::timeslot(length, true).slot as u32 * 10, lp);
+        assert_eq!((side.timeslot)(length, false).slot as u32 * 10, std);
+        assert_eq!((side.timeslot)(length, true).slot as u32 * 10, lp);
     }
-    assert_eq!(ffi::timeslot(57, false).refusal, 5);
+    assert_eq!((side.timeslot)(57, false).refusal, 5);
 }
 
-#[test]
-fn uart_example_of_the_confirmation() {
+fn uart_example_of_the_confirmation(side: Side) {
     // 003: 5 bytes out at 40 ms, 20 ms waiting, the answer at 40, 50 or 60 ms
     for (q, r) in [(2u8, 3u8), (0, 0), (5, 9), (255, 255)] {
         for (answer, slot) in [(16, 40), (20, 50), (41, 60)] {
             let want = (q as u32 + 1) * 40 + 20 + (r as u32 + 1) * slot;
-            assert_eq!(ffi::earliest_send(q, 5, 20, r, answer, false, false).milliseconds, want);
+            assert_eq!((side.earliest_send)(q, 5, 20, r, answer, false, false).milliseconds, want);
         }
     }
     // document 01: 340 ms; a broadcast leaves the last term out but tests it
-    assert_eq!(ffi::earliest_send(2, 5, 20, 3, 20, false, false).milliseconds, 340);
-    assert_eq!(ffi::earliest_send(2, 5, 20, 3, 20, false, true).milliseconds, 140);
-    assert_eq!(ffi::earliest_send(2, 5, 20, 3, 57, false, true).refusal, 5);
+    assert_eq!((side.earliest_send)(2, 5, 20, 3, 20, false, false).milliseconds, 340);
+    assert_eq!((side.earliest_send)(2, 5, 20, 3, 20, false, true).milliseconds, 140);
+    assert_eq!((side.earliest_send)(2, 5, 20, 3, 57, false, true).refusal, 5);
 }
 
 // ---- the guide's batch (000, 3.4.11) ----
@@ -233,9 +273,8 @@ const GUIDE_BATCH: [u8; 29] = [
     0,
 ];
 
-#[test]
-fn guide_batch_example() {
-    let mut b = Board::started(3, 1);
+fn guide_batch_example(side: Side) {
+    let mut b = Board::started(side, 3, 1);
     let before = b.node;
     let mut frame = vec![0xFF, 0, 2, 5, 0xFF, 0xFF];
     frame.extend_from_slice(&GUIDE_BATCH);
@@ -253,16 +292,52 @@ fn guide_batch_example() {
 
 /// The same shape with this node's lamps: on for profile 0x1234, on for
 /// profile 0x5678, a time for all, off again for one of them.
-#[test]
-fn guide_batch_selects_by_profile() {
+fn guide_batch_selects_by_profile(side: Side) {
     for (hwpid, want) in [(0x1234u16, [(0u8, 0u16), (0, 0), (30, 60)]), (0x5678, [(0, 0), (70, 0), (30, 60)])] {
-        let mut b = Board::started(3, 1);
+        let mut b = Board::started(side, 3, 1);
         b.node.settings.hwpid = hwpid;
         let list = [
-            10, 0x71, 0, 0x34, 0x12, 1, 0, 0, 0, 70, //
-            10, 0x71, 0, 0x78, 0x56, 2, 0, 0, 0, 70, //
-            11, 0x71, 0, 0xFF, 0xFF, 4, 0, 0, 0, 0x80 | 30, 1, //
-            10, 0x71, 0, 0x34, 0x12, 1, 0, 0, 0, 0, //
+            10,
+            0x71,
+            0,
+            0x34,
+            0x12,
+            1,
+            0,
+            0,
+            0,
+            70, //
+            10,
+            0x71,
+            0,
+            0x78,
+            0x56,
+            2,
+            0,
+            0,
+            0,
+            70, //
+            11,
+            0x71,
+            0,
+            0xFF,
+            0xFF,
+            4,
+            0,
+            0,
+            0,
+            0x80 | 30,
+            1, //
+            10,
+            0x71,
+            0,
+            0x34,
+            0x12,
+            1,
+            0,
+            0,
+            0,
+            0, //
             0,
         ];
         let mut frame = vec![0xFF, 0, 2, 5, 0xFF, 0xFF];
@@ -272,10 +347,9 @@ fn guide_batch_selects_by_profile() {
     }
 }
 
-#[test]
-fn guide_pulse_batch() {
+fn guide_pulse_batch(side: Side) {
     // 000, acknowledged broadcast: 5,7,3,ffff, 5,6,3,ffff, 0
-    let mut b = Board::started(3, 1);
+    let mut b = Board::started(side, 3, 1);
     let before = b.node;
     assert_eq!(b.take(2, 5, &[5, 7, 3, 0xFF, 0xFF, 5, 6, 3, 0xFF, 0xFF, 0]), (0, vec![]));
     assert_eq!(b.node, before);

@@ -1,0 +1,428 @@
+//! Random nodes, boards, frames and books: mostly valid, at the borders
+//! often, and each kind of fault now and then.
+use crate::board::{book_of, Board, Lengths};
+use crate::ffi::{Lamp, Node, Settings};
+use crate::reference::{self, EEPROM_SIZE, EXTERNAL_SIZE};
+use crate::rng::Rng;
+use crate::sides::Side;
+
+/// Bytes behind each part that no call is lent.
+pub const GUARD: usize = 64;
+/// How much longer than its memory a lent part may be.
+pub const EXCESS: usize = 64;
+/// The most that a call is lent of the response buffer.
+const RESPONSE: usize = 300;
+
+/// A board of random bytes with guard bytes behind each part.
+pub fn board(g: &mut Rng, side: Side, node: Node) -> Board {
+    let mut eeprom = vec![0; EEPROM_SIZE + EXCESS + GUARD];
+    let mut external = vec![0; EXTERNAL_SIZE + EXCESS + GUARD];
+    let mut response = vec![0; RESPONSE + GUARD];
+    g.fill(&mut eeprom);
+    if g.chance(3, 4) {
+        g.fill(&mut external);
+    } else {
+        external.fill(g.pick(&[0x00, 0xFF, 0xFE]));
+    }
+    g.fill(&mut response);
+    Board { side, node, eeprom, external, response }
+}
+
+pub fn settings(g: &mut Rng) -> Settings {
+    Settings {
+        address: if g.chance(1, 8) { g.pick(&[1u16, 239]) } else { g.within(1, 239) as u16 },
+        hwpid: if g.chance(1, 8) { g.pick(&[0u16, 0xFFFF, 0x00FF]) } else { g.word() },
+        dpa_value: g.byte(),
+        lamp_count: if g.chance(1, 4) { g.pick(&[1u8, 3, 9, 32]) } else { g.within(1, 32) as u8 },
+        step: g.pick(&reference::STEPS),
+    }
+}
+
+pub fn node(g: &mut Rng) -> Node {
+    let settings = settings(g);
+    let mut node = reference::start(settings).node;
+    if g.chance(1, 4) {
+        return node;
+    }
+    for i in 0..settings.lamp_count as usize {
+        let level = if g.chance(1, 3) { g.pick(&[0u8, 1, 99, 100]) } else { g.within(0, 100) as u8 };
+        let seconds = match g.below(4) {
+            0 => 0,
+            1 => g.within(1, 3),
+            2 => g.within(0, 7620),
+            _ => g.pick(&[1, 2, 60, 7619, 7620]),
+        } as u16;
+        node.lamps[i] = Lamp { level, seconds: if level == 0 { 0 } else { seconds } };
+    }
+    g.fill(&mut node.ram);
+    node
+}
+
+/// One fault, or several, in a sound node (sometimes none, at the borders).
+pub fn broken(g: &mut Rng, mut node: Node) -> Node {
+    for _ in 0..g.within(1, 2) {
+        let lamp = g.below(32);
+        let above = node.settings.lamp_count as usize;
+        match g.below(9) {
+            0 => node.settings.address = g.pick(&[0u16, 240, 255, 256, 257, 0xFFFF, 1, 239]),
+            1 => node.settings.lamp_count = g.pick(&[0u8, 33, 255, 32, 1]),
+            2 => node.settings.step = g.byte(),
+            3 => node.settings.step = g.pick(&[0u8, 3, 101, 200, 255]),
+            4 => node.lamps[lamp].level = g.pick(&[100u8, 101, 127, 255]),
+            5 => node.lamps[lamp].seconds = g.pick(&[7620u16, 7621, 0xFFFF, 0x8000]),
+            6 => node.lamps[lamp] = Lamp { level: 0, seconds: g.within(1, 7620) as u16 },
+            7 if above < 32 => node.lamps[g.within(above, 31)].level = g.within(1, 100) as u8,
+            8 if above < 32 => {
+                node.lamps[g.within(above, 31)] = Lamp { level: 0, seconds: 1 };
+            }
+            _ => node.lamps[31].seconds = g.word(),
+        }
+    }
+    node
+}
+
+// ---- requests ----
+fn time_byte(g: &mut Rng) -> u8 {
+    if g.chance(1, 60) {
+        return g.pick(&[0x00, 0x80]);
+    }
+    let low = if g.chance(1, 3) { g.pick(&[1, 2, 127]) } else { g.within(1, 127) } as u8;
+    low | if g.chance(1, 2) { 0x80 } else { 0 }
+}
+
+fn lamp_pdata(g: &mut Rng, count: u8, limit: usize) -> Vec<u8> {
+    if limit < 4 {
+        return vec![0; limit];
+    }
+    let inside = if count >= 32 { u32::MAX } else { (1u32 << count) - 1 };
+    let mut mask = match g.below(8) {
+        0 => u32::MAX,
+        1 => g.long(),
+        2 => g.long() & g.long(),
+        3 => inside,
+        4 => 0,
+        5 => 1 << g.below(32),
+        _ => g.long() & inside,
+    };
+    while mask.count_ones() as usize > limit - 4 {
+        mask &= mask - 1;
+    }
+    let mut room = limit - 4 - mask.count_ones() as usize;
+    let mut pdata = mask.to_le_bytes().to_vec();
+    for _ in 0..mask.count_ones() {
+        let power = match g.below(120) {
+            0 => g.within(101, 126),
+            1..=12 => 127,
+            13..=25 => 0,
+            26..=35 => 100,
+            _ => g.within(0, 100),
+        } as u8;
+        if room > 0 && g.chance(2, 5) {
+            room -= 1;
+            pdata.push(power | 0x80);
+            pdata.push(time_byte(g));
+        } else {
+            pdata.push(power);
+        }
+    }
+    pdata
+}
+
+fn memory_pdata(g: &mut Rng, pnum: u8, reading: bool, limit: usize) -> Vec<u8> {
+    let (width, size, longest) = match pnum {
+        3 => (1, EEPROM_SIZE, 55),
+        4 => (2, EXTERNAL_SIZE, 54),
+        _ => (1, 48, 48),
+    };
+    if limit <= width {
+        return vec![0; limit];
+    }
+    let most = if reading { longest } else { longest.min(limit - width) };
+    let mut length = g.within(if reading { 0 } else { 1 }, most);
+    if g.chance(1, 4) {
+        length = most;
+    }
+    let mut start = if g.chance(1, 4) { size - length } else { g.within(0, size - length) };
+    if g.chance(1, 12) {
+        start = g.within(size - length, size + 2);
+    }
+    if g.chance(1, 40) {
+        start = g.word() as usize;
+    }
+    if reading && g.chance(1, 16) {
+        length = g.pick(&[longest, longest + 1, 255, 56]);
+    }
+    let mut pdata = vec![start as u8];
+    if width == 2 {
+        pdata.push((start >> 8) as u8);
+    }
+    if reading {
+        pdata.push(length as u8);
+    } else {
+        let mut data = vec![0; length];
+        g.fill(&mut data);
+        pdata.extend_from_slice(&data);
+    }
+    pdata
+}
+
+/// A small change somewhere in the bytes.
+fn change(g: &mut Rng, bytes: &mut Vec<u8>) {
+    match g.below(6) {
+        0 => {
+            bytes.pop();
+        }
+        1 => bytes.push(g.byte()),
+        2 if !bytes.is_empty() => {
+            let i = g.below(bytes.len());
+            bytes[i] = g.byte();
+        }
+        3 if !bytes.is_empty() => {
+            let i = g.below(bytes.len());
+            bytes[i] ^= 1 << g.below(8);
+        }
+        4 => bytes.truncate(g.within(0, bytes.len())),
+        _ => bytes.push(0),
+    }
+}
+
+/// A request that may also stand in a batch: PNUM, PCMD, PData.
+fn plain_request(g: &mut Rng, node: &Node, limit: usize) -> (u8, u8, Vec<u8>) {
+    let (pnum, pcmd, mut pdata) = match g.below(100) {
+        0..=49 => (0x71, g.below(3) as u8, lamp_pdata(g, node.settings.lamp_count, limit)),
+        50..=53 => (0x71, 0x3E, Vec::new()),
+        54..=62 => (3, 0, memory_pdata(g, 3, true, limit)),
+        63..=71 => (3, 1, memory_pdata(g, 3, false, limit)),
+        72..=76 => (4, 2, memory_pdata(g, 4, true, limit)),
+        77..=82 => (4, 3, memory_pdata(g, 4, false, limit)),
+        83..=87 => (5, 0, memory_pdata(g, 5, true, limit)),
+        88..=93 => (5, 1, memory_pdata(g, 5, false, limit)),
+        _ => {
+            let pnum = if g.chance(2, 3) { g.pick(&[2, 3, 4, 5, 0x71]) } else { g.byte() };
+            let pcmd = if g.chance(1, 2) { g.pick(&[0, 1, 2, 3, 5, 0x0A, 0x3E, 0x80, 0x81]) } else { g.byte() };
+            let mut data = vec![0; g.within(0, limit.min(12))];
+            g.fill(&mut data);
+            (pnum, pcmd, data)
+        }
+    };
+    if g.chance(1, 14) {
+        change(g, &mut pdata);
+    }
+    pdata.truncate(limit);
+    (pnum, pcmd, pdata)
+}
+
+pub fn hwpid(g: &mut Rng, node: &Node) -> u16 {
+    match g.below(24) {
+        0 => g.word(),
+        1 => node.settings.hwpid ^ (1 << g.below(16)),
+        2..=12 => node.settings.hwpid,
+        _ => 0xFFFF,
+    }
+}
+
+fn batch_pdata(g: &mut Rng, node: &Node) -> Vec<u8> {
+    let mut list = Vec::new();
+    let wanted = g.within(0, 8);
+    for _ in 0..wanted {
+        let room = 55 - list.len();
+        if room < 5 {
+            break;
+        }
+        let limit = if g.chance(1, 4) { room - 5 } else { (room - 5).min(g.within(0, 20)) };
+        let (pnum, pcmd, pdata) = if g.chance(1, 20) {
+            (2, g.pick(&[5, 0x0A]), vec![0; limit.min(7)])
+        } else {
+            plain_request(g, node, limit)
+        };
+        list.push(5 + pdata.len() as u8);
+        list.push(pnum);
+        list.push(pcmd);
+        list.extend_from_slice(&hwpid(g, node).to_le_bytes());
+        list.extend_from_slice(&pdata);
+    }
+    list.push(0);
+    if g.chance(1, 8) {
+        spoil_list(g, &mut list);
+    }
+    list.truncate(56);
+    list
+}
+
+fn spoil_list(g: &mut Rng, list: &mut Vec<u8>) {
+    match g.below(6) {
+        0 => {
+            list.pop(); // no zero
+        }
+        1 => list.push(0),
+        2 => list.push(g.byte()),
+        3 => {
+            let last = list.len() - 1;
+            list[last] = g.within(1, 60) as u8; // cannot be taken apart
+        }
+        4 => list[0] = g.within(0, 60) as u8,
+        _ => change(g, list),
+    }
+}
+
+fn code_check_pdata(g: &mut Rng, external: &[u8]) -> Vec<u8> {
+    let mut flags = g.below(4) as u8;
+    let unit = if flags & 2 == 0 { 64 } else { 20 };
+    let most = EXTERNAL_SIZE / unit;
+    let blocks = match g.below(40) {
+        0 => most,
+        1..=3 => g.within(1, most),
+        _ => g.within(1, 6),
+    };
+    let mut length = blocks * unit;
+    let mut address = if g.chance(1, 4) { EXTERNAL_SIZE - length } else { g.within(0, EXTERNAL_SIZE - length) };
+    let mut sum = reference::checksum(if unit == 64 { 1 } else { 3 }, &external[address..address + length]);
+    match g.below(24) {
+        0 => flags |= 1 << g.within(2, 7),
+        1 => length = g.pick(&[0, 1, 63, 65, 20, 64, 320, 0xFFFF, 0xFFC0]),
+        2 => address = g.pick(&[0, EXTERNAL_SIZE - length + 1, 0xFFFF, 0x8000, EXTERNAL_SIZE]),
+        3..=5 => sum ^= 1 << g.below(16),
+        6 => sum = g.word(),
+        _ => {}
+    }
+    let mut pdata = vec![flags];
+    pdata.extend_from_slice(&(address as u16).to_le_bytes());
+    pdata.extend_from_slice(&(length as u16).to_le_bytes());
+    pdata.extend_from_slice(&sum.to_le_bytes());
+    if g.chance(1, 16) {
+        change(g, &mut pdata);
+    }
+    pdata
+}
+
+pub fn frame(g: &mut Rng, node: &Node, external: &[u8]) -> Vec<u8> {
+    let own = node.settings.address;
+    let nadr = match g.below(40) {
+        0 => own | 0x0100,
+        1 => own.swap_bytes(),
+        2 => g.pick(&[0u16, 0xFF00, 0x01FF, 0xFFFF, 240, 0x00FC]),
+        3 => g.word(),
+        4..=10 => 0x00FF,
+        _ => own,
+    };
+    let (pnum, pcmd, mut pdata) = match g.below(10) {
+        0..=2 => (2, 5, batch_pdata(g, node)),
+        3 => (2, 0x0A, code_check_pdata(g, external)),
+        _ => plain_request(g, node, 56),
+    };
+    pdata.truncate(56);
+    let mut frame = nadr.to_le_bytes().to_vec();
+    frame.push(pnum);
+    frame.push(pcmd);
+    frame.extend_from_slice(&hwpid(g, node).to_le_bytes());
+    frame.extend_from_slice(&pdata);
+    frame
+}
+
+/// What a call is lent: now and then, or `often`, of a length it refuses.
+pub fn lengths(g: &mut Rng, often: bool) -> Lengths {
+    let odd = |g: &mut Rng| if often { g.chance(1, 3) } else { g.chance(1, 60) };
+    let eeprom = if odd(g) { g.pick(&[0, 1, 191, 193, 256, 48]) } else { EEPROM_SIZE };
+    let external = if odd(g) { g.pick(&[0, 1, 16_383, 16_385, 192, 8192]) } else { EXTERNAL_SIZE };
+    let response = if odd(g) {
+        g.within(0, 64)
+    } else if g.chance(1, 5) {
+        g.within(64, RESPONSE)
+    } else {
+        64
+    };
+    Lengths { eeprom, external, response }
+}
+
+// ---- books ----
+/// `runs` in 200 follow the step before, so that entries also grow to their limit.
+fn step(g: &mut Rng, before: Option<[u8; 4]>, bad: usize, runs: usize, timed: usize) -> [u8; 4] {
+    let time = |g: &mut Rng| if !g.chance(timed, 100) { 0 } else { g.within(1, 127) as u8 | g.pick(&[0, 0x80]) };
+    let mut step = match before {
+        // one that may join
+        Some(b) if g.chance(runs, 200) => match b[0] {
+            0..=2 => {
+                let t = b[1] as usize + if g.chance(runs, 200) { 1 } else { g.within(0, 4) };
+                [b[0], if t < 32 { t } else { g.below(4) } as u8, g.within(0, 100) as u8, time(g)]
+            }
+            k => {
+                let size = if k == 3 { 48 } else { EEPROM_SIZE };
+                let t = b[1] as usize + 1;
+                [k, if t < size { t } else { g.below(4) } as u8, g.byte(), 0]
+            }
+        },
+        _ => match g.below(7) {
+            0 => [3, g.below(48) as u8, g.byte(), 0],
+            1 => [4, g.below(EEPROM_SIZE) as u8, g.byte(), 0],
+            k => [(k % 3) as u8, g.below(32) as u8, g.within(0, 100) as u8, time(g)],
+        },
+    };
+    if bad > 0 && g.chance(1, bad) {
+        match g.below(6) {
+            0 => step[0] = g.pick(&[5, 6, 255]),
+            1 => step[1] = g.pick(&[32, 48, 191, 192, 255]),
+            2 => step[2] = g.pick(&[101, 127, 128, 255]),
+            3 => step[3] = 0x80,
+            4 => step[3] = g.byte(),
+            _ => step[g.below(4)] = g.byte(),
+        }
+    }
+    step
+}
+
+/// A scene of which one step in `bad` may be bad (0: none).
+fn scene(g: &mut Rng, bad: usize) -> Vec<[u8; 4]> {
+    let length = match g.below(6) {
+        0 => 0,
+        1 => 64,
+        2 => g.within(1, 3),
+        _ => g.within(1, 64),
+    };
+    let runs = g.pick(&[60, 150, 198, 200]);
+    let timed = g.pick(&[0, 50, 50, 90, 100]);
+    let mut steps: Vec<[u8; 4]> = Vec::new();
+    if runs == 200 {
+        steps.push([g.below(5) as u8, g.below(4) as u8, g.within(0, 100) as u8, 0]);
+    }
+    while steps.len() < length {
+        let step = step(g, steps.last().copied(), bad, runs, timed);
+        steps.push(step);
+    }
+    steps.truncate(length);
+    steps
+}
+
+pub fn book(g: &mut Rng) -> Vec<u8> {
+    let n = match g.below(12) {
+        0 => 0,
+        1 => 16,
+        _ => g.within(1, 5),
+    };
+    let bad = if g.chance(1, 4) { 80 } else { 0 };
+    let scenes: Vec<Vec<[u8; 4]>> = (0..n).map(|_| scene(g, bad)).collect();
+    let mut book = book_of(&scenes);
+    if g.chance(1, 10) {
+        spoil_book(g, &mut book, n);
+    }
+    book
+}
+
+fn spoil_book(g: &mut Rng, book: &mut Vec<u8>, n: usize) {
+    match g.below(7) {
+        0 => book.clear(),
+        1 => {
+            book.pop();
+        }
+        2 => book.push(g.byte()),
+        3 => book[0] = g.pick(&[0, 1, 15, 16, 17, 255]),
+        4 if n > 0 => {
+            let i = 1 + g.below(3 * n);
+            book[i] = if g.chance(1, 2) { g.byte() } else { book[i] ^ 1 };
+        }
+        5 => book.truncate(g.within(0, book.len())),
+        _ => {
+            let i = g.below(book.len());
+            book[i] = g.byte();
+        }
+    }
+}

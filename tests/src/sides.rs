@@ -1,0 +1,56 @@
+//! The calls of include/grelfint.h as the library, the plain reference and
+//! the fast one answer them, so that a test is written once for each of them.
+use crate::ffi::*;
+use crate::{fast, ffi, reference};
+
+#[derive(Clone, Copy)]
+pub struct Side {
+    pub name: &'static str,
+    pub start: fn(Settings) -> NodeAnswer,
+    pub tick: fn(Node) -> NodeAnswer,
+    pub tick_in_place: fn(&mut Node) -> u8,
+    pub handle_request: fn(Node, &[u8], &mut [u8], &mut [u8], &mut [u8]) -> RequestAnswer,
+    pub view_status: fn(&[u8], &[u8], u8, usize, usize) -> u8,
+    pub frc: fn(Node, u8, &[u8], u32, u32) -> FrcAnswer,
+    pub confirm: fn(&[u8], u8, u8, u8, bool, &mut [u8]) -> LengthAnswer,
+    pub timeslot: fn(usize, bool) -> SlotAnswer,
+    pub earliest_send: fn(u8, usize, u16, u8, usize, bool, bool) -> SendAnswer,
+    pub compile: fn(&[u8], usize, u16, u16, &mut [u8]) -> CompileAnswer,
+    pub compile_default: fn(&[u8], usize, u16, &mut [u8]) -> CompileAnswer,
+}
+
+macro_rules! side_of {
+    ($module:ident, $name:literal) => {
+        Side {
+            name: $name,
+            start: $module::start,
+            tick: $module::tick,
+            tick_in_place: $module::tick_in_place,
+            handle_request: $module::handle_request,
+            view_status: $module::view_status,
+            frc: $module::frc,
+            confirm: $module::confirm,
+            timeslot: $module::timeslot,
+            earliest_send: $module::earliest_send,
+            compile: $module::compile,
+            compile_default: $module::compile_default,
+        }
+    };
+}
+
+pub const LIBRARY: Side = side_of!(ffi, "library");
+pub const REFERENCE: Side = side_of!(reference, "reference");
+
+/// Calls that the fast one lacks are the reference's.
+pub const FAST: Side = Side {
+    name: "fast",
+    tick: |node| fast::tick(node),
+    tick_in_place: |node| {
+        let answer = fast::tick(*node);
+        *node = answer.node;
+        answer.refusal
+    },
+    handle_request: fast::handle_request,
+    compile: fast::compile,
+    ..REFERENCE
+};
