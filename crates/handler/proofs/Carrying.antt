@@ -5,6 +5,7 @@ use mathlib.Core.Bool.{Bool, true, false}
 use Prim.Native.Nat.{ℕ}
 use lib.ListN.{length}
 use borrow.Author.Tests.{eq-eqb, ne-eqb}
+use Rattle.dpa.specs.declared.settings.Settings.{Settings}
 use Rattle.dpa.specs.Served.{Served, Laid, laid, layOut, refused}
 use Rattle.checksum.specs.Check.{codeCheck}
 use Rattle.batch.specs.Batch.{Item, reading, listError}
@@ -55,8 +56,8 @@ module _ (i : Item) (st : State) where
 
 -- What the code leaves
 
-pub left-as : {r s : Carried} {e x o : List ℕ} → r ≡ s → left r e x o ≡ left s e x o
-left-as {r} {s} {e} {x} {o} q = ap (λ (t : Carried). left t e x o) q
+pub left-as : {s : Settings} {c d : Carried} {r e x o : List ℕ} → c ≡ d → left s c r e x o ≡ left s d r e x o
+left-as {s} {c} {d} {r} {e} {x} {o} q = ap (λ (t : Carried). left s t r e x o) q
 
 -- a peripheral's answer
 pub left-plain : {st : State} {e n : ℕ} {out : List ℕ} (a : Served State) (o : List ℕ) → laid st e n out ≡ layOut a o

@@ -3,6 +3,7 @@ pub mod Entering
 pub mod Carrying
 pub mod Taking
 pub mod Soundness
+pub mod Listing
 pub mod Sizes
 pub mod Errors
 pub mod Examples

@@ -18,8 +18,9 @@ use Rattle.dpa.proofs.Lists.{to-end, rear-lent, rear-back, header-over}
 use Rattle.batch.specs.Batch.{Item, item}
 use Rattle.node.specs.declared.record.Node.{Node}
 use Rattle.handler.specs.declared.os.Carried.{Carried}
+use Rattle.handler.specs.declared.answer.Taken.{Taken}
 use Rattle.node.specs.Node.{nodeOk}
-use Rattle.handler.specs.Request.{State, state, StateRule, Outcome, Left, left, leave, itemOf, carryOut, Called, called, silent, broadcast, respond, takenOf, requestRefusal, refusalOf, requestOf}
+use Rattle.handler.specs.Request.{State, state, StateRule, Outcome, Left, left, leave, itemOf, carryOut, Called, taken, silent, broadcast, respond, takenOf, requestRefusal, refusalOf, requestOf}
 
 -- the request that the code takes out of a frame
 pub frame-item : (f : List ℕ) {h : Frame} → h ≡ headerOf f → item (h .pnum) (h .pcmd) (h .hwpid) (take (length f - 6) (drop 6 f)) ≡ itemOf f
@@ -68,14 +69,18 @@ taken-rule n e x f r z =
     let k = refusal-none n f (length e) (length x) r z in
     record { node-ok = k .0; eeprom-size = k .3; external-size = k .4 }
 
+-- what the code leaves
+pub taken-as : {s : Settings} {t u : Taken} {r e x o : List ℕ} → t ≡ u → taken s t r e x o ≡ taken s u r e x o
+taken-as {s} {t} {u} {r} {e} {x} {o} q = ap (λ (v : Taken). taken s v r e x o) q
+
 -- the response: data in the lent rear part of the buffer, then the header in front
-pub own-answer : (o m : List ℕ) → 8 ≤ length o → (s : Settings) (i : Item) (a : Outcome) {r : Carried} {e x w : List ℕ}
-    → left r e x m ≡ leave a (midOf 8 (length o - 8) o)
-    → w ≡ responseHeader s (i .pnum) (i .pcmd) (r .error) ++ drop 8 (putMid 8 (length o - 8) o m)
-    → called (record { refusal = 0; length = 8 + r .length; load = r .load; node = r .node }) e x w ≡ respond s i a o
-own-answer o m h s i a {r} {e} {x} {w} q u =
-    ap (called (record { refusal = 0; length = 8 + r .length; load = r .load; node = r .node }) e x)
-    (u ∙ ap (λ (l : List ℕ). responseHeader s (i .pnum) (i .pcmd) (r .error) ++ l) (rear-back 8 o m h))
+pub own-answer : (o m : List ℕ) → 8 ≤ length o → (s : Settings) (i : Item) (a : Outcome) {c : Carried} {r e x w : List ℕ}
+    → left s c r e x m ≡ leave a (midOf 8 (length o - 8) o)
+    → w ≡ responseHeader s (i .pnum) (i .pcmd) (c .error) ++ drop 8 (putMid 8 (length o - 8) o m)
+    → taken s (record { length = 8 + c .length; load = c .load; lamps = c .lamps }) r e x w ≡ respond s i a o
+own-answer o m h s i a {c} {r} {e} {x} {w} q u =
+    ap (taken s (record { length = 8 + c .length; load = c .load; lamps = c .lamps }) r e x)
+    (u ∙ ap (λ (l : List ℕ). responseHeader s (i .pnum) (i .pcmd) (c .error) ++ l) (rear-back 8 o m h))
     ∙ ap headed q
     ∙ ap answered (rear-lent 8 o)
     ∙ ap (λ (l : List ℕ). record { after = a .after; refusal = 0; length = 8 + length (a .bytes); load = a .load; response = l })

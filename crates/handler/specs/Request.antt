@@ -12,12 +12,14 @@ use Rattle.dpa.specs.Served.{Served, served, refused, within}
 use Rattle.memory.specs.declared.block.Memory.the-variants.{Eeprom, Ram, External}
 use Rattle.memory.specs.Block.{sizeOf}
 use Rattle.memory.specs.Request.{memoryRequest}
+use Rattle.lights.specs.declared.lamp.Lamp.{Lamp}
 use Rattle.lights.specs.Lights.{lightsRequest}
 use Rattle.checksum.specs.Check.{codeCheck}
 use Rattle.batch.specs.Batch.{Item, item, reading, listError, runItems, errorsOf}
 use Rattle.node.specs.declared.record.Node.{Node}
 use Rattle.handler.specs.declared.os.Carried.{Carried}
 use Rattle.handler.specs.declared.answer.RequestAnswer.{RequestAnswer}
+use Rattle.handler.specs.declared.answer.Taken.{Taken}
 use Rattle.node.specs.Node.{nodeOk, withLamps, withRam}
 
 -- the node with both memories
@@ -28,6 +30,10 @@ pub record State : Type 0 where
 
 abbrev pub state : Node → List ℕ → List ℕ → State
 state n e x = record { node = n; eeprom = e; external = x }
+
+-- the same of a node in parts: settings, lamps, RAM
+abbrev pub held : Settings → List Lamp → List ℕ → List ℕ → List ℕ → State
+held s ls r e x = state (record { settings = s; lamps = ls; ram = r }) e x
 
 -- a sound node with memories of their sizes
 pub record StateRule (st : State) : Type 0 where
@@ -123,8 +129,9 @@ pub record Left : Type 0 where
   pub load : Bool
   pub out : List ℕ
 
-abbrev pub left : Carried → List ℕ → List ℕ → List ℕ → Left
-left r e x o = record { after = state (r .node) e x; error = r .error; length = r .length; load = r .load; out = o }
+abbrev pub left : Settings → Carried → List ℕ → List ℕ → List ℕ → List ℕ → Left
+left s c r e x o =
+    record { after = held s (c .lamps) r e x; error = c .error; length = c .length; load = c .load; out = o }
 
 abbrev pub leave : Outcome → List ℕ → Left
 leave a o =
@@ -145,6 +152,11 @@ pub record Called : Type 0 where
 abbrev pub called : RequestAnswer → List ℕ → List ℕ → List ℕ → Called
 called r e x o =
     record { after = state (r .node) e x; refusal = r .refusal; length = r .length; load = r .load; response = o }
+
+-- the same of a call that was not refused, of a node in parts
+abbrev pub taken : Settings → Taken → List ℕ → List ℕ → List ℕ → List ℕ → Called
+taken s t r e x o =
+    record { after = held s (t .lamps) r e x; refusal = 0; length = t .length; load = t .load; response = o }
 
 -- no answer: the response buffer stays
 abbrev pub silent : State → ℕ → Bool → List ℕ → Called

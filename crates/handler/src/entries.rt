@@ -5,10 +5,10 @@ use batch::entry::Next;
 use batch::entry::next_entry;
 use dpa::frame::Frame;
 use dpa::settings::Settings;
-use node::record::Node;
+use lights::lamp::Lamp;
 ghost use mathlib.Core.Path.{_≡_};
 ghost use Rattle.batch.specs.Batch.{item, reading, runItems};
-ghost use Rattle.handler.specs.Request.{state, StateRule, forNode, entryAfter};
+ghost use Rattle.handler.specs.Request.{held, StateRule, forNode, entryAfter};
 
 // Whether a request's HWPID is the node's or the wildcard.
 pub fn for_node(settings: Settings, hwpid: u16) -> bool
@@ -22,43 +22,79 @@ pub fn for_node(settings: Settings, hwpid: u16) -> bool
 
 // One entry. Nobody is told its answer, which goes to an array of its own.
 fn run_entry(
-    node: Node,
+    settings: Settings,
+    lamps: [Lamp; 32],
     pnum: u8,
     pcmd: u8,
     hwpid: u16,
     pdata: &[u8],
+    ram: &mut [u8],
     eeprom: &mut [u8],
     external: &mut [u8],
-) -> Node
-    requires { ⌜ StateRule (state node (now eeprom) (now external)) ⌝ }
-    ensures { λ r. ⌜ state r (now (eeprom .exit)) (now (external .exit))
-        ≡ entryAfter (item pnum pcmd hwpid (now (pdata .entry))) (state node (now (eeprom .entry)) (now (external .entry))) ⌝ }
+) -> [Lamp; 32]
+    requires { ⌜ StateRule (held settings lamps (now ram) (now eeprom) (now external)) ⌝ }
+    ensures { λ r. ⌜ held settings r (now (ram .exit)) (now (eeprom .exit)) (now (external .exit))
+        ≡ entryAfter (item pnum pcmd hwpid (now (pdata .entry))) (held settings lamps (now (ram .entry)) (now (eeprom .entry)) (now (external .entry))) ⌝ }
 {
-    let settings = node.settings;
     if for_node(settings, hwpid) {
         let mut scratch = [0u8; Frame::PDATA_MAX];
-        let reply = peripheral(node, pnum, pcmd, pdata, eeprom, external, &mut scratch);
-        return reply.node;
+        let reply = peripheral(
+            settings,
+            lamps,
+            pnum,
+            pcmd,
+            pdata,
+            ram,
+            eeprom,
+            external,
+            &mut scratch,
+        );
+        return reply.lamps;
     }
-    node
+    lamps
 }
 
-// The entries that the remaining bytes read as, each with the node and the memories that the one before left.
-pub fn run_list(node: Node, rest: &[u8], eeprom: &mut [u8], external: &mut [u8]) -> Node
-    requires { ⌜ StateRule (state node (now eeprom) (now external)) ⌝ }
-    ensures { λ r. ⌜ state r (now (eeprom .exit)) (now (external .exit))
-        ≡ runItems entryAfter (reading (now (rest .entry)) .items) (state node (now (eeprom .entry)) (now (external .entry))) ⌝ }
+// The entries that a list reads as, each with the lamps and the memories that the one before left.
+pub fn run_list(
+    settings: Settings,
+    lamps: [Lamp; 32],
+    list: &[u8],
+    ram: &mut [u8],
+    eeprom: &mut [u8],
+    external: &mut [u8],
+) -> [Lamp; 32]
+    requires { ⌜ StateRule (held settings lamps (now ram) (now eeprom) (now external)) ⌝ }
+    ensures { λ r. ⌜ held settings r (now (ram .exit)) (now (eeprom .exit)) (now (external .exit))
+        ≡ runItems entryAfter (reading (now (list .entry)) .items) (held settings lamps (now (ram .entry)) (now (eeprom .entry)) (now (external .entry))) ⌝ }
 {
-    let first = next_entry(rest);
-    let Next::Entry {
-        len,
-        pnum,
-        pcmd,
-        hwpid,
-    } = first
-    else {
-        return node;
-    };
-    let next = run_entry(node, pnum, pcmd, hwpid, &rest[HEAD..len], eeprom, external);
-    run_list(next, &rest[len..], eeprom, external)
+    let mut after = lamps;
+    let mut at: usize = 0;
+    while at < list.len() {
+        let first = next_entry(&list[at..]);
+        let Next::Entry {
+            len,
+            pnum,
+            pcmd,
+            hwpid,
+        } = first
+        else {
+            return after;
+        };
+        let from = at + HEAD;
+        let to = at + len;
+        let next = run_entry(
+            settings,
+            after,
+            pnum,
+            pcmd,
+            hwpid,
+            &list[from..to],
+            ram,
+            eeprom,
+            external,
+        );
+        after = next;
+        at = to;
+    }
+    after
 }

@@ -5,79 +5,89 @@ use batch::list::list_error;
 use batch::list::read_list;
 use checksum::check::code_check;
 use dpa::error;
-use node::record::Node;
+use dpa::settings::Settings;
+use lights::lamp::Lamp;
 ghost use mathlib.Core.Path.{_≡_};
 ghost use mathlib.Core.Bool.{false};
 ghost use mathlib.Core.List.{List};
 ghost use Prim.Native.Nat.{ℕ, _≤_};
 ghost use lib.ListN.{length};
 ghost use Rattle.dpa.specs.Frame.{pdataMax};
-ghost use Rattle.handler.specs.Request.{state, StateRule, left, leave, batchOf, osOf};
+ghost use Rattle.handler.specs.Request.{held, StateRule, left, leave, batchOf, osOf};
 
 pub const BATCH: u8 = 5;
 
 pub const CODE_CHECK: u8 = 0x0A;
 
-// The node after a request, ErrN, the length of the answer's data and the load mark.
+// ErrN, the length of the answer's data, the load mark, and the lamps after a request.
 pub struct Carried {
-    pub node: Node,
     pub error: u8,
     pub length: usize,
     pub load: bool,
+    pub lamps: [Lamp; 32],
 }
 
 // A request that answers no data.
-pub fn without_data(node: Node, error: u8) -> Carried
-    ensures { λ r. ⌜ r ≡ record { node = node; error = error; length = 0; load = false } ⌝ }
+pub fn without_data(lamps: [Lamp; 32], error: u8) -> Carried
+    ensures { λ r. ⌜ r ≡ record { error = error; length = 0; load = false; lamps = lamps } ⌝ }
 {
     Carried {
-        node,
         error,
         length: 0,
         load: false,
+        lamps,
     }
 }
 
 // A list that cannot be read runs nothing.
-fn run_batch(node: Node, pdata: &[u8], eeprom: &mut [u8], external: &mut [u8]) -> Carried
-    requires { ⌜ StateRule (state node (now eeprom) (now external)) ⌝ }
-    ensures { λ r. ⌜ ((o : List ℕ) → left r (now (eeprom .exit)) (now (external .exit)) o
-        ≡ leave (batchOf (now (pdata .entry)) (state node (now (eeprom .entry)) (now (external .entry)))) o) ⌝ }
+fn run_batch(
+    settings: Settings,
+    lamps: [Lamp; 32],
+    pdata: &[u8],
+    ram: &mut [u8],
+    eeprom: &mut [u8],
+    external: &mut [u8],
+) -> Carried
+    requires { ⌜ StateRule (held settings lamps (now ram) (now eeprom) (now external)) ⌝ }
+    ensures { λ r. ⌜ ((o : List ℕ) → left settings r (now (ram .exit)) (now (eeprom .exit)) (now (external .exit)) o
+        ≡ leave (batchOf (now (pdata .entry)) (held settings lamps (now (ram .entry)) (now (eeprom .entry)) (now (external .entry)))) o) ⌝ }
 {
     if pdata.len() == 0 {
-        return without_data(node, error::DATA_LEN);
+        return without_data(lamps, error::DATA_LEN);
     }
     let listed = read_list(pdata);
     let Listed::Sound = listed else {
-        return without_data(node, list_error(listed));
+        return without_data(lamps, list_error(listed));
     };
-    let next = run_list(node, pdata, eeprom, external);
-    without_data(next, error::NONE)
+    let after = run_list(settings, lamps, pdata, ram, eeprom, external);
+    without_data(after, error::NONE)
 }
 
 pub fn os(
-    node: Node,
+    settings: Settings,
+    lamps: [Lamp; 32],
     pcmd: u8,
     pdata: &[u8],
+    ram: &mut [u8],
     eeprom: &mut [u8],
     external: &mut [u8],
     out: &mut [u8],
 ) -> Carried
-    requires { ⌜ StateRule (state node (now eeprom) (now external)) × (pdataMax ≤ length (now out)) ⌝ }
-    ensures { λ r. ⌜ left r (now (eeprom .exit)) (now (external .exit)) (now (out .exit))
-        ≡ leave (osOf pcmd (now (pdata .entry)) (state node (now (eeprom .entry)) (now (external .entry)))) (now (out .entry)) ⌝ }
+    requires { ⌜ StateRule (held settings lamps (now ram) (now eeprom) (now external)) × (pdataMax ≤ length (now out)) ⌝ }
+    ensures { λ r. ⌜ left settings r (now (ram .exit)) (now (eeprom .exit)) (now (external .exit)) (now (out .exit))
+        ≡ leave (osOf pcmd (now (pdata .entry)) (held settings lamps (now (ram .entry)) (now (eeprom .entry)) (now (external .entry)))) (now (out .entry)) ⌝ }
 {
     if pcmd == BATCH {
-        return run_batch(node, pdata, eeprom, external);
+        return run_batch(settings, lamps, pdata, ram, eeprom, external);
     }
     if pcmd == CODE_CHECK {
         let checked = code_check(external, pdata, out);
         return Carried {
-            node,
             error: checked.error,
             length: checked.length,
             load: checked.load,
+            lamps,
         };
     }
-    without_data(node, error::PCMD)
+    without_data(lamps, error::PCMD)
 }

@@ -1,5 +1,7 @@
 // Taking a request: from the frame to the response buffer.
 use crate::answer::RequestAnswer;
+use crate::answer::Taken;
+use crate::answer::not_mine;
 use crate::answer::unanswered;
 use crate::entries::for_node;
 use crate::os::Carried;
@@ -11,6 +13,8 @@ use dpa::frame::Frame;
 use dpa::frame::write_header;
 use dpa::pnum;
 use dpa::refusal;
+use dpa::settings::Settings;
+use lights::lamp::Lamp;
 use memory::block::Memory;
 use memory::block::size_of;
 use node::record::Node;
@@ -21,96 +25,165 @@ ghost use Prim.Native.Nat.{ℕ, _≤_};
 ghost use lib.ListN.{length};
 ghost use Rattle.dpa.specs.Frame.{headerSize, pdataMax, longestResponse};
 ghost use Rattle.batch.specs.Batch.{item};
-ghost use Rattle.handler.specs.Request.{state, StateRule, left, leave, carryOut, called, broadcast, respond, takenOf, requestRefusal, requestOf};
+ghost use Rattle.handler.specs.Request.{state, held, StateRule, left, leave, carryOut, called, taken, broadcast, respond, takenOf, requestRefusal, requestOf};
 
 // A request from HWPID on. The answer's data goes to the front of `out`.
 fn carry_out(
-    node: Node,
+    settings: Settings,
+    lamps: [Lamp; 32],
     header: Frame,
     pdata: &[u8],
+    ram: &mut [u8],
     eeprom: &mut [u8],
     external: &mut [u8],
     out: &mut [u8],
 ) -> Carried
-    requires { ⌜ StateRule (state node (now eeprom) (now external)) × (pdataMax ≤ length (now out)) ⌝ }
-    ensures { λ r. ⌜ left r (now (eeprom .exit)) (now (external .exit)) (now (out .exit))
-        ≡ leave (carryOut (item (header .pnum) (header .pcmd) (header .hwpid) (now (pdata .entry))) (state node (now (eeprom .entry)) (now (external .entry)))) (now (out .entry)) ⌝ }
+    requires { ⌜ StateRule (held settings lamps (now ram) (now eeprom) (now external)) × (pdataMax ≤ length (now out)) ⌝ }
+    ensures { λ r. ⌜ left settings r (now (ram .exit)) (now (eeprom .exit)) (now (external .exit)) (now (out .exit))
+        ≡ leave (carryOut (item (header .pnum) (header .pcmd) (header .hwpid) (now (pdata .entry)))
+        (held settings lamps (now (ram .entry)) (now (eeprom .entry)) (now (external .entry)))) (now (out .entry)) ⌝ }
 {
-    let settings = node.settings;
     if for_node(settings, header.hwpid) {
         if header.pnum == pnum::OS {
-            return os(node, header.pcmd, pdata, eeprom, external, out);
+            return os(
+                settings,
+                lamps,
+                header.pcmd,
+                pdata,
+                ram,
+                eeprom,
+                external,
+                out,
+            );
         }
-        let reply = peripheral(node, header.pnum, header.pcmd, pdata, eeprom, external, out);
-        let next = reply.node;
+        let reply = peripheral(
+            settings,
+            lamps,
+            header.pnum,
+            header.pcmd,
+            pdata,
+            ram,
+            eeprom,
+            external,
+            out,
+        );
+        let after = reply.lamps;
         return Carried {
-            node: next,
             error: reply.error,
             length: reply.length,
             load: false,
+            lamps: after,
         };
     }
-    without_data(node, error::HWPID)
+    without_data(lamps, error::HWPID)
 }
 
 // A broadcast is carried out and never answered: its data goes to an array of its own.
 fn take_broadcast(
-    node: Node,
+    settings: Settings,
+    lamps: [Lamp; 32],
     header: Frame,
     pdata: &[u8],
+    ram: &mut [u8],
     eeprom: &mut [u8],
     external: &mut [u8],
-) -> RequestAnswer
-    requires { ⌜ StateRule (state node (now eeprom) (now external)) ⌝ }
-    ensures { λ r. ⌜ ((o : List ℕ) → called r (now (eeprom .exit)) (now (external .exit)) o
-        ≡ broadcast (carryOut (item (header .pnum) (header .pcmd) (header .hwpid) (now (pdata .entry))) (state node (now (eeprom .entry)) (now (external .entry)))) o) ⌝ }
+) -> Taken
+    requires { ⌜ StateRule (held settings lamps (now ram) (now eeprom) (now external)) ⌝ }
+    ensures { λ r. ⌜ ((o : List ℕ) → taken settings r (now (ram .exit)) (now (eeprom .exit)) (now (external .exit)) o
+        ≡ broadcast (carryOut (item (header .pnum) (header .pcmd) (header .hwpid) (now (pdata .entry)))
+        (held settings lamps (now (ram .entry)) (now (eeprom .entry)) (now (external .entry)))) o) ⌝ }
 {
     let mut scratch = [0u8; Frame::PDATA_MAX];
-    let done = carry_out(node, header, pdata, eeprom, external, &mut scratch);
-    let next = done.node;
-    RequestAnswer {
-        refusal: refusal::NONE,
+    let done = carry_out(
+        settings,
+        lamps,
+        header,
+        pdata,
+        ram,
+        eeprom,
+        external,
+        &mut scratch,
+    );
+    let after = done.lamps;
+    Taken {
         length: 0,
         load: done.load,
-        node: next,
+        lamps: after,
     }
 }
 
 // A request to this node: the data part behind the header is lent on, then the header goes in front.
 fn take_own(
-    node: Node,
+    settings: Settings,
+    lamps: [Lamp; 32],
     header: Frame,
     pdata: &[u8],
+    ram: &mut [u8],
     eeprom: &mut [u8],
     external: &mut [u8],
     response: &mut [u8],
-) -> RequestAnswer
-    requires { ⌜ StateRule (state node (now eeprom) (now external)) × (longestResponse ≤ length (now response)) ⌝ }
-    ensures { λ r. ⌜ called r (now (eeprom .exit)) (now (external .exit)) (now (response .exit))
-        ≡ respond (node .settings) (item (header .pnum) (header .pcmd) (header .hwpid) (now (pdata .entry)))
-        (carryOut (item (header .pnum) (header .pcmd) (header .hwpid) (now (pdata .entry))) (state node (now (eeprom .entry)) (now (external .entry)))) (now (response .entry)) ⌝ }
+) -> Taken
+    requires { ⌜ StateRule (held settings lamps (now ram) (now eeprom) (now external)) × (longestResponse ≤ length (now response)) ⌝ }
+    ensures { λ r. ⌜ taken settings r (now (ram .exit)) (now (eeprom .exit)) (now (external .exit)) (now (response .exit))
+        ≡ respond settings (item (header .pnum) (header .pcmd) (header .hwpid) (now (pdata .entry)))
+        (carryOut (item (header .pnum) (header .pcmd) (header .hwpid) (now (pdata .entry)))
+        (held settings lamps (now (ram .entry)) (now (eeprom .entry)) (now (external .entry)))) (now (response .entry)) ⌝ }
 {
     let done = carry_out(
-        node,
+        settings,
+        lamps,
         header,
         pdata,
+        ram,
         eeprom,
         external,
         &mut response[Frame::RESPONSE_HEADER..],
     );
-    let settings = node.settings;
     write_header(response, settings, header.pnum, header.pcmd, done.error);
-    let next = done.node;
     let length = done.length;
-    RequestAnswer {
-        refusal: refusal::NONE,
+    let after = done.lamps;
+    Taken {
         length: Frame::RESPONSE_HEADER + length,
         load: done.load,
-        node: next,
+        lamps: after,
     }
 }
 
-// A frame that passed the refusals.
+// A frame that passed the refusals, at the parts of the node.
+fn take(
+    settings: Settings,
+    lamps: [Lamp; 32],
+    frame: &[u8],
+    ram: &mut [u8],
+    eeprom: &mut [u8],
+    external: &mut [u8],
+    response: &mut [u8],
+) -> Taken
+    requires { ⌜ StateRule (held settings lamps (now ram) (now eeprom) (now external)) × (headerSize ≤ length (now frame)) × (longestResponse ≤ length (now response)) ⌝ }
+    ensures { λ r. ⌜ taken settings r (now (ram .exit)) (now (eeprom .exit)) (now (external .exit)) (now (response .exit))
+        ≡ takenOf (now (frame .entry)) (held settings lamps (now (ram .entry)) (now (eeprom .entry)) (now (external .entry))) (now (response .entry)) ⌝ }
+{
+    let header = Frame::read(frame);
+    let pdata = &frame[Frame::HEADER..];
+    if header.nadr == Frame::BROADCAST {
+        return take_broadcast(settings, lamps, header, pdata, ram, eeprom, external);
+    }
+    if header.nadr == settings.address {
+        return take_own(
+            settings,
+            lamps,
+            header,
+            pdata,
+            ram,
+            eeprom,
+            external,
+            response,
+        );
+    }
+    not_mine(lamps)
+}
+
+// A frame that passed the refusals. The node is taken apart, since below here only its lamps and its RAM change.
 fn take_frame(
     node: Node,
     frame: &[u8],
@@ -122,21 +195,22 @@ fn take_frame(
     ensures { λ r. ⌜ called r (now (eeprom .exit)) (now (external .exit)) (now (response .exit))
         ≡ takenOf (now (frame .entry)) (state node (now (eeprom .entry)) (now (external .entry))) (now (response .entry)) ⌝ }
 {
-    let header = Frame::read(frame);
-    if header.nadr == Frame::BROADCAST {
-        return take_broadcast(node, header, &frame[Frame::HEADER..], eeprom, external);
+    let settings = node.settings;
+    let lamps = node.lamps;
+    let mut ram = node.ram;
+    let done = take(settings, lamps, frame, &mut ram, eeprom, external, response);
+    let after = done.lamps;
+    let next = Node {
+        settings,
+        lamps: after,
+        ram,
+    };
+    RequestAnswer {
+        refusal: refusal::NONE,
+        length: done.length,
+        load: done.load,
+        node: next,
     }
-    if header.nadr == node.settings.address {
-        return take_own(
-            node,
-            header,
-            &frame[Frame::HEADER..],
-            eeprom,
-            external,
-            response,
-        );
-    }
-    unanswered(node, refusal::NONE)
 }
 
 // The refusal of a call, 0 for none.

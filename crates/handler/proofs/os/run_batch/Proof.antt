@@ -3,24 +3,30 @@ use mathlib.Core.Path.{ap, sym, _∙_}
 use mathlib.Core.List.{[]}
 use Rattle.dpa.specs.Served.{served}
 use Rattle.batch.specs.Batch.{listError}
-use Rattle.handler.specs.Request.{State, state, Outcome, plain, leave}
+use Rattle.handler.specs.Request.{State, held, Outcome, plain, leave}
 use Rattle.handler.proofs.Carrying.{batch-empty, batch-broken, batch-runs, left-as}
 use Rattle.handler.proofs.os.run_batch.Statement.{statement}
 use Rattle.handler.proofs.os.run_batch.Tie as tie
 use Rattle.handler.proofs.os.run_batch.Reads as reads
 use Rattle.handler.proofs.os.run_batch.Lts as lts
-use Rattle.batch.proofs.list.read_list.Reads as read-list-reads
 use Rattle.batch.proofs.list.list_error.Reads as list-error-reads
+use Rattle.batch.proofs.list.read_list.Reads as read-list-reads
 use Rattle.handler.proofs.entries.run_list.Reads as run-list-reads
 use Rattle.handler.proofs.os.without_data.Reads as without-data-reads
+
+-- the state that the function is given
+abbrev given : tie.Start → State
+given c =
+    held (c .args .settings) (c .args .lamps) (c .args .ram .now) (c .args .eeprom .now) (c .args .external .now)
 
 without-data-requires : tie.Need-without-data-requires
 without-data-requires c κs = search needs
 
 returns : tie.Need-returns
 returns c = λ o.
-    let a = c .before .before .before .before .before .args in
-    left-as (c .without-data .ensures) ∙ ap (λ (x : Outcome). leave x o) (sym (batch-empty (a .pdata .now) (state (a .node) (a .eeprom .now) (a .external .now)) (c .before .if1 .taken)))
+    let s = c .before .before .before .before .before .before in
+    left-as (c .without-data .ensures)
+    ∙ ap (λ (x : Outcome). leave x o) (sym (batch-empty (s .args .pdata .now) (given s) (c .before .if1 .taken)))
 
 read-list-requires : tie.Need-read-list-requires
 read-list-requires c κs = search needs
@@ -39,11 +45,11 @@ without-data-requires-2 c κs = search needs
 
 returns-2 : tie.Need-returns-2
 returns-2 c = λ o.
-    let a = c .before .before .before .before .before .before .before .before .before .args in
-    let e = c .before .before .before .before .read-list .ensures in
+    let r = c .before .before .before .before in
+    let s = r .before .before .before .before .before .before in
     left-as (c .without-data2 .ensures)
     ∙ ap (λ (x : Outcome). leave x o)
-    (sym (batch-broken (a .pdata .now) (state (a .node) (a .eeprom .now) (a .external .now)) (c .before .before .before .before .before .if1 .left) (sym e ∙ c .before .before .enum-told2 .given .1) (c .before .list-error .ensures ∙ ap listError e)))
+    (sym (batch-broken (s .args .pdata .now) (given s) (r .before .if1 .left) (sym (r .read-list .ensures) ∙ c .before .before .enum-told2 .given .1) (c .before .list-error .ensures ∙ ap listError (r .read-list .ensures))))
 
 run-list-requires : tie.Need-run-list-requires
 run-list-requires c κs = search needs
@@ -57,12 +63,17 @@ same-length c = search needs
 same-length-2 : tie.Need-same-length-2
 same-length-2 c = search needs
 
+same-length-3 : tie.Need-same-length-3
+same-length-3 c = search needs
+
 returns-3 : tie.Need-returns-3
 returns-3 c = λ o.
-    let a = c .before .before .before .before .before .before .before .before .before .before .before .before .before .before .before .args in
+    let r = c .before .before .before .before .before .before .before .before .before .before .before .before .before in
+    let s = r .before .before .before .before .before .before in
     left-as (c .without-data3 .ensures)
-    ∙ ap (λ (s : State). leave (plain (served s 0 [])) o) (c .before .before .before .before .before .run-list .ensures)
-    ∙ ap (λ (x : Outcome). leave x o) (sym (batch-runs (a .pdata .now) (state (a .node) (a .eeprom .now) (a .external .now)) (c .before .before .before .before .before .before .before .before .before .before .before .if1 .left) (sym (c .before .before .before .before .before .before .before .before .before .before .read-list .ensures) ∙ c .before .before .before .before .before .before .before .before .enum-told .given .1)))
+    ∙ ap (λ (x : State). leave (plain (served x 0 [])) o) (c .before .before .before .before .before .before .before .run-list .ensures)
+    ∙ ap (λ (x : Outcome). leave x o)
+    (sym (batch-runs (s .args .pdata .now) (given s) (r .before .if1 .left) (sym (r .read-list .ensures) ∙ c .before .before .before .before .before .before .before .before .before .before .before .enum-told .given .1)))
 
 pub run-batch-spec : {M : Type 1} → statement M
 run-batch-spec =
@@ -80,4 +91,5 @@ run-batch-spec =
     without-data-requires-3
     same-length
     same-length-2
+    same-length-3
     returns-3)

@@ -1,16 +1,25 @@
 use borrow.Author.Needs.{needs}
 use mathlib.Core.Path.{ap, sym, _∙_}
-use Rattle.batch.specs.Batch.{item}
-use Rattle.handler.specs.Request.{state, perform, Outcome, leave}
+use Rattle.batch.specs.Batch.{Item, item}
+use Rattle.handler.specs.Request.{State, held, perform, Outcome, leave}
 use Rattle.handler.proofs.Carrying.{carry-other, carry-os, carry-peripheral, left-as, left-plain}
 use Rattle.handler.proofs.request.carry_out.Statement.{statement}
 use Rattle.handler.proofs.request.carry_out.Tie as tie
 use Rattle.handler.proofs.request.carry_out.Reads as reads
 use Rattle.handler.proofs.request.carry_out.Lts as lts
 use Rattle.handler.proofs.entries.for_node.Reads as for-node-reads
-use Rattle.handler.proofs.os.without_data.Reads as without-data-reads
 use Rattle.handler.proofs.os.os.Reads as os-reads
+use Rattle.handler.proofs.os.without_data.Reads as without-data-reads
 use Rattle.handler.proofs.peripheral.peripheral.Reads as peripheral-reads
+
+-- the state that the function is given
+abbrev given : tie.Start → State
+given c =
+    held (c .args .settings) (c .args .lamps) (c .args .ram .now) (c .args .eeprom .now) (c .args .external .now)
+
+-- and the request
+abbrev asked : tie.Start → Item
+asked c = item (c .args .header .pnum) (c .args .header .pcmd) (c .args .header .hwpid) (c .args .pdata .now)
 
 for-node-requires : tie.Need-for-node-requires
 for-node-requires c κs = search needs
@@ -27,17 +36,18 @@ same-length-2 c = search needs
 same-length-3 : tie.Need-same-length-3
 same-length-3 c = search needs
 
+same-length-4 : tie.Need-same-length-4
+same-length-4 c = search needs
+
 returns : tie.Need-returns
 returns c =
-    let a = c .before .before .before .before .before .before .before .before .before .before .before .before .before .before .before .before .before .before .before .args in
-    c .before .before .before .before .before .before .os .ensures
-    ∙ ap (λ (x : Outcome). leave x (a .out .now)) (sym (carry-os (item (a .header .pnum) (a .header .pcmd) (a .header .hwpid) (a .pdata .now)) (state (a .node) (a .eeprom .now) (a .external .now)) (sym (c .before .before .before .before .before .before .before .before .before .before .before .before .before .for-node .ensures) ∙ c .before .before .before .before .before .before .before .before .before .before .before .before .if1 .taken) (c .before .before .before .before .before .before .before .before .before .before .if2 .taken)))
+    let s = c .before .before .before .before .before .before .before .before .before .before .before .before .before .before .before .before .before .before .before .before .before .before in
+    c .before .before .before .before .before .before .before .before .os .ensures
+    ∙ ap (λ (x : Outcome). leave x (s .args .out .now))
+    (sym (carry-os (asked s) (given s) (sym (c .before .before .before .before .before .before .before .before .before .before .before .before .before .before .before .before .for-node .ensures) ∙ c .before .before .before .before .before .before .before .before .before .before .before .before .before .before .before .if1 .taken) (c .before .before .before .before .before .before .before .before .before .before .before .before .before .if2 .taken)))
 
 peripheral-requires : tie.Need-peripheral-requires
 peripheral-requires c κs = search needs
-
-same-length-4 : tie.Need-same-length-4
-same-length-4 c = search needs
 
 same-length-5 : tie.Need-same-length-5
 same-length-5 c = search needs
@@ -45,20 +55,28 @@ same-length-5 c = search needs
 same-length-6 : tie.Need-same-length-6
 same-length-6 c = search needs
 
+same-length-7 : tie.Need-same-length-7
+same-length-7 c = search needs
+
+same-length-8 : tie.Need-same-length-8
+same-length-8 c = search needs
+
 returns-2 : tie.Need-returns-2
 returns-2 c =
-    let a = c .before .before .before .before .before .before .before .before .before .before .before .before .before .before .before .before .before .before .before .before .args in
-    left-plain (perform (a .header .pnum) (a .header .pcmd) (a .pdata .now) (state (a .node) (a .eeprom .now) (a .external .now))) (a .out .now) (c .before .before .before .before .before .before .before .peripheral .ensures)
-    ∙ ap (λ (x : Outcome). leave x (a .out .now)) (sym (carry-peripheral (item (a .header .pnum) (a .header .pcmd) (a .header .hwpid) (a .pdata .now)) (state (a .node) (a .eeprom .now) (a .external .now)) (sym (c .before .before .before .before .before .before .before .before .before .before .before .before .before .before .for-node .ensures) ∙ c .before .before .before .before .before .before .before .before .before .before .before .before .before .if1 .taken) (c .before .before .before .before .before .before .before .before .before .before .before .if2 .left)))
+    let s = c .before .before .before .before .before .before .before .before .before .before .before .before .before .before .before .before .before .before .before .before .before .before .before in
+    left-plain (perform (s .args .header .pnum) (s .args .header .pcmd) (s .args .pdata .now) (given s)) (s .args .out .now) (c .before .before .before .before .before .before .before .before .before .peripheral .ensures)
+    ∙ ap (λ (x : Outcome). leave x (s .args .out .now))
+    (sym (carry-peripheral (asked s) (given s) (sym (c .before .before .before .before .before .before .before .before .before .before .before .before .before .before .before .before .before .for-node .ensures) ∙ c .before .before .before .before .before .before .before .before .before .before .before .before .before .before .before .before .if1 .taken) (c .before .before .before .before .before .before .before .before .before .before .before .before .before .before .if2 .left)))
 
 without-data-requires : tie.Need-without-data-requires
 without-data-requires c κs = search needs
 
 returns-3 : tie.Need-returns-3
 returns-3 c =
-    let a = c .before .before .before .before .before .before .before .before .args in
+    let s = c .before .before .before .before .before .before .before .before in
     left-as (c .without-data .ensures)
-    ∙ ap (λ (x : Outcome). leave x (a .out .now)) (sym (carry-other (item (a .header .pnum) (a .header .pcmd) (a .header .hwpid) (a .pdata .now)) (state (a .node) (a .eeprom .now) (a .external .now)) (sym (c .before .before .for-node .ensures) ∙ c .before .if1 .left)))
+    ∙ ap (λ (x : Outcome). leave x (s .args .out .now))
+    (sym (carry-other (asked s) (given s) (sym (c .before .before .for-node .ensures) ∙ c .before .if1 .left)))
 
 pub carry-out-spec : {M : Type 1} → statement M
 carry-out-spec =
@@ -69,11 +87,13 @@ carry-out-spec =
     same-length
     same-length-2
     same-length-3
+    same-length-4
     returns
     peripheral-requires
-    same-length-4
     same-length-5
     same-length-6
+    same-length-7
+    same-length-8
     returns-2
     without-data-requires
     returns-3)

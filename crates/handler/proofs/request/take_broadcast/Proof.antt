@@ -19,10 +19,19 @@ same-length c = search needs
 same-length-2 : tie.Need-same-length-2
 same-length-2 c = search needs
 
+same-length-3 : tie.Need-same-length-3
+same-length-3 c = search needs
+
 returns : tie.Need-returns
-returns c = λ o. ap (λ (l : Left). silent (l .after) 0 (l .load) o) (c .before .before .before .before .before .before .carry-out .ensures)
+returns c = λ o. ap (λ (l : Left). silent (l .after) 0 (l .load) o) (c .before .before .before .before .before .before .before .before .carry-out .ensures)
 
 pub take-broadcast-spec : {M : Type 1} → statement M
 take-broadcast-spec =
     tie.close
-    (tie.spec slice-aggregate-carry-out carry-out-requires same-length same-length-2 returns)
+    (tie.spec
+    slice-aggregate-carry-out
+    carry-out-requires
+    same-length
+    same-length-2
+    same-length-3
+    returns)

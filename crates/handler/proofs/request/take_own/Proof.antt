@@ -1,8 +1,8 @@
 use borrow.Author.Needs.{needs}
 use native.Mathlib.Omega.{arith}
 use mathlib.Core.Path.{ap}
-use Rattle.batch.specs.Batch.{item}
-use Rattle.handler.specs.Request.{Left, state, carryOut}
+use Rattle.batch.specs.Batch.{Item, item}
+use Rattle.handler.specs.Request.{State, held, Left, carryOut}
 use Rattle.handler.proofs.Sizes.{carry-fits}
 use Rattle.handler.proofs.Taking.{own-answer}
 use Rattle.handler.proofs.request.take_own.Statement.{statement}
@@ -11,6 +11,15 @@ use Rattle.handler.proofs.request.take_own.Reads as reads
 use Rattle.handler.proofs.request.take_own.Lts as lts
 use Rattle.dpa.proofs.frame.write_header.Reads as write-header-reads
 use Rattle.handler.proofs.request.carry_out.Reads as carry-out-reads
+
+-- the state that the function is given
+abbrev given : tie.Start → State
+given c =
+    held (c .args .settings) (c .args .lamps) (c .args .ram .now) (c .args .eeprom .now) (c .args .external .now)
+
+-- and the request
+abbrev asked : tie.Start → Item
+asked c = item (c .args .header .pnum) (c .args .header .pcmd) (c .args .header .hwpid) (c .args .pdata .now)
 
 sub-carry-out : tie.Need-sub-carry-out
 sub-carry-out c = search needs
@@ -27,12 +36,11 @@ carry-out-requires c κs = search needs
 write-header-requires : tie.Need-write-header-requires
 write-header-requires c κs = search needs
 
-add-t16 : tie.Need-add-t16
-add-t16 c =
-    let a = c .before .before .before .before .before .before .before .before .before .before .before .before .before .before .before .before .before .before .before .before .args in
-    let p = c .before .before .before .before .before .before .before .before .before .before .before .before .before .before .before .before .before .before .before .before .pre in
-    let n = ap (λ (l : Left). l .length) (c .before .before .before .before .before .before .before .before .before .before .before .before .carry-out .ensures) in
-    let z = carry-fits (item (a .header .pnum) (a .header .pcmd) (a .header .hwpid) (a .pdata .now)) (state (a .node) (a .eeprom .now) (a .external .now)) (p .0) in
+add-t19 : tie.Need-add-t19
+add-t19 c =
+    let s = c .before .before .before .before .before .before .before .before .before .before .before .before .before .before .before .before .before .before .before .before .before .before .before in
+    let n = ap (λ (l : Left). l .length) (c .before .before .before .before .before .before .before .before .before .before .before .before .before .carry-out .ensures) in
+    let z = carry-fits (asked s) (given s) (s .pre .0) in
     omega arith
 
 same-length : tie.Need-same-length
@@ -44,14 +52,14 @@ same-length-2 c = search needs
 same-length-3 : tie.Need-same-length-3
 same-length-3 c = search needs
 
+same-length-4 : tie.Need-same-length-4
+same-length-4 c = search needs
+
 returns : tie.Need-returns
 returns c =
-    let a = c .before .before .before .before .before .before .before .before .before .before .before .before .before .before .before .before .before .before .before .before .args in
-    let p = c .before .before .before .before .before .before .before .before .before .before .before .before .before .before .before .before .before .before .before .before .pre in
-    own-answer (a .response .now) (c .before .before .before .before .before .before .before .before .before .before .before .before .carry-out .last .1 .1 .1 .1 .1 .0) (omega (arith, p .1)) (a .node .settings)
-    (item (a .header .pnum) (a .header .pcmd) (a .header .hwpid) (a .pdata .now))
-    (carryOut (item (a .header .pnum) (a .header .pcmd) (a .header .hwpid) (a .pdata .now)) (state (a .node) (a .eeprom .now) (a .external .now)))
-    (c .before .before .before .before .before .before .before .before .before .before .before .before .carry-out .ensures) (c .before .before .before .write-header .ensures)
+    let s = c .before .before .before .before .before .before .before .before .before .before .before .before .before .before .before .before .before .before .before .before .before .before .before in
+    own-answer (s .args .response .now) (c .before .before .before .before .before .before .before .before .before .before .before .before .before .carry-out .last .1 .1 .1 .1 .1 .1 .1 .0) (omega (arith, s .pre .1)) (s .args .settings)
+    (asked s) (carryOut (asked s) (given s)) (c .before .before .before .before .before .before .before .before .before .before .before .before .before .carry-out .ensures) (c .before .before .before .write-header .ensures)
 
 pub take-own-spec : {M : Type 1} → statement M
 take-own-spec =
@@ -62,8 +70,9 @@ take-own-spec =
     part-carry-out-end
     carry-out-requires
     write-header-requires
-    add-t16
+    add-t19
     same-length
     same-length-2
     same-length-3
+    same-length-4
     returns)

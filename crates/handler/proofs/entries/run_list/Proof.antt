@@ -1,0 +1,136 @@
+use borrow.Author.Needs.{needs}
+use native.Mathlib.Omega.{arith}
+use mathlib.Core.Path.{_≡_, refl, sym, _∙_}
+use Prim.Native.Nat.{_-_, _+_, _≤_}
+use lib.ListN.{length, take, drop}
+use Rattle.batch.specs.declared.entry.Next.the-variants.{Entry}
+use Rattle.batch.specs.Batch.{nextOf}
+use Rattle.handler.specs.Request.{held}
+use Rattle.handler.proofs.Listing.{Running, run-starts, run-ends, turn-sized, turn-runs, turn-ends}
+use Rattle.handler.proofs.entries.run_list.Statement.{statement}
+use Rattle.handler.proofs.entries.run_list.Tie as tie
+use Rattle.handler.proofs.entries.run_list.Reads as reads
+use Rattle.handler.proofs.entries.run_list.Lts as lts
+use Rattle.batch.proofs.entry.next_entry.Reads as next-entry-reads
+use Rattle.handler.proofs.entries.run_entry.Reads as run-entry-reads
+
+abbrev Inv-loop : tie.InvT-loop
+Inv-loop settings list ram₀ eeprom₀ external₀ after₀ at₀ ram eeprom external after at =
+    Running list (held settings after₀ ram₀ eeprom₀ external₀) at (held settings after ram eeprom external)
+    × (length ram ≡ length ram₀) × (length eeprom ≡ length eeprom₀) × (length external ≡ length external₀)
+
+abbrev μ-loop : tie.MeasureT-loop
+μ-loop settings list ram₀ eeprom₀ external₀ after₀ at₀ ram eeprom external after at = length list - at
+
+-- the entry that stands at the place
+first-is : (c : tie.After-known-told Inv-loop μ-loop) →
+    let list = c .before .before .before .before .before .before .before .before .before .before .before .args .list .now in
+    let at = c .before .before .before .before .before .before .loop .at in
+    let g = c .before .first .given .0 in
+    nextOf (take (length list - at) (drop at list)) ≡ Entry (g .0) (g .1 .0) (g .1 .1 .0) (g .1 .1 .1 .0)
+first-is c = sym (c .before .before .before .next-entry .ensures) ∙ c .before .first .given .1
+
+sized : (c : tie.After-known-told Inv-loop μ-loop) →
+    (5 ≤ c .before .first .given .0 .0) × (c .before .before .before .before .before .before .loop .at + c .before .first .given .0 .0 ≤ length (c .before .before .before .before .before .before .before .before .before .before .before .args .list .now))
+sized c = turn-sized _ _ _ _ (c .before .before .before .before .before .before .loop .inv .0) (first-is c)
+
+loop-holds : tie.Need-loop-holds Inv-loop μ-loop
+loop-holds c = (run-starts _ _ (c .before .before .before .before .pre), refl, refl, refl)
+
+sub-next-entry : tie.Need-sub-next-entry Inv-loop μ-loop
+sub-next-entry c = omega (arith, c .before .loop .inv .0 .place-max)
+
+part-next-entry-start : tie.Need-part-next-entry-start Inv-loop μ-loop
+part-next-entry-start c = omega (arith, c .before .loop .inv .0 .place-max)
+
+part-next-entry-end : tie.Need-part-next-entry-end Inv-loop μ-loop
+part-next-entry-end c = search needs
+
+next-entry-requires : tie.Need-next-entry-requires Inv-loop μ-loop
+next-entry-requires c κs = search needs
+
+enum-known-first : tie.Need-enum-known-first Inv-loop μ-loop
+enum-known-first c = search needs
+
+same-length : tie.Need-same-length Inv-loop μ-loop
+same-length c = search needs
+
+same-length-2 : tie.Need-same-length-2 Inv-loop μ-loop
+same-length-2 c = search needs
+
+same-length-3 : tie.Need-same-length-3 Inv-loop μ-loop
+same-length-3 c = search needs
+
+returns : tie.Need-returns Inv-loop μ-loop
+returns c = turn-ends _ _ _ _ (c .before .before .before .before .loop .inv .0) (c .before .next-entry .ensures) (c .match .keys2)
+
+add-from : tie.Need-add-from Inv-loop μ-loop
+add-from c = let z = sized c in omega arith
+
+add-to : tie.Need-add-to Inv-loop μ-loop
+add-to c = let z = sized c in omega arith
+
+sub-run-entry : tie.Need-sub-run-entry Inv-loop μ-loop
+sub-run-entry c = let z = sized c in omega arith
+
+part-run-entry-start : tie.Need-part-run-entry-start Inv-loop μ-loop
+part-run-entry-start c = let z = sized c in omega arith
+
+part-run-entry-end : tie.Need-part-run-entry-end Inv-loop μ-loop
+part-run-entry-end c = let z = sized c in omega arith
+
+run-entry-requires : tie.Need-run-entry-requires Inv-loop μ-loop
+run-entry-requires c κs = c .before .before .before .before .before .before .before .before .before .before .loop .inv .0 .sound
+
+loop-less : tie.Need-loop-less Inv-loop μ-loop
+loop-less c = let z = sized (c .before .before .before .before .before .before .before .before .before .before .before) in omega arith
+
+loop-again : tie.Need-loop-again Inv-loop μ-loop
+loop-again c =
+    let i = c .before .before .before .before .before .before .before .before .before .before .before .before .before .before .before .before .before .loop .inv in (
+      turn-runs _ _ _ _ (i .0) (first-is (c .before .before .before .before .before .before .before .before .before .before .before)) (c .before .before .before .before .before .before .run-entry .ensures),
+      c .before .before .before .before .before .before .run-entry .kept .1 .1 .1 .1 .1 .1 .0 ∙ i .1,
+      c .before .before .before .before .before .before .run-entry .kept .1 .1 .1 .1 .1 .1 .1 .0 ∙ i .2,
+      c .before .before .before .before .before .before .run-entry .kept .1 .1 .1 .1 .1 .1 .1 .1 .0 ∙ i .3,
+    )
+
+same-length-4 : tie.Need-same-length-4 Inv-loop μ-loop
+same-length-4 c = search needs
+
+same-length-5 : tie.Need-same-length-5 Inv-loop μ-loop
+same-length-5 c = search needs
+
+same-length-6 : tie.Need-same-length-6 Inv-loop μ-loop
+same-length-6 c = search needs
+
+returns-2 : tie.Need-returns-2 Inv-loop μ-loop
+returns-2 c = run-ends _ _ _ _ (c .before .loop .inv .0) (omega arith)
+
+pub run-list-spec : {M : Type 1} → statement M
+run-list-spec =
+    tie.close
+    (tie.spec
+    Inv-loop
+    μ-loop
+    loop-holds
+    sub-next-entry
+    part-next-entry-start
+    part-next-entry-end
+    next-entry-requires
+    enum-known-first
+    same-length
+    same-length-2
+    same-length-3
+    returns
+    add-from
+    add-to
+    sub-run-entry
+    part-run-entry-start
+    part-run-entry-end
+    run-entry-requires
+    loop-less
+    loop-again
+    same-length-4
+    same-length-5
+    same-length-6
+    returns-2)
