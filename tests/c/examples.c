@@ -1,7 +1,10 @@
-/* The worked examples of document 01 from C, against include/grelfint.h.
+/* The worked examples of document 01 from C, against include/grelfint.h. From
+ * the repository's root:
  *
- *   gcc -std=c11 -Wall -Wextra -Werror -I../include c/examples.c \
- *       ../target/staticlib/libgrelfint.a -o examples && ./examples
+ *   rt staticlib grelfint && mkdir -p target/tests
+ *   gcc -std=c11 -Wall -Wextra -Werror -Iinclude tests/c/examples.c \
+ *       target/staticlib/libgrelfint.a -o target/tests/examples
+ *   target/tests/examples
  *
  * Prints what fails, then `N passed` (or `N passed, M failed`, status 1). */
 #include <stdio.h>

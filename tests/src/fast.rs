@@ -1,6 +1,6 @@
 //! Document 01's rules written for speed and without allocation: the other
 //! side of the benchmark. `sessions.rs` compares it with the plain reference.
-use super::ffi::{CompileAnswer, Node, NodeAnswer, RequestAnswer};
+use super::ffi::{CompileAnswer, Lamp, Node, NodeAnswer, RequestAnswer};
 
 fn sound(node: &Node) -> bool {
     let s = &node.settings;
@@ -40,15 +40,9 @@ struct Memories<'a> {
     external: &'a mut [u8; 16384],
 }
 
-#[inline(never)]
-pub fn handle_request(
-    mut node: Node,
-    frame: &[u8],
-    eeprom: &mut [u8],
-    external: &mut [u8],
-    response: &mut [u8],
-) -> RequestAnswer {
-    let refusal = if !sound(&node) {
+#[inline]
+fn refusal(node: &Node, frame: &[u8], eeprom: &[u8], external: &[u8], response: &[u8]) -> u8 {
+    if !sound(node) {
         1
     } else if frame.len() < 6 || frame.len() > 62 {
         2
@@ -58,7 +52,18 @@ pub fn handle_request(
         4
     } else {
         0
-    };
+    }
+}
+
+#[inline(never)]
+pub fn handle_request(
+    mut node: Node,
+    frame: &[u8],
+    eeprom: &mut [u8],
+    external: &mut [u8],
+    response: &mut [u8],
+) -> RequestAnswer {
+    let refusal = refusal(&node, frame, eeprom, external, response);
     if refusal != 0 {
         return RequestAnswer { refusal, length: 0, load: false, node };
     }
@@ -79,8 +84,7 @@ pub fn handle_request(
         return RequestAnswer { refusal: 0, length: 0, load, node };
     }
     let s = &node.settings;
-    let a = s.address.to_le_bytes();
-    let h = s.hwpid.to_le_bytes();
+    let (a, h) = (s.address.to_le_bytes(), s.hwpid.to_le_bytes());
     response[..8].copy_from_slice(&[a[0], a[1], frame[2], frame[3] | 0x80, h[0], h[1], error, s.dpa_value]);
     RequestAnswer { refusal: 0, length: 8 + length, load, node }
 }
@@ -177,28 +181,33 @@ fn actual(level: u8, step: u8) -> u8 {
     }
 }
 
-fn lights(node: &mut Node, pcmd: u8, p: &[u8], data: Option<&mut [u8; 56]>) -> Result<usize, u8> {
-    let Some((bitmap, entries)) = p.split_first_chunk::<4>() else { return Err(6) };
-    let mask = u32::from_le_bytes(*bitmap);
-    let ones = mask.count_ones() as usize;
-    // test all entries first
+/// Whether these bytes are that many good entries.
+#[inline]
+fn entries_good(entries: &[u8], count: usize) -> bool {
     let mut i = 0;
-    for _ in 0..ones {
-        let Some(&b) = entries.get(i) else { return Err(6) };
+    for _ in 0..count {
+        let Some(&b) = entries.get(i) else { return false };
         let power = b & 0x7F;
         if power > 100 && power != 127 {
-            return Err(6);
+            return false;
         }
         i += 1;
         if b >= 0x80 {
-            let Some(&t) = entries.get(i) else { return Err(6) };
+            let Some(&t) = entries.get(i) else { return false };
             if t & 0x7F == 0 {
-                return Err(6);
+                return false;
             }
             i += 1;
         }
     }
-    if i != entries.len() {
+    i == entries.len()
+}
+
+fn lights(node: &mut Node, pcmd: u8, p: &[u8], data: Option<&mut [u8; 56]>) -> Result<usize, u8> {
+    let Some((bitmap, entries)) = p.split_first_chunk::<4>() else { return Err(6) };
+    let mask = u32::from_le_bytes(*bitmap);
+    let ones = mask.count_ones() as usize;
+    if !entries_good(entries, ones) {
         return Err(6);
     }
     let mut none = [0u8; 56];
@@ -219,24 +228,28 @@ fn lights(node: &mut Node, pcmd: u8, p: &[u8], data: Option<&mut [u8; 56]>) -> R
             i += 1;
             seconds = if t >= 0x80 { (t & 0x7F) as u16 } else { 60 * t as u16 };
         }
+        data[k] = 0;
         if lamp < count {
             let l = &mut node.lamps[lamp & 31];
             data[k] = actual(l.level, step);
-            let power = b & 0x7F;
-            if power != 127 {
-                l.level = match pcmd {
-                    0 => power,
-                    1 => (l.level + power).min(100),
-                    _ => l.level.saturating_sub(power),
-                };
-                l.seconds = if l.level == 0 { 0 } else { seconds };
-            }
-        } else {
-            data[k] = 0;
+            change(l, pcmd, b & 0x7F, seconds);
         }
         k += 1;
     }
     Ok(ones)
+}
+
+#[inline]
+fn change(l: &mut Lamp, pcmd: u8, power: u8, seconds: u16) {
+    if power == 127 {
+        return;
+    }
+    l.level = match pcmd {
+        0 => power,
+        1 => (l.level + power).min(100),
+        _ => l.level.saturating_sub(power),
+    };
+    l.seconds = if l.level == 0 { 0 } else { seconds };
 }
 
 fn batch(node: &mut Node, m: &mut Memories, p: &[u8]) -> Result<usize, u8> {
@@ -305,24 +318,19 @@ fn good(s: &[u8]) -> bool {
     }
 }
 
-/// One pass over the steps: requests are written behind room for as many
-/// length bytes as there can be, then moved up.
-#[inline(never)]
-pub fn compile(book: &[u8], scene: usize, address: u16, hwpid: u16, out: &mut [u8]) -> CompileAnswer {
-    let refused = |refusal, step| CompileAnswer { refusal, step, length: 0 };
-    if address.wrapping_sub(1) > 238 && address != 255 {
-        return refused(1, 0);
-    }
-    let Some(&n) = book.first() else { return refused(6, 0) };
+/// The steps of a scene, or the refusal (6 or 7).
+#[inline]
+fn steps_of(book: &[u8], scene: usize) -> Result<&[u8], u8> {
+    let Some(&n) = book.first() else { return Err(6) };
     let n = n as usize;
     if n > 16 || book.len() < 1 + 3 * n {
-        return refused(6, 0);
+        return Err(6);
     }
     let mut end = 1 + 3 * n;
     let mut body = 0..0;
     for (i, c) in book[1..1 + 3 * n].chunks_exact(3).enumerate() {
         if c[2] > 64 || (c[0] as usize | (c[1] as usize) << 8) != end {
-            return refused(6, 0);
+            return Err(6);
         }
         let next = end + 4 * c[2] as usize;
         if i == scene {
@@ -331,12 +339,104 @@ pub fn compile(book: &[u8], scene: usize, address: u16, hwpid: u16, out: &mut [u
         end = next;
     }
     if end != book.len() {
-        return refused(6, 0);
+        return Err(6);
     }
     if scene >= n {
-        return refused(7, 0);
+        return Err(7);
     }
-    let steps = &book[body];
+    Ok(&book[body])
+}
+
+/// Writes the entry of as many first steps as join; answers its bytes and
+/// the bytes of those steps.
+#[inline]
+fn first_entry(steps: &[u8], h: [u8; 2], e: &mut [u8; 64]) -> (usize, usize) {
+    let kind = steps[0];
+    let lamps = kind <= 2;
+    let mut size = if lamps { 4 } else { 1 }; // PData of the entry
+    e[5] = if lamps { 0 } else { steps[1] };
+    e[6..9].fill(0);
+    let mut taken = 0;
+    let mut before = 0u8;
+    for s in steps.chunks_exact(4) {
+        let more = if lamps && s[3] != 0 { 2 } else { 1 };
+        if taken != 0 {
+            let follows = if lamps { s[1] > before } else { s[1] == before + 1 };
+            if s[0] != kind || !follows || size + more > 50 {
+                break;
+            }
+        }
+        before = s[1];
+        if lamps {
+            e[5 + (s[1] / 8) as usize] |= 1 << (s[1] % 8);
+        }
+        if more == 2 {
+            e[5 + size] = s[2] | 0x80;
+            e[6 + size] = s[3];
+        } else {
+            e[5 + size] = s[2];
+        }
+        size += more;
+        taken += 4;
+    }
+    let (pnum, pcmd) = match kind {
+        3 => (5, 1),
+        4 => (3, 1),
+        k => (0x71, k),
+    };
+    e[..5].copy_from_slice(&[5 + size as u8, pnum, pcmd, h[0], h[1]]);
+    (5 + size, taken)
+}
+
+/// Requests one behind the other, and the length of each.
+struct Requests {
+    bytes: [u8; 2048],
+    used: usize,
+    lengths: [u8; 64],
+    count: usize,
+    /// Bytes of the last one's list.
+    list: usize,
+}
+
+impl Requests {
+    /// An entry goes behind the last one, or opens a new request.
+    #[inline]
+    fn add(&mut self, entry: &[u8], header: &[u8; 6]) {
+        if self.count == 0 || self.list + entry.len() + 1 > 56 {
+            self.close();
+            self.bytes[self.used..self.used + 6].copy_from_slice(header);
+            self.used += 6;
+            self.count += 1;
+            self.list = 0;
+        }
+        self.bytes[self.used..self.used + entry.len()].copy_from_slice(entry);
+        self.used += entry.len();
+        self.list += entry.len();
+    }
+
+    /// The zero and the length of the last request, if there is one.
+    #[inline]
+    fn close(&mut self) {
+        if self.count != 0 {
+            self.bytes[self.used] = 0;
+            self.used += 1;
+            self.lengths[self.count - 1] = (6 + self.list + 1) as u8;
+        }
+    }
+}
+
+/// One pass over the steps: the requests are made in a buffer of their own
+/// and copied behind their lengths.
+#[inline(never)]
+pub fn compile(book: &[u8], scene: usize, address: u16, hwpid: u16, out: &mut [u8]) -> CompileAnswer {
+    let refused = |refusal, step| CompileAnswer { refusal, step, length: 0 };
+    if address.wrapping_sub(1) > 238 && address != 255 {
+        return refused(1, 0);
+    }
+    let steps = match steps_of(book, scene) {
+        Ok(steps) => steps,
+        Err(refusal) => return refused(refusal, 0),
+    };
     for (i, s) in steps.chunks_exact(4).enumerate() {
         if !good(s) {
             return refused(8, i as u8);
@@ -345,80 +445,20 @@ pub fn compile(book: &[u8], scene: usize, address: u16, hwpid: u16, out: &mut [u
     if out.len() < 4096 {
         return refused(9, 0);
     }
-    let a = address.to_le_bytes();
-    let h = hwpid.to_le_bytes();
-    let mut area = [0u8; 2048];
-    let mut lengths = [0u8; 64];
-    let mut count = 0usize;
-    let mut used = 0usize; // bytes of area
-    let mut list = 0usize; // bytes of the open list
+    let (a, h) = (address.to_le_bytes(), hwpid.to_le_bytes());
+    let header = [a[0], a[1], 2, 5, h[0], h[1]];
+    let mut r = Requests { bytes: [0; 2048], used: 0, lengths: [0; 64], count: 0, list: 0 };
     let mut rest = steps;
+    let mut entry = [0u8; 64];
     while !rest.is_empty() {
-        let mut e = [0u8; 64];
-        let kind = rest[0];
-        let lamps = kind <= 2;
-        let mut size; // PData of the entry
-        if lamps {
-            size = 4;
-        } else {
-            e[5] = rest[1];
-            size = 1;
-        }
-        let mut taken = 0;
-        let mut before = 0u8;
-        for s in rest.chunks_exact(4) {
-            let more = if lamps && s[3] != 0 { 2 } else { 1 };
-            if taken != 0 {
-                let follows = if lamps { s[1] > before } else { s[1] == before + 1 };
-                if s[0] != kind || !follows || size + more > 50 {
-                    break;
-                }
-            }
-            before = s[1];
-            if lamps {
-                e[5 + (s[1] / 8) as usize] |= 1 << (s[1] % 8);
-                if more == 2 {
-                    e[5 + size] = s[2] | 0x80;
-                    e[6 + size] = s[3];
-                } else {
-                    e[5 + size] = s[2];
-                }
-            } else {
-                e[5 + size] = s[2];
-            }
-            size += more;
-            taken += 4;
-        }
+        let (size, taken) = first_entry(rest, h, &mut entry);
+        r.add(&entry[..size], &header);
         rest = &rest[taken..];
-        let (pnum, pcmd) = match kind {
-            3 => (5, 1),
-            4 => (3, 1),
-            k => (0x71, k),
-        };
-        e[..5].copy_from_slice(&[5 + size as u8, pnum, pcmd, h[0], h[1]]);
-        let size = size + 5;
-        if count == 0 || list + size + 1 > 56 {
-            if count != 0 {
-                area[used] = 0;
-                used += 1;
-                lengths[count - 1] = (6 + list + 1) as u8;
-            }
-            area[used..used + 6].copy_from_slice(&[a[0], a[1], 2, 5, h[0], h[1]]);
-            used += 6;
-            count += 1;
-            list = 0;
-        }
-        area[used..used + size].copy_from_slice(&e[..size]);
-        used += size;
-        list += size;
     }
-    if count != 0 {
-        area[used] = 0;
-        used += 1;
-        lengths[count - 1] = (6 + list + 1) as u8;
-    }
+    r.close();
+    let (count, used) = (r.count, r.used);
     out[0] = count as u8;
-    out[1..1 + count].copy_from_slice(&lengths[..count]);
-    out[1 + count..1 + count + used].copy_from_slice(&area[..used]);
+    out[1..1 + count].copy_from_slice(&r.lengths[..count]);
+    out[1 + count..1 + count + used].copy_from_slice(&r.bytes[..used]);
     CompileAnswer { refusal: 0, step: 0, length: 1 + count + used }
 }

@@ -1,5 +1,5 @@
-//! The C interface of libgrelfint.a (DESIGN, "C interface"), and safe
-//! wrappers over it. A slice is a pointer and a length.
+//! The C interface of libgrelfint.a as include/grelfint.h declares it, and
+//! safe wrappers over it. A slice is a pointer and a length.
 
 #[repr(C)]
 #[derive(Clone, Copy, Debug, PartialEq, Eq, Default)]

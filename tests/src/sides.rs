@@ -52,5 +52,6 @@ pub const FAST: Side = Side {
     },
     handle_request: fast::handle_request,
     compile: fast::compile,
+    compile_default: |book, scene, address, out| fast::compile(book, scene, address, 0xFFFF, out),
     ..REFERENCE
 };
