@@ -105,15 +105,13 @@ fn one(
     }
     match (head[0], head[1]) {
         (0x71, c @ 0..=2) => lights(node, c, p, data),
-        (0x71, 0x3E) => {
-            if !p.is_empty() {
-                return Err(5);
-            }
+        (0x71, 0x3E) if p.is_empty() => {
             if let Some(data) = data {
                 data[0] = node.settings.lamp_count;
             }
             Ok(1)
         }
+        (0x71, 0x3E) => Err(5),
         (0x03, 0) => read(&m.eeprom[..], 1, 55, p, data),
         (0x05, 0) => read(&node.ram[..], 1, 48, p, data),
         (0x04, 2) => read(&m.external[..], 2, 54, p, data),

@@ -51,7 +51,7 @@ fn run(book: &[u8], piece: usize, pause: Duration) -> String {
 fn check(name: &str, book: &[u8]) {
     let got = run(book, 1 << 16, Duration::ZERO);
     let want = reference::sceneshow(book);
-    assert_eq!(got, want, "{name}, book ({}) {:02X?}", book.len(), &book[..book.len().min(400)]);
+    assert_eq!(got, want, "{name}, book ({}) {book:02X?}", book.len());
 }
 
 const EXAMPLE: [u8; 12] = [1, 4, 0, 2, 0, 0, 0x0A, 0, 0, 2, 0x64, 2];

@@ -122,6 +122,16 @@ impl Session {
         self.plain = Board { side: REFERENCE, ..self.tested.clone() };
     }
 
+    /// So many calls on each of so many boards.
+    fn run(&mut self, boards: usize, calls: usize, call: fn(&mut Session)) {
+        for _ in 0..boards {
+            self.new_boards();
+            for _ in 0..calls {
+                call(self);
+            }
+        }
+    }
+
     fn set_node(&mut self, node: Node) {
         self.tested.node = node;
         self.plain.node = node;
@@ -506,10 +516,7 @@ fn random_sessions() {
     let wanted = number("GRELFINT_CALLS", 1_200_000);
     let mut s = Session::new("random_sessions", LIBRARY);
     while s.seen.calls < wanted {
-        s.new_boards();
-        for _ in 0..400 {
-            s.random_call();
-        }
+        s.run(1, 400, Session::random_call);
     }
     println!("random_sessions: {:?}", s.seen);
     if wanted >= 100_000 {
@@ -614,15 +621,11 @@ fn all_timing() {
 #[test]
 fn random_scenes() {
     let mut s = Session::new("random_scenes", LIBRARY);
-    for i in 0..40_000 {
-        if i % 50 == 0 {
-            s.new_boards();
-        } else {
-            let node = random::node(&mut s.g);
-            s.set_node(node);
-        }
+    s.run(800, 50, |s| {
         s.scene();
-    }
+        let node = random::node(&mut s.g);
+        s.set_node(node);
+    });
     println!("random_scenes: {:?}", s.seen);
 }
 
@@ -631,12 +634,9 @@ fn random_scenes() {
 #[test]
 fn fast_agrees() {
     let mut s = Session::new("fast_agrees", FAST);
-    for call in 0..100_000 {
-        if call % 300 == 0 {
-            s.new_boards();
-        }
+    s.run(340, 300, |s| {
         s.random_request(s.plain.node, false);
         let after = s.tick(s.plain.node);
         s.set_node(after);
-    }
+    });
 }
