@@ -23,11 +23,6 @@ pub not-both : (a b : Bool) → b ≡ false → (a && b) ≡ false
 not-both true b e = e
 not-both false b e = refl
 
--- not true is false
-pub is-false : (b : Bool) → (b ≡ true → ⊥) → b ≡ false
-is-false true h = absurd (h refl)
-is-false false h = refl
-
 pub beq-eq : (a b : Bool) → Bool·beq a b ≡ true → a ≡ b
 beq-eq true true e = refl
 beq-eq true false e = sym e

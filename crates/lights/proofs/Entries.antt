@@ -52,7 +52,7 @@ module _ (src : List ℕ) (at : ℕ) (v : isValid (firstEntry (drop at src)) ≡
   pub valid-here : at < length src
   valid-here = by-test (ltb at (length src)) (ltb-true _ _) (λ t. not-invalid (entry-none src at (ltb-false _ _ t)))
 
-  pub valid-power : powerOk (getD src at 0 % 128) ≡ true
+  valid-power : powerOk (getD src at 0 % 128) ≡ true
   valid-power = by-test (powerOk (getD src at 0 % 128)) (λ t. t) (λ t. not-invalid (entry-power src at valid-here t))
 
   pub valid-plain : getD src at 0 < 128 → firstEntry (drop at src) ≡ Valid (change (getD src at 0 % 128) 0) 1

@@ -27,7 +27,7 @@ use Rattle.lights.specs.declared.entry.Entry.the-variants.{Valid}
 abbrev pub left : List ℕ → ℕ → ℕ → ℕ → Reading
 left src i m at = entries (count (bits (32 - i) m)) (drop at src)
 
--- lamps and buffer below lamp i and level k are as they will be, the others as they were
+-- the walk over lamps ls and a lent buffer old: lamps below i and bytes below k are as they will be, the others as they were
 pub record Walk (s : Settings) (c : Command) (mask : ℕ) (src : List ℕ) (ls : List Lamp) (old : List ℕ) (n : ℕ)
     (after : List Lamp) (out : List ℕ) (m at k i : ℕ) : Type 0 where
   pub implemented : n ≡ s .«lamp_count»
@@ -97,11 +97,11 @@ module _ {s : Settings} {c : Command} {mask : ℕ} {src : List ℕ} {ls : List L
   walk-dimmed d = rw lamp-kept (d i)
 
   module _ (some : m ≡ 0 → ⊥) where
-    -- a lamp is left
+    -- where a bit is left, so is its lamp
     pub walk-inside : i < 32
     walk-inside = bits-inside i m (w .mask-left) some
 
-    -- and so has the buffer a byte for its level
+    -- and a byte for its level
     pub walk-free : k < length out
     walk-free = omega (arith, walk-inside, w .levels-max, w .out-length, w .old-length)
 
