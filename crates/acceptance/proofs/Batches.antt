@@ -11,11 +11,12 @@ use Rattle.batch.proofs.RoundTrip.{round-trip, list-some}
 use Rattle.handler.specs.Request.{State, StateRule, forNode, entryOf, entryAfter, entryError, Outcome, outcome, ran, batchOf}
 use Rattle.handler.proofs.Soundness.{entry-sound}
 use Rattle.handler.proofs.Carrying.{batch-runs}
-use Rattle.scene.specs.declared.step.Step.{Step}
-use Rattle.scene.specs.Group.{joined}
-use Rattle.scene.specs.Machine.{machine}
-use Rattle.scene.specs.Compile.{joinedItem, joinedItems}
-use Rattle.scene.proofs.Places.{machine-append, machine-stays}
+use Rattle.book.specs.declared.step.Step.{Step}
+use Rattle.book.specs.Group.{joined}
+use Rattle.book.specs.Machine.{machine}
+use Rattle.book.specs.Entry.{joinedItem}
+use Rattle.scene.specs.Compile.{joinedItems}
+use Rattle.book.proofs.Places.{machine-append, machine-stays}
 
 -- carried out without an error of its own, data or load mark
 abbrev pub finished : State → List ℕ → Outcome

@@ -9,9 +9,10 @@ use Rattle.checksum.specs.Sums.{around, addByte, sums}
 use Rattle.batch.specs.Batch.{entryBytes, entriesBytes, nextOf, readFrom}
 use Rattle.timing.specs.Slot.{baseOf, extraOf, slotOf, wayOf, earliestOf, sendOf}
 use Rattle.handler.specs.Request.{perform, forNode, batchOf, osOf, carryOut}
-use Rattle.scene.specs.Book.{chained, bookOk, sceneOf}
-use Rattle.scene.specs.Step.{stepTimeOk, lampFault, byteFault, stepFault}
-use Rattle.scene.specs.Compile.{powerBytes, entryData, pnumOf, pcmdOf, follows}
+use Rattle.book.specs.Book.{chained, bookOk, sceneOf}
+use Rattle.book.specs.Step.{stepTimeOk, lampFault, byteFault, stepFault}
+use Rattle.book.specs.Entry.{powerBytes, entryData, pnumOf, pcmdOf}
+use Rattle.book.specs.Join.{follows}
 use Rattle.scene.specs.Call.{addressOk, compileOf}
 use Rattle.acceptance.specs.Examples.{WorkedExamples}
 

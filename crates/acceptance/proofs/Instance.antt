@@ -13,10 +13,12 @@ use Rattle.lights.specs.declared.lamp.Lamp.{Lamp}
 use Rattle.lights.specs.Lamp.{lamp, off, lampOk, lampZero, lampFits}
 use Rattle.node.specs.Node.{shapeOk, lampsOk, nodeOk}
 use Rattle.handler.specs.Request.{State, state}
-use Rattle.scene.specs.Book.{chained, bookOk, sceneOf}
-use Rattle.scene.specs.Step.{stepTimeOk, lampFault, byteFault, stepFault}
-use Rattle.scene.specs.Machine.{machineLevel, machineSeconds, machineLamps, machineEffect, machineStep, machine}
-use Rattle.scene.specs.Compile.{powerBytes, entryData, pnumOf, pcmdOf, follows, entryLimit, listLimit, batchesOf, compiled}
+use Rattle.book.specs.Book.{chained, bookOk, sceneOf}
+use Rattle.book.specs.Step.{stepTimeOk, lampFault, byteFault, stepFault}
+use Rattle.book.specs.Machine.{machineLevel, machineSeconds, machineLamps, machineEffect, machineStep, machine}
+use Rattle.book.specs.Entry.{powerBytes, entryData, pnumOf, pcmdOf}
+use Rattle.book.specs.Join.{follows, entryLimit}
+use Rattle.scene.specs.Compile.{listLimit, batchesOf, compiled}
 use Rattle.acceptance.specs.SceneTheorem.{Given, Obeyed, afterCalls}
 use Rattle.acceptance.proofs.Scenes.{scene-theorem}
 

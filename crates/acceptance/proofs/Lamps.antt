@@ -25,11 +25,11 @@ use Rattle.lights.specs.declared.entry.Change.{Change}
 use Rattle.node.specs.Node.{withLamps}
 use Rattle.handler.specs.Request.{State, nodeIs, perform}
 use Rattle.handler.proofs.Performing.{perform-lights}
-use Rattle.scene.specs.declared.step.Step.{Step}
-use Rattle.scene.specs.Step.{stepTimeOk}
-use Rattle.scene.specs.Machine.{machineLevel, machineSeconds, machineLamp, machineLamps, machineEffect, machineStep, machine}
-use Rattle.scene.specs.Compile.{bitmapOf, fourBytes, powerBytes, powersBytes, pnumOf, pcmdOf}
-use Rattle.scene.proofs.Faults.{Good, LampGood, lamp-good}
+use Rattle.book.specs.declared.step.Step.{Step}
+use Rattle.book.specs.Step.{stepTimeOk}
+use Rattle.book.specs.Machine.{machineLevel, machineSeconds, machineLamp, machineLamps, machineEffect, machineStep, machine}
+use Rattle.book.specs.Entry.{bitmapOf, fourBytes, powerBytes, powersBytes, pnumOf, pcmdOf}
+use Rattle.book.proofs.Faults.{Good, LampGood, lamp-good}
 
 -- ---- binary digits
 

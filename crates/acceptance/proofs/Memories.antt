@@ -16,10 +16,10 @@ use Rattle.memory.proofs.Requests.{write-short}
 use Rattle.node.specs.Node.{withRam}
 use Rattle.handler.specs.Request.{State, nodeIs, eepromIs, externalIs, perform}
 use Rattle.handler.proofs.Performing.{perform-eeprom, perform-ram}
-use Rattle.scene.specs.declared.step.Step.{Step}
-use Rattle.scene.specs.Machine.{machineEffect, machineStep, machine}
-use Rattle.scene.specs.Compile.{values, pnumOf, pcmdOf}
-use Rattle.scene.proofs.Faults.{Good, ram-good, eeprom-good}
+use Rattle.book.specs.declared.step.Step.{Step}
+use Rattle.book.specs.Machine.{machineEffect, machineStep, machine}
+use Rattle.book.specs.Entry.{values, pnumOf, pcmdOf}
+use Rattle.book.proofs.Faults.{Good, ram-good, eeprom-good}
 
 -- a memory of a state, and the state with other bytes in it
 abbrev pub bytesOf : Memory → State → List ℕ

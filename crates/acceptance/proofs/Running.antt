@@ -11,14 +11,14 @@ use borrow.Author.Tests.{eq-eqb, ne-eqb, eqb-true, lt-leb, ltb-false}
 use Rattle.dpa.proofs.Bool.{by-test}
 use Rattle.node.specs.Node.{nodeOk}
 use Rattle.handler.specs.Request.{State, StateRule}
-use Rattle.scene.specs.declared.step.Step.{Step}
-use Rattle.scene.specs.Book.{countOf, sceneOf}
-use Rattle.scene.specs.Step.{stepFault}
-use Rattle.scene.specs.Machine.{machine}
+use Rattle.book.specs.declared.step.Step.{Step}
+use Rattle.book.specs.Book.{countOf, sceneOf}
+use Rattle.book.specs.Step.{stepFault}
+use Rattle.book.specs.Machine.{machine}
 use Rattle.scene.specs.Compile.{compiled}
 use Rattle.scene.specs.Call.{CompileResult, output, outputRoom, requestsIn, addressOk, refusedAt, compileOf}
-use Rattle.scene.proofs.Groups.{all-weaken}
-use Rattle.scene.proofs.Faults.{Good, no-bad}
+use Rattle.book.proofs.Groups.{all-weaken}
+use Rattle.book.proofs.Faults.{Good, no-bad}
 use Rattle.scene.proofs.Outputs.{Faultless, refused-none, written-whole, buffer-back}
 use Rattle.acceptance.specs.SceneTheorem.{Given, afterCalls}
 use Rattle.acceptance.specs.RunScene.{blank, Holds, notRun, afterCompile, runScene}

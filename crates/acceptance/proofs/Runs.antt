@@ -16,12 +16,13 @@ use Rattle.memory.specs.Block.{sizeOf}
 use Rattle.handler.specs.Request.{State, StateRule, forNode, perform, entryOf}
 use Rattle.node.proofs.Nodes.{node-lamps, node-ram}
 use Rattle.handler.proofs.Entering.{entry-mine}
-use Rattle.scene.specs.declared.step.Step.{Step}
-use Rattle.scene.specs.Machine.{machine}
-use Rattle.scene.specs.Compile.{entryData, pnumOf, pcmdOf, follows, joinedItem}
-use Rattle.scene.specs.Run.{Limits}
-use Rattle.scene.proofs.Faults.{eeprom-good}
-use Rattle.scene.proofs.Runs.{Linked, Run}
+use Rattle.book.specs.declared.step.Step.{Step}
+use Rattle.book.specs.Machine.{machine}
+use Rattle.book.specs.Entry.{entryData, pnumOf, pcmdOf, joinedItem}
+use Rattle.book.specs.Join.{follows}
+use Rattle.scene.specs.Fill.{Limits}
+use Rattle.book.proofs.Faults.{eeprom-good}
+use Rattle.book.proofs.Runs.{Linked, Run}
 use Rattle.acceptance.proofs.Lamps.{LampRun, entry-lamp-run}
 use Rattle.acceptance.proofs.Memories.{bytesOf, Writes, writes-ram, writes-eeprom, ByteRun, entry-byte-run}
 

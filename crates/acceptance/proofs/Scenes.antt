@@ -16,14 +16,14 @@ use Rattle.batch.specs.Batch.{item, All}
 use Rattle.handler.specs.Request.{State, StateRule, forNode, batchOf, carryOut}
 use Rattle.node.proofs.Nodes.{node-settings}
 use Rattle.handler.proofs.Carrying.{carry-os, os-batch}
-use Rattle.scene.specs.declared.step.Step.{Step}
-use Rattle.scene.specs.Book.{sceneOf}
-use Rattle.scene.specs.Step.{stepFault}
+use Rattle.book.specs.declared.step.Step.{Step}
+use Rattle.book.specs.Book.{sceneOf}
+use Rattle.book.specs.Step.{stepFault}
 use Rattle.scene.specs.Compile.{compiled}
 use Rattle.scene.specs.Call.{output, outputRoom, written, addressOk, compileOf}
-use Rattle.scene.proofs.Groups.{all-weaken}
-use Rattle.scene.proofs.Faults.{Good, no-bad}
-use Rattle.scene.proofs.Runs.{limits}
+use Rattle.book.proofs.Groups.{all-weaken}
+use Rattle.book.proofs.Faults.{Good, no-bad}
+use Rattle.scene.proofs.Lists.{limits}
 use Rattle.scene.proofs.Outputs.{written-whole}
 use Rattle.acceptance.specs.SceneTheorem.{Given, SceneTheorem}
 use Rattle.acceptance.proofs.Runs.{run-performs}

@@ -8,15 +8,16 @@ use lib.ListN.{length}
 use Rattle.dpa.specs.declared.settings.Settings.{Settings}
 use Rattle.batch.specs.Batch.{item, listBytes, All}
 use Rattle.handler.specs.Request.{State, StateRule, forNode, batchOf, carryOut, requestOf}
-use Rattle.scene.specs.declared.step.Step.{Step}
-use Rattle.scene.specs.Group.{joined}
-use Rattle.scene.specs.Machine.{machine}
+use Rattle.book.specs.declared.step.Step.{Step}
+use Rattle.book.specs.Group.{joined}
+use Rattle.book.specs.Machine.{machine}
 use Rattle.scene.specs.Compile.{joinedItems, batchesOf, requestBytes, requestsOf}
-use Rattle.scene.specs.Run.{Limits}
-use Rattle.scene.proofs.Groups.{joined-append}
-use Rattle.scene.proofs.Places.{machine-append, machine-stays}
-use Rattle.scene.proofs.Faults.{Good}
-use Rattle.scene.proofs.Runs.{Run, Filling, fillings, joining-keeps, filling-keeps}
+use Rattle.scene.specs.Fill.{Limits}
+use Rattle.book.proofs.Groups.{joined-append}
+use Rattle.book.proofs.Places.{machine-append, machine-stays}
+use Rattle.book.proofs.Faults.{Good}
+use Rattle.book.proofs.Runs.{Run, joining-keeps}
+use Rattle.scene.proofs.Lists.{Filling, fillings, filling-keeps}
 use Rattle.scene.proofs.Sizes.{filling-fits}
 use Rattle.acceptance.specs.SceneTheorem.{Success, AllSucceed, afterCalls, Obeyed}
 use Rattle.acceptance.proofs.Batches.{AllPerform, entries-perform, batch-performs}

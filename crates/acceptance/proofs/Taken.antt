@@ -8,7 +8,7 @@ use lib.Seq.{take-at, drop-at}
 use Rattle.dpa.proofs.Lists.{to-end}
 use Rattle.handler.specs.Request.{State, requestOf}
 use Rattle.scene.specs.Call.{cut, requestsIn, lengths, output}
-use Rattle.scene.specs.Group.{joined}
+use Rattle.book.specs.Group.{joined}
 use Rattle.scene.proofs.Outputs.{lengths-length}
 use Rattle.acceptance.specs.SceneTheorem.{afterCalls}
 use Rattle.acceptance.specs.RunScene.{blank, total, Holds}

@@ -8,8 +8,8 @@ use Rattle.memory.specs.declared.block.Memory.the-variants.{Eeprom, External}
 use Rattle.memory.specs.Block.{sizeOf}
 use Rattle.node.specs.Node.{nodeOk}
 use Rattle.handler.specs.Request.{State, state}
-use Rattle.scene.specs.Book.{sceneOf}
-use Rattle.scene.specs.Machine.{machine}
+use Rattle.book.specs.Book.{sceneOf}
+use Rattle.book.specs.Machine.{machine}
 use Rattle.scene.specs.Call.{CompileResult, compileOf}
 use Rattle.acceptance.specs.declared.run.SceneAnswer.{SceneAnswer}
 

@@ -14,10 +14,10 @@ use Rattle.dpa.specs.Lists.{over}
 use Rattle.dpa.specs.Frame.{responseHeader}
 use Rattle.batch.specs.Batch.{All}
 use Rattle.handler.specs.Request.{State, StateRule, itemOf, carryOut, requestOf}
-use Rattle.scene.specs.declared.step.Step.{Step}
-use Rattle.scene.specs.Book.{countOf, bookOk, sceneOf}
-use Rattle.scene.specs.Step.{stepFault}
-use Rattle.scene.specs.Machine.{machine}
+use Rattle.book.specs.declared.step.Step.{Step}
+use Rattle.book.specs.Book.{countOf, bookOk, sceneOf}
+use Rattle.book.specs.Step.{stepFault}
+use Rattle.book.specs.Machine.{machine}
 use Rattle.scene.specs.Compile.{compiled}
 
 -- What is given: a sound node with its memories, whatever these hold; a response buffer for each call, by the call's

@@ -10,14 +10,17 @@ use lib.Seq.{drop-drop}
 use borrow.Author.Tests.{le-leb, lt-leb, leb-true}
 use Rattle.dpa.proofs.Bool.{by-test, by-cond}
 use Rattle.batch.specs.Batch.{All, entryBytes, entriesBytes}
-use Rattle.scene.specs.declared.step.Step.{Step}
-use Rattle.scene.specs.Group.{joined, grow, group}
-use Rattle.scene.specs.Compile.{runData, joinedItem, joinedItems, listOf, fills, entriesOf, batchesOf}
+use Rattle.book.specs.declared.step.Step.{Step}
+use Rattle.book.specs.Group.{joined, grow, group}
+use Rattle.book.specs.Entry.{runData, joinedItem}
+use Rattle.book.specs.Join.{entriesOf}
+use Rattle.book.specs.Run.{FirstRun}
+use Rattle.book.proofs.Faults.{Good}
+use Rattle.book.proofs.Groups.{grow-in, grow-out}
+use Rattle.book.proofs.Runs.{Run, runs, joining-keeps}
+use Rattle.scene.specs.Compile.{joinedItems, listOf, fills, batchesOf}
 use Rattle.scene.specs.Call.{lengths}
-use Rattle.scene.specs.Run.{Limits, FirstRun, takes, nextSize, turnBytes, turnLength, bytesLeft, lengthsLeft}
-use Rattle.scene.proofs.Faults.{Good}
-use Rattle.scene.proofs.Groups.{grow-in, grow-out}
-use Rattle.scene.proofs.Runs.{Run, runs, joining-keeps}
+use Rattle.scene.specs.Fill.{Limits, takes, nextSize, turnBytes, turnLength, bytesLeft, lengthsLeft}
 use Rattle.scene.proofs.Sizes.{entries-snoc, list-snoc, list-one}
 
 -- requests that begin with the bytes `head`, in front of their lists

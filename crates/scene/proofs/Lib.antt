@@ -1,13 +1,6 @@
-pub mod Groups
-pub mod Faults
-pub mod Runs
+pub mod Lists
 pub mod Sizes
 pub mod Outputs
-pub mod Places
-pub mod Joining
 pub mod Filling
-pub mod Writing
-pub mod Lists
 pub mod Requests
-pub mod Books
 pub mod Examples

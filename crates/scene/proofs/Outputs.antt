@@ -1,30 +1,32 @@
 -- The compile call's output: it is read back as the requests, it fits its buffer, and when nothing is refused.
-use mathlib.Core.Bool.{true, not, _&&_}
 use mathlib.Core.List.{List, [], _∷_, _++_, append-assoc}
+use mathlib.Core.Path.{_≡_, refl, ap, _∙_}
+use mathlib.Core.Bool.{true, not}
 use mathlib.Core.Logic.{_↔_}
 use mathlib.Core.Option.{Option, none, some}
-use mathlib.Core.Path.{_≡_, refl, ap, _∙_}
-use Prim.Native.Nat.{ℕ, zero, suc, _+_, _*_, _≤_, _<_}
+use Prim.Native.Nat.{ℕ, suc, _+_, _*_, _≤_, _<_}
 use native.Mathlib.Omega.{arith}
-use lib.Dec.{eqb, leb}
-use lib.ListN.{length, getD, drop, length-append, length-map}
-use lib.Seq.{take-append-seam, drop-append-seam, take-at, drop-at}
-use borrow.Author.Tests.{leb-true, leb-false, lt-leb, le-ltb, not-false}
-use Rattle.dpa.proofs.Bool.{by-cond, and-left, and-right}
+use lib.ListN.{length, length-append, length-map, drop}
+use lib.Seq.{take-append-seam, drop-append-seam, take-at, drop-at, sets}
+use lib.Dec.{leb}
+use borrow.Author.Tests.{leb-false, lt-leb, le-ltb, not-false}
 use Rattle.dpa.specs.Frame.{longestFrame}
+use Rattle.dpa.proofs.Bool.{by-cond}
+use Rattle.dpa.proofs.Lists.{front}
 use Rattle.batch.specs.Batch.{All}
-use Rattle.scene.specs.declared.book.Content.{Content}
-use Rattle.scene.specs.declared.step.Step.{Step}
-use Rattle.scene.specs.Book.{content, countOf, contentsOf, chained, bookOk, stepsIn, sceneOf}
-use Rattle.scene.specs.Step.{badFrom}
-use Rattle.scene.specs.Group.{joined}
-use Rattle.scene.specs.Compile.{joins, fills, entriesOf, batchesOf, requestBytes, requestsOf, compiled}
+use Rattle.book.specs.declared.step.Step.{Step}
+use Rattle.book.specs.Group.{joined}
+use Rattle.book.specs.Join.{joins, entriesOf}
+use Rattle.book.specs.Book.{countOf, bookOk, sceneOf}
+use Rattle.book.specs.Step.{badFrom}
+use Rattle.book.proofs.Faults.{Good, no-bad}
+use Rattle.book.proofs.Groups.{length-group}
+use Rattle.book.proofs.Books.{scene-length}
+use Rattle.scene.specs.Compile.{fills, batchesOf, requestBytes, requestsOf, compiled}
 use Rattle.scene.specs.Call.{lengths, output, cut, requestsIn, outputRoom, CompileResult, written, addressOk, compileSteps, compileOf}
-use Rattle.scene.specs.Run.{Limits}
-use Rattle.scene.proofs.Faults.{Good, no-bad}
-use Rattle.scene.proofs.Groups.{length-group}
-use Rattle.scene.proofs.Runs.{limits}
+use Rattle.scene.specs.Fill.{Limits}
 use Rattle.scene.proofs.Sizes.{Frame-sized, requests-fit}
+use Rattle.scene.proofs.Lists.{limits}
 
 -- ---- the requests are read back
 
@@ -75,27 +77,6 @@ output-fits {entryMost} {listMost} {front} l pcmd a h ss n g =
     let rs = requestsOf entryMost listMost pcmd front a h ss in
     omega (arith, output-length rs, joined-length rs (requests-fit l pcmd a h ss g), requests-few entryMost listMost pcmd front a h ss)
 
--- ---- a scene of a well-formed book has at most 64 steps
-
-chained-count : (start : ℕ) (cs : List Content) (end i : ℕ) → chained start cs end ≡ true → getD cs i (content 0 0) .steps ≤ 64
-unfolding chained
-chained-count start [] end i e = omega arith
-chained-count start (c ∷ cs) end zero e = leb-true _ _ (and-right (eqb (c .offset) start) _ (and-left _ _ e))
-chained-count start (c ∷ cs) end (suc i) e =
-    chained-count (start + 4 * c .steps) cs end i (and-right (eqb (c .offset) start && leb (c .steps) 64) _ e)
-
-pub steps-length : (n : ℕ) (bs : List ℕ) → length (stepsIn n bs) ≡ n
-steps-length zero bs = refl
-steps-length (suc n) bs = ap suc (steps-length n (drop 4 bs))
-
-pub scene-length : (b : List ℕ) (k : ℕ) → bookOk b ≡ true → length (sceneOf b k) ≤ 64
-unfolding bookOk sceneOf
-scene-length b k e =
-    let c = getD (contentsOf b) k (content 0 0) in
-    rw (steps-length (c .steps) (drop (c .offset) b))
-    (chained-count (1 + 3 * countOf b) (contentsOf b) (length b) k
-    (and-right (leb 1 (length b) && leb (countOf b) 16 && leb (1 + 3 * countOf b) (length b)) _ e))
-
 -- ---- what is refused
 
 -- a book and a scene's number without faults
@@ -142,3 +123,8 @@ module _ (b : List ℕ) (k a h : ℕ) (out : List ℕ) where
   buffer-back ad room f =
       let rs = compiled a h (sceneOf b k) in
       ap (λ (r : CompileResult). requestsIn (r .buffer)) (written-whole ad room f) ∙ requests-back rs (drop (length (output rs)) out)
+
+-- ---- what is written
+pub written-as : (o out out′ : List ℕ) (used : ℕ) → used ≡ length o → out′ ≡ sets out 0 o → length o ≤ length out
+    → _≡_ {A = CompileResult} (record { refusal = 0; step = 0; length = used; buffer = out′ }) (written o out)
+written-as o out out′ used eu eo h = rw (eu, eo, front o out h)

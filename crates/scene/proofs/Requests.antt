@@ -7,17 +7,21 @@ use lib.ListN.{length, take, drop, set, length-append, length-drop, drop-of-leng
 use lib.Seq.{sets, length-sets, set-comm}
 use Rattle.batch.specs.Batch.{entryBytes}
 use Rattle.batch.proofs.RoundTrip.{entry-length}
-use Rattle.scene.specs.declared.step.Step.{Step}
-use Rattle.scene.specs.Book.{stepsIn}
-use Rattle.scene.specs.Group.{joined}
-use Rattle.scene.specs.Compile.{joinedItem, entriesOf, compiled}
+use Rattle.book.specs.declared.step.Step.{Step}
+use Rattle.book.specs.Book.{stepsIn}
+use Rattle.book.specs.Group.{joined}
+use Rattle.book.specs.Entry.{joinedItem}
+use Rattle.book.specs.Join.{entriesOf}
+use Rattle.book.specs.Run.{FirstRun, AllGood}
+use Rattle.book.proofs.Writing.{sets-append, put-two}
+use Rattle.book.proofs.Joining.{steps-length}
+use Rattle.book.proofs.Books.{good-steps}
+use Rattle.scene.specs.Compile.{compiled}
 use Rattle.scene.specs.Call.{lengths, output, outputRoom}
-use Rattle.scene.specs.Run.{Limits, FirstRun, nextSize, turnBytes, turnLength, bytesLeft, lengthsLeft, AllGood}
-use Rattle.scene.proofs.Writing.{sets-append, put-two}
+use Rattle.scene.specs.Fill.{Limits, nextSize, turnBytes, turnLength, bytesLeft, lengthsLeft}
 use Rattle.scene.proofs.Filling.{next-small, bytes-next, lengths-next}
-use Rattle.scene.proofs.Outputs.{lengths-length, output-length, output-fits, steps-length}
-use Rattle.scene.proofs.Lists.{good-steps}
-use Rattle.scene.proofs.Runs.{limits}
+use Rattle.scene.proofs.Outputs.{lengths-length, output-length, output-fits}
+use Rattle.scene.proofs.Lists.{limits}
 
 -- `all` written from `at` is what `rest` written on from w makes of `out`
 pub record Left (old : List ℕ) (at : ℕ) (all out : List ℕ) (w : ℕ) (rest : List ℕ) : Type 0 where

@@ -1,40 +1,18 @@
--- How long entries, lists and requests are: each request fits a frame.
+-- How long lists and requests are: each request fits a frame.
 use mathlib.Core.List.{List, [], _∷_, _++_, map, append-assoc, append-nil}
-use mathlib.Core.Path.{_≡_, refl, sym, ap, _∙_}
+use mathlib.Core.Path.{_≡_, sym, ap, _∙_}
 use Prim.Native.Nat.{ℕ, _+_, _≤_}
 use native.Mathlib.Omega.{arith}
-use lib.Dec.{eqb, ltb}
 use lib.ListN.{length, length-append}
-use Rattle.dpa.proofs.Bool.{by-test}
 use Rattle.dpa.specs.Frame.{headerSize, longestFrame}
-use Rattle.batch.proofs.RoundTrip.{entry-length}
 use Rattle.batch.specs.Batch.{All, entryBytes, entriesBytes}
-use Rattle.scene.specs.declared.step.Step.{Step}
-use Rattle.scene.specs.Compile.{powerBytes, powersBytes, values, entryData, runData, joinedItem, joinedItems, listOf, batchesOf, requestBytes, requestsOf}
-use Rattle.scene.specs.Run.{powerSize, stepSize, Limits}
-use Rattle.scene.proofs.Faults.{Good}
-use Rattle.scene.proofs.Runs.{Filling, fillings}
-
-pub power-length : (s : Step) → length (powerBytes s) ≡ powerSize s
-unfolding powerBytes powerSize
-power-length s = by-test (eqb (s .time) 0) (λ e. rw e) (λ e. rw e)
-
-powers-length : (ss : List Step) (x : Step) → length (powersBytes (ss ++ (x ∷ []))) ≡ length (powersBytes ss) + powerSize x
-powers-length [] x = omega (arith, power-length x, length-append (powerBytes x) [])
-powers-length (s ∷ ss) x =
-    omega (arith, length-append (powerBytes s) (powersBytes (ss ++ (x ∷ []))), length-append (powerBytes s) (powersBytes ss), powers-length ss x)
-
-values-more : (ss : List Step) (x : Step) → length (values (ss ++ (x ∷ []))) ≡ length (values ss) + 1
-values-more [] x = refl
-values-more (s ∷ ss) x = omega (arith, values-more ss x)
-
--- a step more in an entry
-pub data-length : (p : Step) (ps : List Step) (x : Step) → length (runData ((p ∷ ps) ++ (x ∷ []))) ≡ length (runData (p ∷ ps)) + stepSize (p .kind) x
-unfolding entryData stepSize
-data-length p ps x =
-    by-test (ltb (p .kind) 3)
-    (λ e. rw e (omega (arith, powers-length (p ∷ ps) x)))
-    (λ e. rw e (omega (arith, values-more (p ∷ ps) x)))
+use Rattle.batch.proofs.RoundTrip.{entry-length}
+use Rattle.book.specs.declared.step.Step.{Step}
+use Rattle.book.specs.Entry.{runData, joinedItem}
+use Rattle.book.proofs.Faults.{Good}
+use Rattle.scene.specs.Compile.{joinedItems, listOf, batchesOf, requestBytes, requestsOf}
+use Rattle.scene.specs.Fill.{Limits}
+use Rattle.scene.proofs.Lists.{Filling, fillings}
 
 -- an entry more in a list
 pub entries-snoc : (h : ℕ) (rs : List (List Step)) (r : List Step)

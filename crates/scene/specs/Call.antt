@@ -8,11 +8,11 @@ use lib.ListN.{length, getD, take, drop}
 use Rattle.dpa.specs.Frame.{broadcastNadr}
 use Rattle.dpa.specs.Lists.{over}
 use Rattle.dpa.specs.Settings.{nodeAddress}
+use Rattle.book.specs.declared.step.Step.{Step}
+use Rattle.book.specs.Book.{countOf, bookOk, sceneOf}
+use Rattle.book.specs.Step.{badFrom}
+use Rattle.book.specs.Group.{joined}
 use Rattle.scene.specs.declared.compile.CompileAnswer.{CompileAnswer}
-use Rattle.scene.specs.declared.step.Step.{Step}
-use Rattle.scene.specs.Book.{countOf, bookOk, sceneOf}
-use Rattle.scene.specs.Step.{badFrom}
-use Rattle.scene.specs.Group.{joined}
 use Rattle.scene.specs.Compile.{compiled}
 
 -- ---- the output

@@ -1,65 +1,19 @@
--- Document 01, "Scenes": steps joined into entries, entries filled into batches, batches as requests.
-use mathlib.Core.Bool.{Bool, false, cond, _&&_}
-use mathlib.Core.List.{List, [], _∷_, _++_, map}
-use Prim.Native.Nat.{ℕ, suc, _+_, _^_}
-use lib.Dec.{ltb, leb, eqb}
+-- Document 01, "Scenes": entries filled into batches, batches as requests.
+use mathlib.Core.List.{List, map, [], _∷_, _++_}
+use mathlib.Core.Bool.{Bool}
+use Prim.Native.Nat.{ℕ}
+use lib.Dec.{leb}
 use lib.ListN.{length}
 use Rattle.dpa.specs.Frame.{frame, headerBytes}
-use Rattle.dpa.specs.Number.{low, high}
-use Rattle.batch.specs.Batch.{Item, item, listBytes}
-use Rattle.scene.specs.declared.step.Step.{Step}
-use Rattle.scene.specs.Group.{group}
+use Rattle.batch.specs.Batch.{Item, listBytes}
+use Rattle.book.specs.declared.step.Step.{Step}
+use Rattle.book.specs.Entry.{joinedItem}
+use Rattle.book.specs.Group.{group}
+use Rattle.book.specs.Join.{entryLimit, entriesOf}
 
--- ---- an entry of joined steps
+-- ---- lists and filling, for any two limits
 
--- lamp k's bit for each step
-abbrev pub bitmapOf : List Step → ℕ
-bitmapOf [] = 0
-bitmapOf (s ∷ ss) = 2 ^ (s .target) + bitmapOf ss
-
--- the four bytes of a bitmap
-abbrev pub fourBytes : ℕ → List ℕ
-fourBytes m = low m ∷ low (high m) ∷ low (high (high m)) ∷ low (high (high (high m))) ∷ []
-
--- a lamp step's power byte, and its time byte if it has one
-unfoldable pub powerBytes : Step → List ℕ
-powerBytes s = cond (eqb (s .time) 0) (s .value ∷ []) ((s .value + 128) ∷ s .time ∷ [])
-
-abbrev pub powersBytes : List Step → List ℕ
-powersBytes [] = []
-powersBytes (s ∷ ss) = powerBytes s ++ powersBytes ss
-
-abbrev pub values : List Step → List ℕ
-values [] = []
-values (s ∷ ss) = s .value ∷ values ss
-
--- the PData of the joined steps s ∷ ss: bitmap and powers for lamps, address and values for a memory
-unfoldable pub entryData : Step → List Step → List ℕ
-entryData s ss =
-    cond (ltb (s .kind) 3)
-    (fourBytes (bitmapOf (s ∷ ss)) ++ powersBytes (s ∷ ss))
-    (s .target ∷ values (s ∷ ss))
-
-abbrev pub runData : List Step → List ℕ
-runData [] = []
-runData (s ∷ ss) = entryData s ss
-
-abbrev pub kindOf : List Step → ℕ
-kindOf [] = 0
-kindOf (s ∷ ss) = s .kind
-
--- lights, RAM or EEPROM
-unfoldable pub pnumOf : ℕ → ℕ
-pnumOf k = cond (ltb k 3) 0x71 (cond (eqb k 3) 0x05 0x03)
-
--- set, raise, lower, or a memory's write
-unfoldable pub pcmdOf : ℕ → ℕ
-pcmdOf k = cond (ltb k 3) k 0x01
-
--- the entry of joined steps for the profile h
-abbrev pub joinedItem : ℕ → List Step → Item
-joinedItem h run = item (pnumOf (kindOf run)) (pcmdOf (kindOf run)) h (runData run)
-
+-- the entries of joined steps for the profile h
 abbrev pub joinedItems : ℕ → List (List Step) → List Item
 joinedItems h runs = map (joinedItem h) runs
 
@@ -67,37 +21,13 @@ joinedItems h runs = map (joinedItem h) runs
 abbrev pub listOf : ℕ → List (List Step) → List ℕ
 listOf h runs = listBytes (joinedItems h runs)
 
--- ---- joining and filling, for any two limits
-
--- the longest PData of an entry, and of a list with its closing zero
-abbrev pub entryLimit : ℕ
-entryLimit = 50
-
+-- the longest list, its closing zero included
 abbrev pub listLimit : ℕ
 listLimit = 56
-
-abbrev pub lastOf : Step → List Step → Step
-lastOf d [] = d
-lastOf d (s ∷ ss) = lastOf s ss
-
--- the kind is that of the step before, and the target is larger (lamps) or larger by 1 (memories)
-unfoldable pub follows : Step → Step → Bool
-follows p s =
-    eqb (s .kind) (p .kind)
-    && cond (ltb (p .kind) 3) (ltb (p .target) (s .target)) (eqb (s .target) (suc (p .target)))
-
--- s joins the entry of the steps before it, whose PData stays at most `most`
-abbrev pub joins : ℕ → List Step → Step → Bool
-joins most [] s = false
-joins most (p ∷ ps) s = follows (lastOf p ps) s && leb (length (runData ((p ∷ ps) ++ (s ∷ [])))) most
 
 -- an entry goes into the list before it, which stays at most `most`
 abbrev pub fills : ℕ → ℕ → List (List Step) → List Step → Bool
 fills most h runs run = leb (length (listOf h (runs ++ (run ∷ [])))) most
-
--- a scene's entries, each the steps that are joined in it
-abbrev pub entriesOf : ℕ → List Step → List (List Step)
-entriesOf entryMost ss = group (joins entryMost) ss
 
 -- a scene's batches, each a list of entries
 abbrev pub batchesOf : ℕ → ℕ → ℕ → List Step → List (List (List Step))

@@ -1,8 +1,8 @@
 // The compile call.
-use crate::book::book_ok;
-use crate::book::content_at;
 use crate::request::write_output;
-use crate::step::first_bad;
+use book::contents::book_ok;
+use book::contents::content_at;
+use book::step::first_bad;
 use dpa::frame::Frame;
 use dpa::number::wide;
 use dpa::refusal;
@@ -10,8 +10,8 @@ use dpa::settings::LAST_ADDRESS;
 ghost use mathlib.Core.Path.{_≡_};
 ghost use Prim.Native.Nat.{_*_, _≤_};
 ghost use lib.ListN.{length};
-ghost use Rattle.scene.specs.Book.{stepsIn};
-ghost use Rattle.scene.specs.Step.{badFrom};
+ghost use Rattle.book.specs.Book.{stepsIn};
+ghost use Rattle.book.specs.Step.{badFrom};
 ghost use Rattle.scene.specs.Call.{addressOk, compileSteps, compileOf, compiledAs};
 
 // The bytes that an output buffer has at least.

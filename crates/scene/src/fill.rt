@@ -1,16 +1,18 @@
 // Entries filled into lists, and the lengths of the lists' requests.
-use crate::join::run_from;
 use batch::entry::HEAD;
+use book::join::run_from;
 use dpa::frame::Frame;
 ghost use mathlib.Core.Path.{_≡_};
 ghost use Prim.Native.Nat.{ℕ, _+_, _*_, _≤_};
 ghost use lib.ListN.{length};
 ghost use lib.Seq.{sets};
 ghost use Rattle.dpa.specs.Frame.{headerSize};
-ghost use Rattle.scene.specs.Book.{stepsIn};
-ghost use Rattle.scene.specs.Compile.{compiled, entryLimit, listLimit};
+ghost use Rattle.book.specs.Book.{stepsIn};
+ghost use Rattle.scene.specs.Compile.{compiled, listLimit};
+ghost use Rattle.book.specs.Join.{entryLimit};
 ghost use Rattle.scene.specs.Call.{lengths};
-ghost use Rattle.scene.specs.Run.{nextSize, turnLength, AllGood};
+ghost use Rattle.scene.specs.Fill.{nextSize, turnLength};
+ghost use Rattle.book.specs.Run.{AllGood};
 
 // The longest list of a batch, its closing zero included.
 pub const LIMIT: usize = 56;

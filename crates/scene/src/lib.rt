@@ -1,10 +1,4 @@
-// Scenes: the book, its steps, and the compiler from steps to batch requests.
-pub mod book;
+// The compiler from a scene to batch requests.
 pub mod compile;
-pub mod entry;
-pub mod fault;
 pub mod fill;
-pub mod join;
-pub mod power;
 pub mod request;
-pub mod step;

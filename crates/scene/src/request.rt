@@ -1,11 +1,11 @@
 // The requests of a scene, and the output that holds them.
-use crate::entry::write_entry_at;
 use crate::fill::EMPTY;
 use crate::fill::LIMIT;
 use crate::fill::Place;
 use crate::fill::write_lengths;
-use crate::join::run_from;
 use batch::entry::HEAD;
+use book::entry::write_entry_at;
+use book::join::run_from;
 use dpa::frame::Frame;
 use dpa::pnum;
 use handler::os::BATCH;
@@ -14,11 +14,13 @@ ghost use Prim.Native.Nat.{_+_, _*_, _≤_};
 ghost use lib.ListN.{length};
 ghost use lib.Seq.{sets};
 ghost use Rattle.dpa.specs.Frame.{frame, headerBytes};
-ghost use Rattle.scene.specs.Book.{stepsIn};
-ghost use Rattle.scene.specs.Group.{joined};
-ghost use Rattle.scene.specs.Compile.{compiled, entryLimit, listLimit};
+ghost use Rattle.book.specs.Book.{stepsIn};
+ghost use Rattle.book.specs.Group.{joined};
+ghost use Rattle.scene.specs.Compile.{compiled, listLimit};
+ghost use Rattle.book.specs.Join.{entryLimit};
 ghost use Rattle.scene.specs.Call.{output, outputRoom};
-ghost use Rattle.scene.specs.Run.{nextSize, turnBytes, AllGood};
+ghost use Rattle.scene.specs.Fill.{nextSize, turnBytes};
+ghost use Rattle.book.specs.Run.{AllGood};
 
 // The header of a batch.
 fn write_header(a: u16, h: u16, out: &mut [u8], at: usize) -> usize

@@ -4,13 +4,15 @@ use Prim.Native.Nat.{ℕ, _+_, _-_, _≤_}
 use native.Mathlib.Omega.{arith}
 use lib.ListN.{length, length-drop, length-set}
 use Rattle.dpa.specs.Frame.{frame, headerBytes, headerSize}
-use Rattle.scene.specs.Book.{stepsIn}
-use Rattle.scene.specs.Compile.{entriesOf, compiled, entryLimit, listLimit}
+use Rattle.book.specs.Book.{stepsIn}
+use Rattle.book.specs.Join.{entriesOf, entryLimit}
+use Rattle.scene.specs.Compile.{compiled, listLimit}
 use Rattle.scene.specs.Call.{lengths}
-use Rattle.scene.specs.Run.{lengthsLeft}
-use Rattle.scene.proofs.Outputs.{steps-length, lengths-length}
-use Rattle.scene.proofs.Runs.{limits}
-use Rattle.scene.proofs.Lists.{good-steps}
+use Rattle.scene.specs.Fill.{lengthsLeft}
+use Rattle.book.proofs.Joining.{steps-length}
+use Rattle.scene.proofs.Outputs.{lengths-length}
+use Rattle.scene.proofs.Lists.{limits}
+use Rattle.book.proofs.Books.{good-steps}
 use Rattle.scene.proofs.Filling.{lengths-begin}
 use Rattle.scene.proofs.Requests.{Left, Open, open-start, open-end, left-end, lengths-room, lengths-more}
 use Rattle.scene.proofs.fill.write_lengths.Statement.{statement}

@@ -4,10 +4,12 @@ use Prim.Native.Nat.{ℕ, suc, _+_, _≤_}
 use native.Mathlib.Omega.{arith}
 use lib.ListN.{length, length-set}
 use borrow.Author.Needs.{needs}
-use Rattle.scene.specs.Book.{stepsIn}
-use Rattle.scene.specs.Group.{joined}
-use Rattle.scene.specs.Compile.{compiled, entryLimit, listLimit}
-use Rattle.scene.proofs.Outputs.{output-length, requests-few, steps-length}
+use Rattle.book.specs.Book.{stepsIn}
+use Rattle.book.specs.Group.{joined}
+use Rattle.scene.specs.Compile.{compiled, listLimit}
+use Rattle.book.specs.Join.{entryLimit}
+use Rattle.scene.proofs.Outputs.{output-length, requests-few}
+use Rattle.book.proofs.Joining.{steps-length}
 use Rattle.scene.proofs.Requests.{short, output-written}
 use Rattle.scene.proofs.request.write_output.Statement.{statement}
 use Rattle.scene.proofs.request.write_output.Tie as tie

@@ -6,15 +6,18 @@ use lib.ListN.{length, length-append, length-drop, length-set}
 use lib.Seq.{sets}
 use Rattle.dpa.specs.Frame.{frame, headerBytes}
 use Rattle.batch.specs.Batch.{entryBytes}
-use Rattle.scene.specs.declared.step.Step.{Step}
-use Rattle.scene.specs.Book.{stepsIn}
-use Rattle.scene.specs.Group.{joined}
-use Rattle.scene.specs.Compile.{runData, joinedItem, entriesOf, compiled, entryLimit, listLimit}
-use Rattle.scene.specs.Run.{bytesLeft}
-use Rattle.scene.proofs.Outputs.{steps-length}
-use Rattle.scene.proofs.Runs.{limits}
-use Rattle.scene.proofs.Writing.{put-two}
-use Rattle.scene.proofs.Lists.{good-steps, steps-part, entry-ok}
+use Rattle.book.specs.declared.step.Step.{Step}
+use Rattle.book.specs.Book.{stepsIn}
+use Rattle.book.specs.Group.{joined}
+use Rattle.book.specs.Entry.{runData, joinedItem}
+use Rattle.book.specs.Join.{entriesOf, entryLimit}
+use Rattle.scene.specs.Compile.{compiled, listLimit}
+use Rattle.scene.specs.Fill.{bytesLeft}
+use Rattle.book.proofs.Joining.{steps-length, steps-part}
+use Rattle.scene.proofs.Lists.{limits}
+use Rattle.book.proofs.Writing.{put-two}
+use Rattle.book.proofs.Books.{good-steps}
+use Rattle.book.proofs.Entries.{entry-ok}
 use Rattle.scene.proofs.Filling.{bytes-begin}
 use Rattle.scene.proofs.Requests.{Left, Open, open-start, open-end, left-end, turn-room, entry-room, bytes-more}
 use Rattle.scene.proofs.request.write_requests.Statement.{statement}

@@ -1,0 +1,86 @@
+-- Laws of grouping: nothing is lost or moved, what each joining keeps each group has, and how a group ends.
+use mathlib.Core.Bool.{Bool, true, false}
+use mathlib.Core.List.{List, [], _∷_, _++_, append-assoc}
+use mathlib.Core.Path.{_≡_, refl, ap, _∙_}
+use Prim.Native.Nat.{ℕ, zero, suc, _≤_, _<_}
+use native.Mathlib.Omega.{arith}
+use lib.ListN.{length, getD, take, drop}
+use lib.Seq.{take-suc, drop-cons}
+use Rattle.dpa.proofs.Bool.{by-cond}
+use Rattle.batch.specs.Batch.{All}
+use Rattle.book.specs.Group.{joined, grow, group}
+
+module _ {A : Type 0} where
+  pub all-snoc : (P : A → Type 0) (xs : List A) (x : A) → All P xs → P x → All P (xs ++ (x ∷ []))
+  all-snoc P [] x a p = (p, tt)
+  all-snoc P (y ∷ ys) x a p = (a .0, all-snoc P ys x (a .1) p)
+
+  pub all-weaken : (P Q : A → Type 0) → ((x : A) → P x → Q x) → (xs : List A) → All P xs → All Q xs
+  all-weaken P Q f [] a = tt
+  all-weaken P Q f (x ∷ xs) a = (f x (a .0), all-weaken P Q f xs (a .1))
+
+  pub all-drop : (P : A → Type 0) (xs : List A) (i : ℕ) → All P xs → All P (drop i xs)
+  all-drop P xs zero a = a
+  all-drop P [] (suc i) a = tt
+  all-drop P (x ∷ xs) (suc i) a = all-drop P xs i (a .1)
+
+  pub joined-append : (xs ys : List (List A)) → joined (xs ++ ys) ≡ joined xs ++ joined ys
+  joined-append [] ys = refl
+  joined-append (x ∷ xs) ys = rw (joined-append xs ys, append-assoc x (joined xs) (joined ys))
+
+module _ {A : Type 0} (fits : List A → A → Bool) where
+  joined-grow : (cur xs : List A) → joined (grow fits cur xs) ≡ cur ++ xs
+  joined-grow cur [] = refl
+  joined-grow cur (x ∷ xs) =
+      by-cond (λ (g : List (List A)). joined g ≡ cur ++ (x ∷ xs)) (fits cur x) _ _
+      (λ _. joined-grow (cur ++ (x ∷ [])) xs ∙ append-assoc cur (x ∷ []) xs)
+      (λ _. ap (λ (l : List A). cur ++ l) (joined-grow (x ∷ []) xs))
+
+  -- the groups in order are the list
+  pub joined-group : (xs : List A) → joined (group fits xs) ≡ xs
+  joined-group [] = refl
+  joined-group (x ∷ xs) = joined-grow (x ∷ []) xs
+
+  length-grow : (cur xs : List A) → length (grow fits cur xs) ≤ suc (length xs)
+  length-grow cur [] = omega arith
+  length-grow cur (x ∷ xs) =
+      by-cond (λ (g : List (List A)). length g ≤ suc (suc (length xs))) (fits cur x) _ _
+      (λ _. omega (arith, length-grow (cur ++ (x ∷ [])) xs)) (λ _. omega (arith, length-grow (x ∷ []) xs))
+
+  -- there are no more groups than elements
+  pub length-group : (xs : List A) → length (group fits xs) ≤ length xs
+  length-group [] = omega arith
+  length-group (x ∷ xs) = length-grow (x ∷ []) xs
+
+  module _ (P : List A → Type 0) (Q : A → Type 0) (one : (x : A) → Q x → P (x ∷ []))
+      (more : (cur : List A) (x : A) → P cur → Q x → fits cur x ≡ true → P (cur ++ (x ∷ []))) where
+    all-grow : (cur xs : List A) → P cur → All Q xs → All P (grow fits cur xs)
+    all-grow cur [] p qs = (p, tt)
+    all-grow cur (x ∷ xs) p qs =
+        by-cond (All P) (fits cur x) _ _
+        (λ e. all-grow (cur ++ (x ∷ [])) xs (more cur x p (qs .0) e) (qs .1))
+        (λ _. (p, all-grow (x ∷ []) xs (one x (qs .0)) (qs .1)))
+
+    -- what an element may start with and each joining keeps, each group has
+    pub all-group : (xs : List A) → All Q xs → All P (group fits xs)
+    all-group [] qs = tt
+    all-group (x ∷ xs) qs = all-grow (x ∷ []) xs (one x (qs .0)) (qs .1)
+
+  -- along a list: the first element begins a group, the next joins it or ends it
+  pub begin : (xs : List A) → 0 < length xs → group fits xs ≡ grow fits (take 1 xs) (drop 1 xs)
+  begin [] h = absurd (omega arith)
+  begin (x ∷ xs) h = refl
+
+  pub joined-on : (d : A) (xs : List A) (k : ℕ) → k < length xs → fits (take k xs) (getD xs k d) ≡ true
+      → grow fits (take k xs) (drop k xs) ≡ grow fits (take (suc k) xs) (drop (suc k) xs)
+  joined-on d xs k h e = rw (drop-cons xs k d h, take-suc xs k d h, e)
+
+  pub left-off : (d : A) (xs : List A) (k : ℕ) → k < length xs → fits (take k xs) (getD xs k d) ≡ false
+      → grow fits (take k xs) (drop k xs) ≡ take k xs ∷ group fits (drop k xs)
+  left-off d xs k h e = rw (drop-cons xs k d h, e)
+
+  pub grow-in : (t : List A) (x : A) (ys : List A) → fits t x ≡ true → grow fits t (x ∷ ys) ≡ grow fits (t ++ (x ∷ [])) ys
+  grow-in t x ys e = rw e
+
+  pub grow-out : (t : List A) (x : A) (ys : List A) → fits t x ≡ false → grow fits t (x ∷ ys) ≡ t ∷ group fits (x ∷ ys)
+  grow-out t x ys e = rw e

@@ -1,0 +1,10 @@
+pub mod Groups
+pub mod Faults
+pub mod Places
+pub mod Sizes
+pub mod Runs
+pub mod Joining
+pub mod Books
+pub mod Examples
+pub mod Entries
+pub mod Writing

@@ -1,0 +1,105 @@
+use mathlib.Core.Path.{_≡_, refl, sym, ap, _∙_}
+use Prim.Native.Nat.{_+_, _*_, _-_, _<_, _≤_}
+use native.Mathlib.Omega.{arith}
+use lib.ListN.{length, drop}
+use Rattle.book.specs.declared.contents.Content.{Content}
+use Rattle.book.specs.Book.{countOf, chained, contentsOf}
+use Rattle.book.proofs.Books.{chain-more, chain-apart, chain-long, chain-end}
+use Rattle.book.proofs.contents.bodies_ok.Statement.{statement}
+use Rattle.book.proofs.contents.bodies_ok.Tie as tie
+
+abbrev Inv-loop : tie.InvT-loop
+Inv-loop b n start₀ i₀ start i =
+    (i ≤ n) × (start ≤ 49 + 256 * i) × (chained (1 + 3 * n) (contentsOf b) (length b) ≡ chained start (drop i (contentsOf b)) (length b))
+
+abbrev μ-loop : tie.MeasureT-loop
+μ-loop b n start₀ i₀ start i = n - i
+
+mul-start : tie.Need-mul-start Inv-loop μ-loop
+mul-start c = omega arith
+
+add-start : tie.Need-add-start Inv-loop μ-loop
+add-start c = omega arith
+
+loop-holds : tie.Need-loop-holds Inv-loop μ-loop
+loop-holds c = (omega arith, omega arith, refl)
+
+content-at-requires : tie.Need-content-at-requires Inv-loop μ-loop
+content-at-requires c κs = omega arith
+
+returns : tie.Need-returns Inv-loop μ-loop
+returns c =
+    let s = c .before .before .before .before .before .before in
+    let p = c .before .before .content-at .ensures in
+    let l = c .before .before .before .before .loop in
+    let b = s .args .b .now in
+    let below : l .i < countOf b = omega (arith, s .pre .2, c .before .before .before .loop-test .taken) in
+    sym (l .inv .2 ∙ chain-apart b (l .i) (l .start) (length b) _ _ below (ap (λ (x : Content). x .offset) (p .0)) (ap (λ (x : Content). x .steps) (p .0)) (c .if1 .taken))
+
+returns-2 : tie.Need-returns-2 Inv-loop μ-loop
+returns-2 c =
+    let s = c .before .before .before .before .before .before .before .before in
+    let p = c .before .before .before .before .content-at .ensures in
+    let l = c .before .before .before .before .before .before .loop in
+    let b = s .args .b .now in
+    let below : l .i < countOf b = omega (arith, s .pre .2, c .before .before .before .before .before .loop-test .taken) in
+    sym (l .inv .2 ∙ chain-long b (l .i) (l .start) (length b) _ _ below (ap (λ (x : Content). x .offset) (p .0)) (ap (λ (x : Content). x .steps) (p .0))
+    (c .before .before .if1 .left) (c .if2 .taken))
+
+mul-start-2 : tie.Need-mul-start-2 Inv-loop μ-loop
+mul-start-2 c = omega (arith, c .before .if2 .left)
+
+add-start-2 : tie.Need-add-start-2 Inv-loop μ-loop
+add-start-2 c =
+    omega (
+      arith,
+      c .before .if2 .left,
+      c .before .before .before .before .before .before .before .loop .inv .1,
+      c .before .before .before .before .before .before .loop-test .taken,
+      c .before .before .before .before .before .before .before .before .before .pre .1,
+    )
+
+add-i : tie.Need-add-i Inv-loop μ-loop
+add-i c = omega arith
+
+loop-less : tie.Need-loop-less Inv-loop μ-loop
+loop-less c = omega arith
+
+loop-again : tie.Need-loop-again Inv-loop μ-loop
+loop-again c =
+    let s = c .before .before .before .before .before .before .before .before .before in
+    let l = c .before .before .before .before .before .before .before .loop in
+    let p = c .before .before .before .before .before .content-at .ensures in (
+      omega arith,
+      omega (arith, l .inv .1, c .before .if2 .left),
+      l .inv .2 ∙ chain-more (s .args .b .now) (l .i) (l .start) (length (s .args .b .now)) _ _
+          (omega (arith, s .pre .2, c .before .before .before .before .before .before .loop-test .taken))
+          (ap (λ (x : Content). x .offset) (p .0)) (ap (λ (x : Content). x .steps) (p .0)) (c .before .before .before .if1 .left)
+          (c .before .if2 .left),
+    )
+
+returns-3 : tie.Need-returns-3 Inv-loop μ-loop
+returns-3 c =
+    let s = c .before .before .before in
+    let l = c .before .loop in
+    let b = s .args .b .now in
+    sym (l .inv .2 ∙ chain-end b (l .i) (l .start) (length b) (omega (arith, s .pre .2, c .loop-test .left)))
+
+pub bodies-ok-spec : {M : Type 1} → statement M
+bodies-ok-spec =
+    tie.close
+    (tie.spec
+    Inv-loop
+    μ-loop
+    mul-start
+    add-start
+    loop-holds
+    content-at-requires
+    returns
+    returns-2
+    mul-start-2
+    add-start-2
+    add-i
+    loop-less
+    loop-again
+    returns-3)

@@ -1,0 +1,45 @@
+use Prim.Native.Nat.{_*_}
+use native.Mathlib.Omega.{arith}
+use lib.ListN.{length-drop}
+use borrow.Author.Needs.{needs}
+use Rattle.dpa.proofs.Lists.{to-end}
+use Rattle.book.proofs.entry.write_entry_at.Statement.{statement}
+use Rattle.book.proofs.entry.write_entry_at.Tie as tie
+
+mul-from : tie.Need-mul-from
+mul-from c = search needs
+
+sub-write-entry : tie.Need-sub-write-entry
+sub-write-entry c = search needs
+
+part-write-entry-start : tie.Need-part-write-entry-start
+part-write-entry-start c = search needs
+
+part-write-entry-end : tie.Need-part-write-entry-end
+part-write-entry-end c = search needs
+
+write-entry-requires : tie.Need-write-entry-requires
+write-entry-requires c κs =
+    let s = c .before .before .before .before in
+    rw (to-end (4 * s .args .i) (s .args .s .now))
+    (omega (arith, s .pre .0, length-drop (4 * s .args .i) (s .args .s .now)), s .pre .1, omega (arith, s .pre .2), s .pre .3, s .pre .4, s .pre .5, s .pre .6)
+
+same-length : tie.Need-same-length
+same-length c = search needs
+
+returns : tie.Need-returns
+returns c =
+    let s = c .before .before .before .before .before .before .before in
+    rw (to-end (4 * s .args .i) (s .args .s .now)) at (c .before .before .write-entry .ensures)
+
+pub write-entry-at-spec : {M : Type 1} → statement M
+write-entry-at-spec =
+    tie.close
+    (tie.spec
+    mul-from
+    sub-write-entry
+    part-write-entry-start
+    part-write-entry-end
+    write-entry-requires
+    same-length
+    returns)

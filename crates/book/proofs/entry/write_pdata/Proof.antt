@@ -1,0 +1,121 @@
+use mathlib.Core.List.{[], _∷_}
+use mathlib.Core.Path.{refl, ap, _∙_}
+use Prim.Native.Nat.{ℕ}
+use native.Mathlib.Omega.{arith}
+use lib.ListN.{length, set, length-set}
+use lib.Seq.{sets}
+use borrow.Author.Needs.{needs}
+use Rattle.book.specs.declared.step.Step.{Step}
+use Rattle.book.specs.Book.{stepsIn}
+use Rattle.book.specs.Entry.{bitmapOf, powersBytes, values, fourBytes}
+use Rattle.book.specs.Run.{stepAt}
+use Rattle.book.proofs.Writing.{put-two, sets-keep, data-lamp, data-mem, values-count}
+use Rattle.book.proofs.entry.write_pdata.Statement.{statement}
+use Rattle.book.proofs.entry.write_pdata.Tie as tie
+
+step-at-requires : tie.Need-step-at-requires
+step-at-requires c κs = search needs
+
+bitmap-of-requires : tie.Need-bitmap-of-requires
+bitmap-of-requires c κs =
+    let p = c .before .before .before .before .pre in
+    (p .0, p .2, p .4 (rw (c .before .step-at .ensures) at (c .if1 .taken)))
+
+write-bitmap-requires : tie.Need-write-bitmap-requires
+write-bitmap-requires c κs =
+    let at = c .before .before in
+    let s = at .before .before .before in
+    let k = rw (at .before .step-at .ensures) at (at .if1 .taken) in
+    omega (arith, s .before .pre .3, ap length (data-lamp (s .before .args .n) (s .before .args .s .now) (s .before .pre .1) k))
+
+write-powers-requires : tie.Need-write-powers-requires
+write-powers-requires c κs =
+    let at = c .before .before .before .before .before .before in
+    let s = at .before .before .before .before in
+    let k = rw (at .before .step-at .ensures) at (at .if1 .taken) in
+    let e = c .before .before .before .write-bitmap .ensures in (
+      s .pre .0,
+      s .pre .2,
+      omega (
+        arith,
+        e .0,
+        sets-keep (s .args .out .now) _ (fourBytes (c .before .before .before .before .before .bitmap-of .result)) (s .args .at) (e .1),
+        s .pre .3,
+        ap length (data-lamp (s .args .n) (s .args .s .now) (s .pre .1) k),
+      ),
+      s .pre .4 k,
+    )
+
+same-length : tie.Need-same-length
+same-length c = search needs
+
+returns : tie.Need-returns
+returns c =
+    let at = c .before .before .before .before .before .before .before .before .before in
+    let s = at .before .before .before .before in
+    let k = rw (at .before .step-at .ensures) at (at .if1 .taken) in
+    let four = c .before .before .before .before .before .before .write-bitmap .ensures in
+    let powers = c .before .before .write-powers .ensures in
+    let ss = stepsIn (s .args .n) (s .args .s .now) in
+    put-two (s .args .out .now) _ _ (fourBytes (bitmapOf ss)) (powersBytes ss) _ _ _ _
+    (four .1 ∙ ap (λ (m : ℕ). sets (s .args .out .now) (s .args .at) (fourBytes m)) (c .before .before .before .before .before .before .before .before .bitmap-of .ensures))
+    (four .0) (powers .1) (powers .0)
+    (data-lamp (s .args .n) (s .args .s .now) (s .pre .1) k)
+
+slice-write-out : tie.Need-slice-write-out
+slice-write-out c =
+    let s = c .before .before .before .before in
+    let k = rw (c .before .step-at .ensures) at (c .if1 .left) in
+    omega (arith, s .pre .3, ap length (data-mem (s .args .n) (s .args .s .now) (s .pre .1) k))
+
+add-write-values : tie.Need-add-write-values
+add-write-values c = search needs
+
+write-values-requires : tie.Need-write-values-requires
+write-values-requires c κs =
+    let s = c .before .before .before .before .before in
+    let k = rw (c .before .before .step-at .ensures) at (c .before .if1 .left) in (
+      s .pre .0,
+      s .pre .2,
+      rw length-set (omega (
+        arith,
+        s .pre .3,
+        values-count (s .args .n) (s .args .s .now),
+        ap length (data-mem (s .args .n) (s .args .s .now) (s .pre .1) k),
+      )),
+    )
+
+same-length-2 : tie.Need-same-length-2
+same-length-2 c =
+    c .before .before .write-values .kept .1 .1 .0 ∙ length-set
+    (c .before .before .before .before .before .before .before .before .args .out .now)
+    (c .before .before .before .before .before .before .before .before .args .at)
+    (c .before .before .before .before .before .step-at .result .target)
+
+returns-2 : tie.Need-returns-2
+returns-2 c =
+    let at = c .before .before .before .before in
+    let s = at .before .before .before .before in
+    let k = rw (at .before .step-at .ensures) at (at .if1 .left) in
+    let vs = c .before .before .write-values .ensures in
+    let n = values-count (s .args .n) (s .args .s .now) in
+    put-two (s .args .out .now) _ _ (stepAt (s .args .s .now) 0 .target ∷ []) (values (stepsIn (s .args .n) (s .args .s .now))) _
+    _ _ _ (ap (λ (x : Step). set (s .args .out .now) (s .args .at) (x .target)) (at .before .step-at .ensures)) refl (vs .1)
+    (omega (arith, vs .0, n))
+    (data-mem (s .args .n) (s .args .s .now) (s .pre .1) k)
+
+pub write-pdata-spec : {M : Type 1} → statement M
+write-pdata-spec =
+    tie.close
+    (tie.spec
+    step-at-requires
+    bitmap-of-requires
+    write-bitmap-requires
+    write-powers-requires
+    same-length
+    returns
+    slice-write-out
+    add-write-values
+    write-values-requires
+    same-length-2
+    returns-2)

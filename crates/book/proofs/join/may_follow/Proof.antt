@@ -1,0 +1,32 @@
+use native.Mathlib.Numerals.{add-one}
+use borrow.Author.Needs.{needs}
+use borrow.Author.Tests.{lt-ltb, le-ltb, eq-eqb, ne-eqb}
+use Rattle.book.specs.Join.{follows}
+use Rattle.book.proofs.join.may_follow.Statement.{statement}
+use Rattle.book.proofs.join.may_follow.Tie as tie
+
+wide-requires : tie.Need-wide-requires
+wide-requires c κs = search needs
+
+wide-requires-2 : tie.Need-wide-requires-2
+wide-requires-2 c κs = search needs
+
+add-result : tie.Need-add-result
+add-result c = search needs
+
+returns : tie.Need-returns
+unfolding follows
+returns c = simp (eq-eqb _ _ (c .before .before .before .before .if1 .taken), lt-ltb _ _ (c .before .before .if2 .taken))
+
+returns-2 : tie.Need-returns-2
+unfolding follows
+returns-2 c =
+    simp (eq-eqb _ _ (c .before .before .before .before .if1 .taken), le-ltb _ _ (c .before .before .if2 .left), c .before .wide .ensures .0, c .wide2 .ensures .0, add-one)
+
+returns-3 : tie.Need-returns-3
+unfolding follows
+returns-3 c = simp (ne-eqb _ _ (c .if1 .left))
+
+pub may-follow-spec : {M : Type 1} → statement M
+may-follow-spec =
+    tie.close (tie.spec wide-requires wide-requires-2 add-result returns returns-2 returns-3)

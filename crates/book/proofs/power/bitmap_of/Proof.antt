@@ -1,0 +1,54 @@
+use mathlib.Core.Path.{refl}
+use Prim.Native.Nat.{_-_}
+use native.Mathlib.Omega.{arith}
+use Rattle.book.proofs.Writing.{Mapped, map-more, map-end}
+use Rattle.book.proofs.power.bitmap_of.Statement.{statement}
+use Rattle.book.proofs.power.bitmap_of.Tie as tie
+
+abbrev Inv-loop : tie.InvT-loop
+Inv-loop s n m₀ i₀ m i = Mapped n s i m
+
+abbrev μ-loop : tie.MeasureT-loop
+μ-loop s n m₀ i₀ m i = n - i
+
+loop-holds : tie.Need-loop-holds Inv-loop μ-loop
+loop-holds c = (omega arith, refl, omega arith)
+
+step-at-requires : tie.Need-step-at-requires Inv-loop μ-loop
+step-at-requires c κs = omega arith
+
+power-of-two-requires : tie.Need-power-of-two-requires Inv-loop μ-loop
+power-of-two-requires c κs =
+    rw (c .step-at .ensures) (c .before .before .before .before .pre .2 (c .before .before .loop .i) (c .before .loop-test .taken) .1)
+
+add-m : tie.Need-add-m Inv-loop μ-loop
+add-m c = omega (arith, c .before .before .before .loop .inv .2, c .power-of-two .ensures .1)
+
+add-i : tie.Need-add-i Inv-loop μ-loop
+add-i c = omega arith
+
+loop-less : tie.Need-loop-less Inv-loop μ-loop
+loop-less c = omega arith
+
+loop-again : tie.Need-loop-again Inv-loop μ-loop
+loop-again c =
+    map-more _ _ _ _ (c .before .step-at .result) _ (c .before .before .before .loop .inv) (c .before .before .loop-test .taken)
+    (c .before .step-at .ensures) (c .power-of-two .ensures .0) (c .power-of-two .ensures .1)
+
+returns : tie.Need-returns Inv-loop μ-loop
+returns c = map-end _ _ _ _ (c .before .loop .inv) (c .loop-test .left)
+
+pub bitmap-of-spec : {M : Type 1} → statement M
+bitmap-of-spec =
+    tie.close
+    (tie.spec
+    Inv-loop
+    μ-loop
+    loop-holds
+    step-at-requires
+    power-of-two-requires
+    add-m
+    add-i
+    loop-less
+    loop-again
+    returns)

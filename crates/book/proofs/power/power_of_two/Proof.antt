@@ -1,0 +1,16 @@
+use native.Mathlib.Omega.{arith}
+use lib.Pow.{pow-mono}
+use borrow.Author.Needs.{needs}
+use Rattle.book.proofs.power.power_of_two.Statement.{statement}
+use Rattle.book.proofs.power.power_of_two.Tie as tie
+
+shl-result : tie.Need-shl-result
+shl-result c = search needs
+
+returns : tie.Need-returns
+returns c =
+    let small = pow-mono {i = c .args .t} {j = 32} (omega arith) in
+    (omega (arith, small), omega (arith, small))
+
+pub power-of-two-spec : {M : Type 1} → statement M
+power-of-two-spec = tie.close (tie.spec shl-result returns)

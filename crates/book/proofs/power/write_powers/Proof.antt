@@ -1,0 +1,67 @@
+use mathlib.Core.Path.{refl}
+use Prim.Native.Nat.{_-_}
+use native.Mathlib.Omega.{arith}
+use Rattle.book.proofs.Writing.{room, Put, put-more, put-end}
+use Rattle.book.proofs.power.write_powers.Statement.{statement}
+use Rattle.book.proofs.power.write_powers.Tie as tie
+
+abbrev Inv-loop : tie.InvT-loop
+Inv-loop s n out₀ at w₀ i₀ out w i = Put n s out₀ at i w out
+
+abbrev μ-loop : tie.MeasureT-loop
+μ-loop s n out₀ at w₀ i₀ out w i = n - i
+
+loop-holds : tie.Need-loop-holds Inv-loop μ-loop
+loop-holds c = (omega arith, omega arith, refl, refl)
+
+step-at-requires : tie.Need-step-at-requires Inv-loop μ-loop
+step-at-requires c κs = omega arith
+
+write-power-requires : tie.Need-write-power-requires Inv-loop μ-loop
+write-power-requires c κs =
+    let at = c .before .before .before in
+    let a = at .before .before .before .args in
+    let h = c .before .before .loop-test .taken in (
+      rw (c .before .step-at .ensures) (at .before .before .before .pre .3 (at .loop .i) h .0),
+      rw (c .before .step-at .ensures) (omega (
+        arith,
+        room (a .n) (a .s .now) (at .loop .i) h,
+        at .loop .inv .1,
+        at .loop .inv .3,
+        at .before .before .before .pre .2,
+      )),
+    )
+
+add-i : tie.Need-add-i Inv-loop μ-loop
+add-i c = omega arith
+
+loop-less : tie.Need-loop-less Inv-loop μ-loop
+loop-less c = omega arith
+
+loop-again : tie.Need-loop-again Inv-loop μ-loop
+loop-again c =
+    let at = c .before .before .before .before .before .before in
+    put-more _ _ _ _ _ _ _ (c .before .before .before .before .step-at .result) _ _ (at .loop .inv)
+    (c .before .before .before .before .before .loop-test .taken)
+    (c .before .before .before .before .step-at .ensures) (c .before .before .write-power .ensures .0) (c .before .before .write-power .ensures .1)
+
+same-length : tie.Need-same-length Inv-loop μ-loop
+same-length c = c .before .loop .inv .3
+
+returns : tie.Need-returns Inv-loop μ-loop
+returns c = put-end _ _ _ _ _ _ _ (c .before .loop .inv) (c .loop-test .left)
+
+pub write-powers-spec : {M : Type 1} → statement M
+write-powers-spec =
+    tie.close
+    (tie.spec
+    Inv-loop
+    μ-loop
+    loop-holds
+    step-at-requires
+    write-power-requires
+    add-i
+    loop-less
+    loop-again
+    same-length
+    returns)

@@ -1,0 +1,29 @@
+use borrow.Author.Tests.{lt-ltb, le-ltb, le-leb, lt-leb, eq-eqb, ne-eqb}
+use Rattle.book.specs.Step.{lampFault, stepTimeOk}
+use Rattle.book.proofs.step.lamp_fault.Statement.{statement}
+use Rattle.book.proofs.step.lamp_fault.Tie as tie
+
+returns : tie.Need-returns
+unfolding lampFault stepTimeOk
+returns c = simp (le-leb _ _ (c .if1 .taken))
+
+returns-2 : tie.Need-returns-2
+unfolding lampFault stepTimeOk
+returns-2 c = simp (lt-leb _ _ (c .before .before .if1 .left), lt-ltb _ _ (c .if2 .taken))
+
+returns-3 : tie.Need-returns-3
+unfolding lampFault stepTimeOk
+returns-3 c = simp (lt-leb _ _ (c .before .before .before .before .if1 .left), le-ltb _ _ (c .before .before .if2 .left), eq-eqb _ _ (c .if3 .taken))
+
+returns-4 : tie.Need-returns-4
+unfolding lampFault stepTimeOk
+returns-4 c =
+    simp (lt-leb _ _ (c .before .before .before .before .before .before .if1 .left), le-ltb _ _ (c .before .before .before .before .if2 .left), ne-eqb _ _ (c .before .before .if3 .left), eq-eqb _ _ (c .if4 .taken))
+
+returns-5 : tie.Need-returns-5
+unfolding lampFault stepTimeOk
+returns-5 c =
+    simp (lt-leb _ _ (c .before .before .before .before .before .before .if1 .left), le-ltb _ _ (c .before .before .before .before .if2 .left), ne-eqb _ _ (c .before .before .if3 .left), ne-eqb _ _ (c .if4 .left))
+
+pub lamp-fault-spec : {M : Type 1} → statement M
+lamp-fault-spec = tie.close (tie.spec returns returns-2 returns-3 returns-4 returns-5)

@@ -1,0 +1,56 @@
+-- Document 01, "Scenes": the entry of joined steps.
+use mathlib.Core.Bool.{cond}
+use mathlib.Core.List.{List, [], _∷_, _++_}
+use Prim.Native.Nat.{ℕ, _+_, _^_}
+use lib.Dec.{ltb, eqb}
+use Rattle.dpa.specs.Number.{low, high}
+use Rattle.batch.specs.Batch.{Item, item}
+use Rattle.book.specs.declared.step.Step.{Step}
+
+-- lamp k's bit for each step
+abbrev pub bitmapOf : List Step → ℕ
+bitmapOf [] = 0
+bitmapOf (s ∷ ss) = 2 ^ (s .target) + bitmapOf ss
+
+-- the four bytes of a bitmap
+abbrev pub fourBytes : ℕ → List ℕ
+fourBytes m = low m ∷ low (high m) ∷ low (high (high m)) ∷ low (high (high (high m))) ∷ []
+
+-- a lamp step's power byte, and its time byte if it has one
+unfoldable pub powerBytes : Step → List ℕ
+powerBytes s = cond (eqb (s .time) 0) (s .value ∷ []) ((s .value + 128) ∷ s .time ∷ [])
+
+abbrev pub powersBytes : List Step → List ℕ
+powersBytes [] = []
+powersBytes (s ∷ ss) = powerBytes s ++ powersBytes ss
+
+abbrev pub values : List Step → List ℕ
+values [] = []
+values (s ∷ ss) = s .value ∷ values ss
+
+-- the PData of the joined steps s ∷ ss: bitmap and powers for lamps, address and values for a memory
+unfoldable pub entryData : Step → List Step → List ℕ
+entryData s ss =
+    cond (ltb (s .kind) 3)
+    (fourBytes (bitmapOf (s ∷ ss)) ++ powersBytes (s ∷ ss))
+    (s .target ∷ values (s ∷ ss))
+
+abbrev pub runData : List Step → List ℕ
+runData [] = []
+runData (s ∷ ss) = entryData s ss
+
+abbrev pub kindOf : List Step → ℕ
+kindOf [] = 0
+kindOf (s ∷ ss) = s .kind
+
+-- lights, RAM or EEPROM
+unfoldable pub pnumOf : ℕ → ℕ
+pnumOf k = cond (ltb k 3) 0x71 (cond (eqb k 3) 0x05 0x03)
+
+-- set, raise, lower, or a memory's write
+unfoldable pub pcmdOf : ℕ → ℕ
+pcmdOf k = cond (ltb k 3) k 0x01
+
+-- the entry of joined steps for the profile h
+abbrev pub joinedItem : ℕ → List Step → Item
+joinedItem h run = item (pnumOf (kindOf run)) (pcmdOf (kindOf run)) h (runData run)

@@ -1,0 +1,32 @@
+-- Document 01, "Scenes": steps joined into entries, for any limit of an entry.
+use mathlib.Core.Bool.{Bool, false, cond, _&&_}
+use mathlib.Core.List.{List, [], _∷_, _++_}
+use Prim.Native.Nat.{ℕ, suc}
+use lib.Dec.{ltb, leb, eqb}
+use lib.ListN.{length}
+use Rattle.book.specs.declared.step.Step.{Step}
+use Rattle.book.specs.Entry.{runData}
+use Rattle.book.specs.Group.{group}
+
+-- the longest PData of an entry
+abbrev pub entryLimit : ℕ
+entryLimit = 50
+
+abbrev pub lastOf : Step → List Step → Step
+lastOf d [] = d
+lastOf d (s ∷ ss) = lastOf s ss
+
+-- the kind is that of the step before, and the target is larger (lamps) or larger by 1 (memories)
+unfoldable pub follows : Step → Step → Bool
+follows p s =
+    eqb (s .kind) (p .kind)
+    && cond (ltb (p .kind) 3) (ltb (p .target) (s .target)) (eqb (s .target) (suc (p .target)))
+
+-- s joins the entry of the steps before it, whose PData stays at most `most`
+abbrev pub joins : ℕ → List Step → Step → Bool
+joins most [] s = false
+joins most (p ∷ ps) s = follows (lastOf p ps) s && leb (length (runData ((p ∷ ps) ++ (s ∷ [])))) most
+
+-- a scene's entries, each the steps that are joined in it
+abbrev pub entriesOf : ℕ → List Step → List (List Step)
+entriesOf entryMost ss = group (joins entryMost) ss

@@ -1,0 +1,7 @@
+pub mod Book
+pub mod Step
+pub mod Machine
+pub mod Group
+pub mod Entry
+pub mod Join
+pub mod Run

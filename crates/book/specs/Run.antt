@@ -1,0 +1,67 @@
+-- What the inner functions compute: a step and a contents entry of the bytes, and the first entry of the steps that are left.
+use mathlib.Core.Bool.{cond, _&&_, true}
+use mathlib.Core.List.{List, _∷_, []}
+use mathlib.Core.Path.{_≡_}
+use Prim.Native.Nat.{ℕ, _+_, _*_, _≤_, _<_}
+use lib.Dec.{ltb, leb, eqb}
+use lib.ListN.{length, getD, take, drop}
+use Rattle.dpa.specs.Number.{word, low, high}
+use Rattle.book.specs.declared.contents.Content.{Content}
+use Rattle.book.specs.declared.step.Step.{Step}
+use Rattle.book.specs.Book.{content}
+use Rattle.book.specs.Join.{follows, entriesOf}
+use Rattle.book.specs.Entry.{runData, pnumOf, pcmdOf}
+use Rattle.book.specs.Step.{goodStep}
+
+-- step i of a scene's bytes
+abbrev pub stepAt : List ℕ → ℕ → Step
+stepAt s i =
+    record {
+      kind = getD s (4 * i) 0;
+      target = getD s (4 * i + 1) 0;
+      value = getD s (4 * i + 2) 0;
+      time = getD s (4 * i + 3) 0;
+    }
+
+-- contents entry i of a book
+abbrev pub contentAt : List ℕ → ℕ → Content
+contentAt b i = content (word (getD b (3 * i + 1) 0) (getD b (3 * i + 2) 0)) (getD b (3 * i + 3) 0)
+
+-- a step's bytes in a lamp entry, and in an entry of kind k
+unfoldable pub powerSize : Step → ℕ
+powerSize s = cond (eqb (s .time) 0) 1 2
+
+unfoldable pub stepSize : ℕ → Step → ℕ
+stepSize k s = cond (ltb k 3) (powerSize s) 1
+
+-- the PData of an entry of one step
+unfoldable pub firstSize : Step → ℕ
+firstSize s = stepSize (s .kind) s + cond (ltb (s .kind) 3) 4 1
+
+-- the PData of `size` bytes with x added behind p in an entry of kind k, or 0 where x does not join
+unfoldable pub joinedSize : ℕ → Step → Step → ℕ → ℕ → ℕ
+joinedSize entryMost p x k size = cond (follows p x && leb (stepSize k x + size) entryMost) (stepSize k x + size) 0
+
+-- the first entry takes k steps and has `size` bytes of PData
+pub record FirstRun (entryMost : ℕ) (ss : List Step) (k size : ℕ) : Type 0 where
+  pub some : 1 ≤ k
+  pub within : k ≤ length ss
+  pub small : size ≤ entryMost
+  pub fits : size ≡ length (runData (take k ss))
+  pub first : entriesOf entryMost ss ≡ take k ss ∷ entriesOf entryMost (drop k ss)
+
+-- each of the n steps is good
+abbrev pub AllGood : List ℕ → ℕ → Type 0
+AllGood s n = (i : ℕ) → i < n → goodStep (stepAt s i) ≡ true
+
+-- each of the n steps has a lamp step's value and target
+abbrev pub Lamps : List ℕ → ℕ → Type 0
+Lamps s n = (i : ℕ) → i < n → (stepAt s i .value ≤ 100) × (stepAt s i .target < 32)
+
+-- what n joined steps need to be written as an entry
+abbrev pub Writable : List ℕ → ℕ → Type 0
+Writable s n = stepAt s 0 .kind < 3 → Lamps s n
+
+-- the five bytes in front of an entry's PData
+abbrev pub headBytes : ℕ → ℕ → ℕ → List ℕ
+headBytes kind h size = (5 + size) ∷ pnumOf kind ∷ pcmdOf kind ∷ low h ∷ high h ∷ []

@@ -1,0 +1,7 @@
+// Scene books: contents, steps and their faults, and the entries of joined steps.
+pub mod contents;
+pub mod entry;
+pub mod fault;
+pub mod join;
+pub mod power;
+pub mod step;

@@ -1,0 +1,100 @@
+// One step of a scene, and what is bad about it.
+use crate::fault;
+use dpa::number::wide;
+use memory::block::Memory;
+use memory::block::size_of;
+ghost use mathlib.Core.Path.{_≡_};
+ghost use mathlib.Core.Bool.{cond};
+ghost use mathlib.Core.Option.{some, none};
+ghost use Prim.Native.Nat.{_+_, _*_, _≤_};
+ghost use lib.ListN.{length};
+ghost use lib.Dec.{ltb};
+ghost use Rattle.memory.specs.Block.{sizeOf};
+ghost use Rattle.book.specs.Book.{stepsIn};
+ghost use Rattle.book.specs.Step.{lampFault, byteFault, stepFault, badFrom};
+ghost use Rattle.book.specs.Run.{stepAt};
+
+// Kinds: 0 set, 1 raise, 2 lower a lamp; 3 writes a byte of RAM, 4 one of EEPROM.
+#[repr(C)]
+pub struct Step {
+    pub kind: u8,
+    pub target: u8,
+    pub value: u8,
+    pub time: u8,
+}
+
+// Step i of a scene's bytes.
+pub fn step_at(s: &[u8], i: usize) -> Step
+    requires { ⌜ 4 * i + 4 ≤ length (now s) ⌝ }
+    ensures { λ r. ⌜ r ≡ stepAt (now (s .entry)) i ⌝ }
+{
+    Step {
+        kind: s[4 * i],
+        target: s[4 * i + 1],
+        value: s[4 * i + 2],
+        time: s[4 * i + 3],
+    }
+}
+
+fn lamp_fault(step: Step) -> u8
+    ensures { λ r. ⌜ r ≡ lampFault step ⌝ }
+{
+    if 32 <= step.target {
+        return fault::TARGET;
+    }
+    if 100 < step.value {
+        return fault::VALUE;
+    }
+    if step.time == 0 {
+        return fault::NONE;
+    }
+    if step.time % 128 == 0 {
+        return fault::TIME;
+    }
+    fault::NONE
+}
+
+fn byte_fault(memory: Memory, step: Step) -> u8
+    ensures { λ r. ⌜ r ≡ byteFault (sizeOf memory) step ⌝ }
+{
+    if size_of(memory) <= wide(step.target) {
+        return fault::TARGET;
+    }
+    if step.time == 0 {
+        return fault::NONE;
+    }
+    fault::TIME
+}
+
+// The first part of a step that is bad.
+pub fn step_fault(step: Step) -> u8
+    ensures { λ r. ⌜ r ≡ stepFault step ⌝ }
+{
+    if step.kind < 3 {
+        return lamp_fault(step);
+    }
+    if step.kind == 3 {
+        return byte_fault(Memory::Ram, step);
+    }
+    if step.kind == 4 {
+        return byte_fault(Memory::Eeprom, step);
+    }
+    fault::KIND
+}
+
+// The number of the first bad step, or n.
+pub fn first_bad(s: &[u8], n: usize) -> usize
+    requires { ⌜ (4 * n ≤ length (now s)) × (n ≤ 64) ⌝ }
+    ensures { λ r. ⌜ (r ≤ n) × (badFrom 0 (stepsIn n (now (s .entry))) ≡ cond (ltb r n) (some r) none) ⌝ }
+{
+    let mut i: usize = 0;
+    while i < n {
+        let x = step_at(s, i);
+        let next = i + 1;
+        if step_fault(x) != fault::NONE {
+            return i;
+        }
+        i = next;
+    }
+    n
+}
