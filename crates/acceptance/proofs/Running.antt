@@ -1,16 +1,19 @@
 -- A scene run on a node ends as the step machine does.
-use mathlib.Core.Path.{_≡_, refl, sym, ap, _∙_}
+use mathlib.Core.Path.{_≡_, refl, sym, ap, _∙_, subst}
 use mathlib.Core.Logic.{inl}
 use mathlib.Core.Bool.{true, false}
-use mathlib.Core.List.{List, _++_}
-use Prim.Native.Nat.{ℕ, _≤_}
+use mathlib.Core.List.{List, [], _∷_, _++_}
+use Prim.Native.Nat.{ℕ, suc, _≤_}
 use native.Mathlib.Omega.{arith}
-use lib.Dec.{ltb}
+use lib.Dec.{ltb, eqb}
 use lib.ListN.{length, drop}
 use borrow.Author.Tests.{eq-eqb, ne-eqb, eqb-true, lt-leb, ltb-false}
-use Rattle.dpa.proofs.Bool.{by-test}
+use Rattle.dpa.proofs.Bool.{by-cond, by-test}
+use Rattle.memory.specs.declared.block.Memory.the-variants.{Eeprom, External}
+use Rattle.memory.specs.Block.{sizeOf}
 use Rattle.node.specs.Node.{nodeOk}
-use Rattle.handler.specs.Request.{State, StateRule}
+use Rattle.handler.specs.Request.{State, StateRule, requestOf}
+use Rattle.handler.proofs.Soundness.{request-rule}
 use Rattle.book.specs.declared.step.Step.{Step}
 use Rattle.book.specs.Book.{countOf, sceneOf}
 use Rattle.book.specs.Step.{stepFault}
@@ -19,9 +22,9 @@ use Rattle.scene.specs.Compile.{compiled}
 use Rattle.scene.specs.Call.{CompileResult, output, outputRoom, requestsIn, addressOk, refusedAt, compileOf}
 use Rattle.book.proofs.Groups.{all-weaken}
 use Rattle.book.proofs.Faults.{Good, no-bad}
-use Rattle.scene.proofs.Outputs.{Faultless, refused-none, written-whole, buffer-back}
+use Rattle.scene.proofs.Outputs.{Faultless, refused-none, compile-refused, written-whole, buffer-back}
 use Rattle.acceptance.specs.SceneTheorem.{Given, afterCalls}
-use Rattle.acceptance.specs.RunScene.{blank, Holds, notRun, afterCompile, runScene}
+use Rattle.acceptance.specs.RunScene.{blank, Holds, Ran, notRun, afterCompile, runScene}
 use Rattle.acceptance.proofs.Scenes.{address-taken, scene-theorem}
 use Rattle.acceptance.proofs.Taken.{output-holds}
 
@@ -110,3 +113,48 @@ module _ (book : List ℕ) (k : ℕ) (st : State) (out : List ℕ) where
               let end : done ≡ machine (sceneOf book k) st =
               d ∙ ap (λ (rs : List (List ℕ)). afterCalls (λ _. blank) rs st) back ∙ scene-theorem st (λ _. blank) book k a h given .final in
               sym (compiled-first ∙ rw (eq-eqb (c .refusal) 0 z) (ap (λ (y : State). notRun 0 0 y (c .buffer)) (sym end)))
+
+-- a sound node with memories of their sizes stays so under any calls
+calls-rule : (buffers : ℕ → List ℕ) (rs : List (List ℕ)) (st : State) → StateRule st → StateRule (afterCalls buffers rs st)
+calls-rule buffers [] st r = r
+calls-rule buffers (f ∷ fs) st r =
+    calls-rule (λ i. buffers (suc i)) fs (requestOf f st (buffers 0) .after) (request-rule f st (buffers 0) r)
+
+module _ (book : List ℕ) (k : ℕ) (st : State) (out : List ℕ) where
+  abbrev Unrun : Ran → Type 0
+  Unrun r = (r .refusal ≡ 0 → ⊥) → (r .after ≡ st) × (r .out ≡ out)
+
+  -- a refused run leaves the node, both memories and the buffer as they were
+  pub scene-refused : (runScene book k st out .refusal ≡ 0 → ⊥) → (runScene book k st out .after ≡ st) × (runScene book k st out .out ≡ out)
+  unfolding runScene afterCompile
+  scene-refused =
+      let a = st .node .settings .address in
+      let h = st .node .settings .hwpid in
+      by-cond Unrun (nodeOk (st .node)) _ _
+      (λ _. by-cond Unrun (eqb (length (st .eeprom)) (sizeOf Eeprom)) _ _
+      (λ _. by-cond Unrun (eqb (length (st .external)) (sizeOf External)) _ _
+      (λ _. by-cond Unrun (eqb (compileOf book k a h out .refusal) 0) _ _
+      (λ _ n. absurd (n refl))
+      (λ _ n. (refl, compile-refused book k a h out n .1)))
+      (λ _ _. (refl, refl)))
+      (λ _ _. (refl, refl)))
+      (λ _ _. (refl, refl))
+
+  -- a run keeps the rules of node and memories
+  pub scene-rule : StateRule st → StateRule (runScene book k st out .after)
+  unfolding runScene afterCompile
+  scene-rule r =
+      let a = st .node .settings .address in
+      let h = st .node .settings .hwpid in
+      let c = compileOf book k a h out in
+      let Kept : Ran → Type 0 = λ (x : Ran). StateRule (x .after) in
+      by-cond Kept (nodeOk (st .node)) _ _
+      (λ _. by-cond Kept (eqb (length (st .eeprom)) (sizeOf Eeprom)) _ _
+      (λ _. by-cond Kept (eqb (length (st .external)) (sizeOf External)) _ _
+      (λ _. by-cond Kept (eqb (c .refusal) 0) _ _
+      (λ z. let g = given book k st out (r .node-ok) (r .eeprom-size) (r .external-size) c refl (eqb-true _ _ z) in
+      subst StateRule (scene-theorem st (λ _. blank) book k a h g .final) (calls-rule (λ _. blank) (compiled a h (sceneOf book k)) st r))
+      (λ _. r))
+      (λ _. r))
+      (λ _. r))
+      (λ _. r)

@@ -8,7 +8,7 @@ use Prim.Native.Nat.{ℕ, suc, _+_, _*_, _≤_, _<_}
 use native.Mathlib.Omega.{arith}
 use lib.ListN.{length, length-append, length-map, drop}
 use lib.Seq.{take-append-seam, drop-append-seam, take-at, drop-at, sets}
-use lib.Dec.{leb}
+use lib.Dec.{ltb, leb}
 use borrow.Author.Tests.{leb-false, lt-leb, le-ltb, not-false}
 use Rattle.dpa.specs.Frame.{longestFrame}
 use Rattle.dpa.proofs.Bool.{by-cond}
@@ -112,6 +112,21 @@ module _ (b : List ℕ) (k a h : ℕ) (out : List ℕ) where
       (λ _. by-cond Whole (not (bookOk b)) _ _ (λ _ z. absurd (omega arith))
       (λ ok. by-cond Whole (leb (countOf b) k) _ _ (λ _ z. absurd (omega arith))
       (λ below. steps-whole (not-false _ ok) (leb-false _ _ below) (badFrom 0 (sceneOf b k)) refl)))
+
+  abbrev Unwritten : CompileResult → Type 0
+  Unwritten r = (r .refusal ≡ 0 → ⊥) → (r .length ≡ 0) × (r .buffer ≡ out)
+
+  steps-unwritten : (o : Option ℕ) → Unwritten (compileSteps o a h (sceneOf b k) out)
+  steps-unwritten (some j) = λ _. (refl, refl)
+  steps-unwritten none = by-cond Unwritten (ltb (length out) outputRoom) _ _ (λ _ _. (refl, refl)) (λ _ n. absurd (n refl))
+
+  -- a refused call has no output, and the buffer stays
+  pub compile-refused : (compileOf b k a h out .refusal ≡ 0 → ⊥) → (compileOf b k a h out .length ≡ 0) × (compileOf b k a h out .buffer ≡ out)
+  unfolding compileOf
+  compile-refused =
+      by-cond Unwritten (not (addressOk a)) _ _ (λ _ _. (refl, refl))
+      (λ _. by-cond Unwritten (not (bookOk b)) _ _ (λ _ _. (refl, refl))
+      (λ _. by-cond Unwritten (leb (countOf b) k) _ _ (λ _ _. (refl, refl)) (λ _. steps-unwritten (badFrom 0 (sceneOf b k)))))
 
   -- refusal 0 exactly without faults, where address and room are in range
   pub refusal-exact : addressOk a ≡ true → outputRoom ≤ length out → (compileOf b k a h out .refusal ≡ 0) ↔ Faultless b k
