@@ -48,22 +48,39 @@ batch-unread d st n =
     by-cond (λ (a : Outcome). (a .after ≡ st) × (a .entries ≡ [])) (eqb (length d) 0) _ _ (λ _. (refl, refl))
     (λ _. rw (ne-eqb (listError (reading d .listed)) 0 n) (refl, refl))
 
+-- an outcome with an error: nothing changed, no data, no entry run, no load mark
+abbrev Clean : State → Outcome → Type 0
+Clean st a = (a .error ≡ 0 → ⊥) → a ≡ plain (refused st (a .error))
+
+batch-clean : (d : List ℕ) (st : State) → Clean st (batchOf d st)
+unfolding batchOf
+batch-clean d st =
+    by-cond (Clean st) (eqb (length d) 0) _ _ (λ _ n. refl)
+    (λ _. by-cond (Clean st) (eqb (listError (reading d .listed)) 0) _ _ (λ _ n. absurd (n refl)) (λ _ n. refl))
+
+check-clean : (d : List ℕ) (st : State) → Clean st (codeCheckOf d st)
+unfolding codeCheckOf
+check-clean d st n =
+    let h = check-harmless (st .external) d n in
+    λ j. record { after = st; error = codeCheck (st .external) d .error; bytes = h .1 j; entries = []; load = h .0 j }
+
+os-clean : (pcmd : ℕ) (d : List ℕ) (st : State) → Clean st (osOf pcmd d st)
+unfolding osOf
+os-clean pcmd d st =
+    by-cond (Clean st) (eqb pcmd 5) _ _ (λ _. batch-clean d st)
+    (λ _. by-cond (Clean st) (eqb pcmd 0x0A) _ _ (λ _. check-clean d st) (λ _ n. refl))
+
+perform-clean : (pnum pcmd : ℕ) (d : List ℕ) (st : State) → Clean st (plain (perform pnum pcmd d st))
+perform-clean pnum pcmd d st n =
+    let h = perform-harmless pnum pcmd d st n in
+    λ j. record { after = h .0 j; error = perform pnum pcmd d st .error; bytes = h .1 j; entries = []; load = false }
+
 -- a request with an error changes nothing, has no data, ran no entry and sets no load mark
 pub carry-harmless : (i : Item) (st : State) → (carryOut i st .error ≡ 0 → ⊥) → carryOut i st ≡ plain (refused st (carryOut i st .error))
-unfolding carryOut osOf batchOf codeCheckOf
+unfolding carryOut
 carry-harmless i st =
-    let P : Outcome → Type 0 = λ a. (a .error ≡ 0 → ⊥) → a ≡ plain (refused st (a .error)) in
-    by-cond P (forNode (st .node .settings) (i .hwpid)) _ _
-    (λ _. by-cond P (eqb (i .pnum) 2) _ _
-    (λ _. by-cond P (eqb (i .pcmd) 5) _ _
-    (λ _. by-cond P (eqb (length (i .pdata)) 0) _ _ (λ _ n. refl)
-    (λ _. by-cond P (eqb (listError (reading (i .pdata) .listed)) 0) _ _ (λ _ n. absurd (n refl)) (λ _ n. refl)))
-    (λ _. by-cond P (eqb (i .pcmd) 0x0A) _ _
-    (λ _ n. let h = check-harmless (st .external) (i .pdata) n in
-    λ j. record { after = st; error = codeCheck (st .external) (i .pdata) .error; bytes = h .1 j; entries = []; load = h .0 j })
-    (λ _ n. refl)))
-    (λ _ n. let h = perform-harmless (i .pnum) (i .pcmd) (i .pdata) st n in
-    λ j. record { after = h .0 j; error = perform (i .pnum) (i .pcmd) (i .pdata) st .error; bytes = h .1 j; entries = []; load = false }))
+    by-cond (Clean st) (forNode (st .node .settings) (i .hwpid)) _ _
+    (λ _. by-cond (Clean st) (eqb (i .pnum) 2) _ _ (λ _. os-clean (i .pcmd) (i .pdata) st) (λ _. perform-clean (i .pnum) (i .pcmd) (i .pdata) st))
     (λ _ n. refl)
 
 -- whatever is sent, a frame whose request has an error leaves the state as it was

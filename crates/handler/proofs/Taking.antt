@@ -18,9 +18,9 @@ use Rattle.dpa.proofs.Lists.{to-end, rear-lent, rear-back, header-over}
 use Rattle.batch.specs.Batch.{Item, item}
 use Rattle.node.specs.declared.record.Node.{Node}
 use Rattle.handler.specs.declared.os.Carried.{Carried}
-use Rattle.handler.specs.declared.answer.Taken.{Taken}
+use Rattle.handler.specs.declared.answer.RequestAnswer.{RequestAnswer}
 use Rattle.node.specs.Node.{nodeOk}
-use Rattle.handler.specs.Request.{State, state, StateRule, Outcome, Left, left, leave, itemOf, carryOut, Called, taken, silent, broadcast, respond, takenOf, requestRefusal, refusalOf, requestOf}
+use Rattle.handler.specs.Request.{State, state, StateRule, Outcome, Left, left, leave, itemOf, carryOut, Called, called, taken, silent, broadcast, respond, takenOf, requestRefusal, refusalOf, requestOf}
 
 -- the request that the code takes out of a frame
 pub frame-item : (f : List ℕ) {h : Frame} → h ≡ headerOf f → item (h .pnum) (h .pcmd) (h .hwpid) (take (length f - 6) (drop 6 f)) ≡ itemOf f
@@ -70,8 +70,8 @@ taken-rule n e x f r z =
     record { node-ok = k .0; eeprom-size = k .3; external-size = k .4 }
 
 -- what the code leaves
-pub taken-as : {s : Settings} {t u : Taken} {r e x o : List ℕ} → t ≡ u → taken s t r e x o ≡ taken s u r e x o
-taken-as {s} {t} {u} {r} {e} {x} {o} q = ap (λ (v : Taken). taken s v r e x o) q
+pub called-as : {r t : RequestAnswer} {e x o : List ℕ} → r ≡ t → called r e x o ≡ called t e x o
+called-as {r} {t} {e} {x} {o} q = ap (λ (u : RequestAnswer). called u e x o) q
 
 -- the response: data in the lent rear part of the buffer, then the header in front
 pub own-answer : (o m : List ℕ) → 8 ≤ length o → (s : Settings) (i : Item) (a : Outcome) {c : Carried} {r e x w : List ℕ}

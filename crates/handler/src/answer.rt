@@ -1,4 +1,6 @@
 // What a call tells of a request.
+use dpa::refusal;
+use dpa::settings::Settings;
 use lights::lamp::Lamp;
 use node::record::Node;
 ghost use mathlib.Core.Path.{_≡_};
@@ -20,7 +22,7 @@ pub struct Taken {
     pub lamps: [Lamp; 32],
 }
 
-// Nothing done: refused.
+// Nothing done: not this node's, or refused.
 pub fn unanswered(node: Node, refusal: u8) -> RequestAnswer
     ensures { λ r. ⌜ r ≡ record { refusal = refusal; length = 0; load = false; node = node } ⌝ }
 {
@@ -32,13 +34,20 @@ pub fn unanswered(node: Node, refusal: u8) -> RequestAnswer
     }
 }
 
-// Nothing done: another node's frame.
-pub fn not_mine(lamps: [Lamp; 32]) -> Taken
-    ensures { λ r. ⌜ r ≡ record { length = 0; load = false; lamps = lamps } ⌝ }
+// The node put together again.
+pub fn answered(settings: Settings, done: Taken, ram: [u8; 48]) -> RequestAnswer
+    ensures { λ r. ⌜ r ≡ record { refusal = 0; length = done .length; load = done .load; node = record { settings = settings; lamps = done .lamps; ram = ram } } ⌝ }
 {
-    Taken {
-        length: 0,
-        load: false,
+    let lamps = done.lamps;
+    let node = Node {
+        settings,
         lamps,
+        ram,
+    };
+    RequestAnswer {
+        refusal: refusal::NONE,
+        length: done.length,
+        load: done.load,
+        node,
     }
 }

@@ -1,7 +1,7 @@
 // Taking a request: from the frame to the response buffer.
 use crate::answer::RequestAnswer;
 use crate::answer::Taken;
-use crate::answer::not_mine;
+use crate::answer::answered;
 use crate::answer::unanswered;
 use crate::entries::for_node;
 use crate::os::Carried;
@@ -149,41 +149,7 @@ fn take_own(
     }
 }
 
-// A frame that passed the refusals, at the parts of the node.
-fn take(
-    settings: Settings,
-    lamps: [Lamp; 32],
-    frame: &[u8],
-    ram: &mut [u8],
-    eeprom: &mut [u8],
-    external: &mut [u8],
-    response: &mut [u8],
-) -> Taken
-    requires { ⌜ StateRule (held settings lamps (now ram) (now eeprom) (now external)) × (headerSize ≤ length (now frame)) × (longestResponse ≤ length (now response)) ⌝ }
-    ensures { λ r. ⌜ taken settings r (now (ram .exit)) (now (eeprom .exit)) (now (external .exit)) (now (response .exit))
-        ≡ takenOf (now (frame .entry)) (held settings lamps (now (ram .entry)) (now (eeprom .entry)) (now (external .entry))) (now (response .entry)) ⌝ }
-{
-    let header = Frame::read(frame);
-    let pdata = &frame[Frame::HEADER..];
-    if header.nadr == Frame::BROADCAST {
-        return take_broadcast(settings, lamps, header, pdata, ram, eeprom, external);
-    }
-    if header.nadr == settings.address {
-        return take_own(
-            settings,
-            lamps,
-            header,
-            pdata,
-            ram,
-            eeprom,
-            external,
-            response,
-        );
-    }
-    not_mine(lamps)
-}
-
-// A frame that passed the refusals. The node is taken apart, since below here only its lamps and its RAM change.
+// A frame that passed the refusals. The node is taken apart, since only its lamps and its RAM change.
 fn take_frame(
     node: Node,
     frame: &[u8],
@@ -195,22 +161,29 @@ fn take_frame(
     ensures { λ r. ⌜ called r (now (eeprom .exit)) (now (external .exit)) (now (response .exit))
         ≡ takenOf (now (frame .entry)) (state node (now (eeprom .entry)) (now (external .entry))) (now (response .entry)) ⌝ }
 {
+    let header = Frame::read(frame);
+    let pdata = &frame[Frame::HEADER..];
     let settings = node.settings;
     let lamps = node.lamps;
     let mut ram = node.ram;
-    let done = take(settings, lamps, frame, &mut ram, eeprom, external, response);
-    let after = done.lamps;
-    let next = Node {
-        settings,
-        lamps: after,
-        ram,
-    };
-    RequestAnswer {
-        refusal: refusal::NONE,
-        length: done.length,
-        load: done.load,
-        node: next,
+    if header.nadr == Frame::BROADCAST {
+        let done = take_broadcast(settings, lamps, header, pdata, &mut ram, eeprom, external);
+        return answered(settings, done, ram);
     }
+    if header.nadr == settings.address {
+        let done = take_own(
+            settings,
+            lamps,
+            header,
+            pdata,
+            &mut ram,
+            eeprom,
+            external,
+            response,
+        );
+        return answered(settings, done, ram);
+    }
+    unanswered(node, refusal::NONE)
 }
 
 // The refusal of a call, 0 for none.

@@ -1,9 +1,8 @@
 use borrow.Author.Needs.{needs}
-use mathlib.Core.Path.{ap, sym, _∙_}
+use mathlib.Core.Path.{sym, _∙_}
 use lib.ListN.{length}
-use Rattle.handler.specs.declared.answer.RequestAnswer.{RequestAnswer}
-use Rattle.handler.specs.Request.{state, called}
-use Rattle.handler.proofs.Taking.{call-refused, call-taken, refusal-none, taken-rule}
+use Rattle.handler.specs.Request.{state}
+use Rattle.handler.proofs.Taking.{call-refused, call-taken, refusal-none, taken-rule, called-as}
 use Rattle.handler.proofs.request.handle_request.Statement.{statement}
 use Rattle.handler.proofs.request.handle_request.Tie as tie
 use Rattle.handler.proofs.request.handle_request.Reads as reads
@@ -21,7 +20,7 @@ unanswered-requires c κs = search needs
 returns : tie.Need-returns
 returns c =
     let a = c .before .before .before .before .before .before .before .args in
-    ap (λ (r : RequestAnswer). called r (a .eeprom .now) (a .external .now) (a .response .now)) (c .unanswered .ensures)
+    called-as (c .unanswered .ensures)
     ∙ call-refused (a .frame .now) (state (a .node) (a .eeprom .now) (a .external .now)) (a .response .now) (c .before .before .request-refusal .ensures) (c .before .if1 .taken)
 
 take-frame-requires : tie.Need-take-frame-requires

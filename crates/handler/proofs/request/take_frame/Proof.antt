@@ -1,0 +1,121 @@
+use borrow.Author.Needs.{needs}
+use mathlib.Core.Path.{_≡_, ap, sym, _∙_}
+use Rattle.dpa.specs.declared.frame.Frame.{Frame}
+use Rattle.dpa.specs.Frame.{headerOf}
+use Rattle.batch.specs.Batch.{Item}
+use Rattle.handler.specs.Request.{State, state, carryOut, broadcast, respond}
+use Rattle.handler.proofs.Taking.{frame-item, taken-broadcast, taken-own, taken-other, called-as}
+use Rattle.handler.proofs.request.take_frame.Statement.{statement}
+use Rattle.handler.proofs.request.take_frame.Tie as tie
+use Rattle.handler.proofs.request.take_frame.Reads as reads
+use Rattle.handler.proofs.request.take_frame.Lts as lts
+use Rattle.dpa.proofs.frame.Frame.read.Reads as read-reads
+use Rattle.handler.proofs.answer.answered.Reads as answered-reads
+use Rattle.handler.proofs.answer.unanswered.Reads as unanswered-reads
+use Rattle.handler.proofs.request.take_broadcast.Reads as take-broadcast-reads
+use Rattle.handler.proofs.request.take_own.Reads as take-own-reads
+
+-- the state that the function is given
+abbrev given : tie.Start → State
+given c = state (c .args .node) (c .args .eeprom .now) (c .args .external .now)
+
+-- the address that was read is the frame's
+nadr-is : (c : tie.After-read) → c .read .result .nadr ≡ headerOf (c .before .before .before .before .before .args .frame .now) .nadr
+nadr-is c = ap (λ (h : Frame). h .nadr) (c .read .ensures)
+
+read-requires : tie.Need-read-requires
+read-requires c κs = search needs
+
+sub-pdata : tie.Need-sub-pdata
+sub-pdata c = search needs
+
+part-pdata-start : tie.Need-part-pdata-start
+part-pdata-start c = search needs
+
+part-pdata-end : tie.Need-part-pdata-end
+part-pdata-end c = search needs
+
+slice-aggregate-take-broadcast : tie.Need-slice-aggregate-take-broadcast
+slice-aggregate-take-broadcast c = search needs
+
+take-broadcast-requires : tie.Need-take-broadcast-requires
+take-broadcast-requires c κs = search needs
+
+answered-requires : tie.Need-answered-requires
+answered-requires c κs = search needs
+
+same-length : tie.Need-same-length
+same-length c = search needs
+
+same-length-2 : tie.Need-same-length-2
+same-length-2 c = search needs
+
+returns : tie.Need-returns
+returns c =
+    let r = c .before .before .before .before .before .before .before .before .before .before .before .before .before .before .before .before in
+    let s = r .before .before .before .before .before in
+    called-as (c .answered .ensures)
+    ∙ c .before .before .before .before .before .before .take-broadcast .ensures (s .args .response .now)
+    ∙ ap (λ (i : Item). broadcast (carryOut i (given s)) (s .args .response .now)) (frame-item (s .args .frame .now) (r .read .ensures))
+    ∙ sym (taken-broadcast (s .args .frame .now) (given s) (s .args .response .now) (sym (nadr-is r) ∙ c .before .before .before .before .before .before .before .before .before .before .if1 .taken))
+
+slice-aggregate-take-own : tie.Need-slice-aggregate-take-own
+slice-aggregate-take-own c = search needs
+
+take-own-requires : tie.Need-take-own-requires
+take-own-requires c κs = search needs
+
+answered-requires-2 : tie.Need-answered-requires-2
+answered-requires-2 c κs = search needs
+
+same-length-3 : tie.Need-same-length-3
+same-length-3 c = search needs
+
+same-length-4 : tie.Need-same-length-4
+same-length-4 c = search needs
+
+same-length-5 : tie.Need-same-length-5
+same-length-5 c = search needs
+
+returns-2 : tie.Need-returns-2
+returns-2 c =
+    let r = c .before .before .before .before .before .before .before .before .before .before .before .before .before .before .before .before .before .before .before .before .before .before in
+    let s = r .before .before .before .before .before in
+    called-as (c .answered2 .ensures)
+    ∙ c .before .before .before .before .before .before .before .before .take-own .ensures
+    ∙ ap (λ (i : Item). respond (s .args .node .settings) i (carryOut i (given s)) (s .args .response .now)) (frame-item (s .args .frame .now) (r .read .ensures))
+    ∙ sym (taken-own (s .args .frame .now) (given s) (s .args .response .now) (λ z. c .before .before .before .before .before .before .before .before .before .before .before .before .before .before .before .before .if1 .left (nadr-is r ∙ z)) (sym (nadr-is r) ∙ c .before .before .before .before .before .before .before .before .before .before .before .before .before .if2 .taken))
+
+unanswered-requires : tie.Need-unanswered-requires
+unanswered-requires c κs = search needs
+
+returns-3 : tie.Need-returns-3
+returns-3 c =
+    let r = c .before .before .before .before .before .before .before .before .before .before in
+    let s = r .before .before .before .before .before in
+    called-as (c .unanswered .ensures)
+    ∙ sym (taken-other (s .args .frame .now) (given s) (s .args .response .now) (λ z. c .before .before .before .before .if1 .left (nadr-is r ∙ z)) (λ z. c .before .if2 .left (nadr-is r ∙ z)))
+
+pub take-frame-spec : {M : Type 1} → statement M
+take-frame-spec =
+    tie.close
+    (tie.spec
+    read-requires
+    sub-pdata
+    part-pdata-start
+    part-pdata-end
+    slice-aggregate-take-broadcast
+    take-broadcast-requires
+    answered-requires
+    same-length
+    same-length-2
+    returns
+    slice-aggregate-take-own
+    take-own-requires
+    answered-requires-2
+    same-length-3
+    same-length-4
+    same-length-5
+    returns-2
+    unanswered-requires
+    returns-3)
