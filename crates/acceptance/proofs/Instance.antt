@@ -19,7 +19,7 @@ use Rattle.book.specs.Machine.{machineLevel, machineSeconds, machineLamps, mach
 use Rattle.book.specs.Entry.{powerBytes, entryData, pnumOf, pcmdOf}
 use Rattle.book.specs.Join.{follows, entryLimit}
 use Rattle.scene.specs.Compile.{listLimit, batchesOf, compiled}
-use Rattle.acceptance.specs.SceneTheorem.{Given, Obeyed, afterCalls}
+use Rattle.acceptance.specs.SceneTheorem.{Given, DoneAsSteps, afterCalls}
 use Rattle.acceptance.proofs.Scenes.{scene-theorem}
 
 -- five lamps on step 10; the RAM's and the EEPROM's last bytes stand apart
@@ -97,12 +97,12 @@ unfolding sceneOf stepFault lampFault byteFault stepTimeOk machineLevel machineS
 machine-leaves = refl
 
 -- both lists of requests succeed call by call
-pub obeyed-own : Obeyed 0x05 7 buffers (compiled 7 0x2471 (sceneOf book 1)) (sceneOf book 1) before
-obeyed-own = scene-theorem before buffers book 1 7 0x2471 given-own
+pub done-own : DoneAsSteps 0x05 7 buffers (compiled 7 0x2471 (sceneOf book 1)) (sceneOf book 1) before
+done-own = scene-theorem before buffers book 1 7 0x2471 given-own
 
-pub obeyed-all : Obeyed 0x05 255 buffers (compiled 255 0xFFFF (sceneOf book 1)) (sceneOf book 1) before
-obeyed-all = scene-theorem before buffers book 1 255 0xFFFF given-all
+pub done-all : DoneAsSteps 0x05 255 buffers (compiled 255 0xFFFF (sceneOf book 1)) (sceneOf book 1) before
+done-all = scene-theorem before buffers book 1 255 0xFFFF given-all
 
 -- and the node ends with these lamps, timers and bytes
 pub calls-leave : afterCalls buffers (compiled 7 0x2471 (sceneOf book 1)) before ≡ afterwards
-calls-leave = obeyed-own .final ∙ machine-leaves
+calls-leave = done-own .final ∙ machine-leaves

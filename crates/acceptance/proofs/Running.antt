@@ -24,7 +24,7 @@ use Rattle.book.proofs.Groups.{all-weaken}
 use Rattle.book.proofs.Faults.{Good, no-bad}
 use Rattle.scene.proofs.Outputs.{Faultless, refused-none, compile-refused, written-whole, buffer-back}
 use Rattle.acceptance.specs.SceneTheorem.{Given, afterCalls}
-use Rattle.acceptance.specs.RunScene.{blank, Holds, Ran, notRun, afterCompile, runScene}
+use Rattle.acceptance.specs.RunScene.{cleared, Holds, Ran, notRun, afterCompile, runScene}
 use Rattle.acceptance.proofs.Scenes.{address-taken, scene-theorem}
 use Rattle.acceptance.proofs.Taken.{output-holds}
 
@@ -89,7 +89,7 @@ module _ (book : List ℕ) (k : ℕ) (st : State) (out : List ℕ) where
               ap (λ (d : CompileResult). d .buffer) (q ∙ written-whole book k (st .node .settings .address) (st .node .settings .hwpid) out own-address room faultless) in
               rw w (output-holds rs (drop (length (output rs)) out))
 
-          given : Given st (λ _. blank) book k (st .node .settings .address) (st .node .settings .hwpid)
+          given : Given st (λ _. cleared) book k (st .node .settings .address) (st .node .settings .hwpid)
           given =
               record {
                 sound = rule;
@@ -103,7 +103,7 @@ module _ (book : List ℕ) (k : ℕ) (st : State) (out : List ℕ) where
               }
 
           -- node and memories after the requests are those of the step machine
-          pub run-done : (done : State) → done ≡ afterCalls (λ _. blank) (requestsIn (c .buffer)) st → notRun 0 0 done (c .buffer) ≡ runScene book k st out
+          pub run-done : (done : State) → done ≡ afterCalls (λ _. cleared) (requestsIn (c .buffer)) st → notRun 0 0 done (c .buffer) ≡ runScene book k st out
           unfolding afterCompile
           run-done done d =
               let a = st .node .settings .address in
@@ -111,7 +111,7 @@ module _ (book : List ℕ) (k : ℕ) (st : State) (out : List ℕ) where
               let back : requestsIn (c .buffer) ≡ compiled a h (sceneOf book k) =
               ap (λ (y : CompileResult). requestsIn (y .buffer)) q ∙ buffer-back book k a h out own-address room faultless in
               let end : done ≡ machine (sceneOf book k) st =
-              d ∙ ap (λ (rs : List (List ℕ)). afterCalls (λ _. blank) rs st) back ∙ scene-theorem st (λ _. blank) book k a h given .final in
+              d ∙ ap (λ (rs : List (List ℕ)). afterCalls (λ _. cleared) rs st) back ∙ scene-theorem st (λ _. cleared) book k a h given .final in
               sym (compiled-first ∙ rw (eq-eqb (c .refusal) 0 z) (ap (λ (y : State). notRun 0 0 y (c .buffer)) (sym end)))
 
 -- a sound node with memories of their sizes stays so under any calls
@@ -153,7 +153,7 @@ module _ (book : List ℕ) (k : ℕ) (st : State) (out : List ℕ) where
       (λ _. by-cond Kept (eqb (length (st .external)) (sizeOf External)) _ _
       (λ _. by-cond Kept (eqb (c .refusal) 0) _ _
       (λ z. let g = given book k st out (r .node-ok) (r .eeprom-size) (r .external-size) c refl (eqb-true _ _ z) in
-      subst StateRule (scene-theorem st (λ _. blank) book k a h g .final) (calls-rule (λ _. blank) (compiled a h (sceneOf book k)) st r))
+      subst StateRule (scene-theorem st (λ _. cleared) book k a h g .final) (calls-rule (λ _. cleared) (compiled a h (sceneOf book k)) st r))
       (λ _. r))
       (λ _. r))
       (λ _. r))

@@ -27,7 +27,7 @@ use Rattle.scene.proofs.Lists.{limits}
 use Rattle.scene.proofs.Outputs.{written-whole}
 use Rattle.acceptance.specs.SceneTheorem.{Given, SceneTheorem}
 use Rattle.acceptance.proofs.Runs.{run-performs}
-use Rattle.acceptance.proofs.Sessions.{steps-obeyed}
+use Rattle.acceptance.proofs.Sessions.{steps-done}
 
 -- a node takes its own profile and the one for all
 own-profile : (s : Settings) (h : ℕ) → (h ≡ s .hwpid) ⊎ (h ≡ 0xFFFF) → forNode s h ≡ true
@@ -58,7 +58,7 @@ pub scene-theorem : SceneTheorem
 scene-theorem st buffers book scene a h g =
     let s = st .node .settings in
     let own = own-profile s h (g .profile) in
-    steps-obeyed limits 0x05 a h s (g .address) own
+    steps-done limits 0x05 a h s (g .address) own
     (λ list t e. batch-carried h list t (ap (λ (n : Settings). forNode n h) e ∙ own))
     (run-performs limits h)
     (sceneOf book scene) buffers st (scene-good g) (g .sound) refl (g .room)

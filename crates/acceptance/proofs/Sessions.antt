@@ -19,7 +19,7 @@ use Rattle.book.proofs.Faults.{Good}
 use Rattle.book.proofs.Runs.{Run, joining-keeps}
 use Rattle.scene.proofs.Lists.{Filling, fillings, filling-keeps}
 use Rattle.scene.proofs.Sizes.{filling-fits}
-use Rattle.acceptance.specs.SceneTheorem.{Success, AllSucceed, afterCalls, Obeyed}
+use Rattle.acceptance.specs.SceneTheorem.{Success, AllSucceed, afterCalls, DoneAsSteps}
 use Rattle.acceptance.proofs.Batches.{AllPerform, entries-perform, batch-performs}
 use Rattle.acceptance.proofs.Calls.{call-leaves, call-sound, call-succeeds}
 
@@ -52,16 +52,16 @@ module _ {entryMost listMost : ℕ} {front : List ℕ} (limits : Limits entryMos
         sound = call-sound pcmd a h (front ++ list) st o k short room to did;
       }
 
-  requests-obeyed : (bs : List (List (List Step))) (buffers : ℕ → List ℕ) (st : State)
+  requests-done : (bs : List (List (List Step))) (buffers : ℕ → List ℕ) (st : State)
       → All (Filling entryMost listMost h) bs → StateRule st → st .node .settings ≡ s → ((k : ℕ) → 64 ≤ length (buffers k))
       → AllSucceed pcmd a s buffers (map (requestBytes pcmd front a h) bs) st
       × (afterCalls buffers (map (requestBytes pcmd front a h) bs) st ≡ machine (joined (joined bs)) st)
-  requests-obeyed [] buffers st b k e room = (tt, refl)
-  requests-obeyed (runs ∷ bs) buffers st b k e room =
+  requests-done [] buffers st b k e room = (tt, refl)
+  requests-done (runs ∷ bs) buffers st b k e room =
       let first = request-done runs st (buffers 0) (b .0) k e (room 0) in
       let next = requestOf (requestBytes pcmd front a h runs) st (buffers 0) .after in
       let same : next .node .settings ≡ s = ap (λ (t : State). t .node .settings) (first .after) ∙ machine-stays (joined runs) st .settings ∙ e in
-      let rest = requests-obeyed bs (λ j. buffers (suc j)) next (b .1) (first .sound) same (λ j. room (suc j)) in (
+      let rest = requests-done bs (λ j. buffers (suc j)) next (b .1) (first .sound) same (λ j. room (suc j)) in (
         (first .success, rest .0),
         rest .1
             ∙ ap (machine (joined (joined bs))) (first .after)
@@ -70,12 +70,12 @@ module _ {entryMost listMost : ℕ} {front : List ℕ} (limits : Limits entryMos
       )
 
   -- steps of which none is bad
-  pub steps-obeyed : (steps : List Step) (buffers : ℕ → List ℕ) (st : State)
+  pub steps-done : (steps : List Step) (buffers : ℕ → List ℕ) (st : State)
       → All Good steps → StateRule st → st .node .settings ≡ s → ((k : ℕ) → 64 ≤ length (buffers k))
-      → Obeyed pcmd a buffers (requestsOf entryMost listMost pcmd front a h steps) steps st
-  steps-obeyed steps buffers st good k e room =
+      → DoneAsSteps pcmd a buffers (requestsOf entryMost listMost pcmd front a h steps) steps st
+  steps-done steps buffers st good k e room =
       let bs = batchesOf entryMost listMost h steps in
-      let did = requests-obeyed bs buffers st (fillings limits h steps good) k e room in
+      let did = requests-done bs buffers st (fillings limits h steps good) k e room in
       let whole : joined (joined bs) ≡ steps = ap joined (filling-keeps entryMost listMost h steps) ∙ joining-keeps entryMost steps in
       record {
         calls = subst (λ (n : Settings). AllSucceed pcmd a n buffers (requestsOf entryMost listMost pcmd front a h steps) st) (sym e) (did .0);

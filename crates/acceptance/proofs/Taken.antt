@@ -11,7 +11,7 @@ use Rattle.scene.specs.Call.{cut, requestsIn, lengths, output}
 use Rattle.book.specs.Group.{joined}
 use Rattle.scene.proofs.Outputs.{lengths-length}
 use Rattle.acceptance.specs.SceneTheorem.{afterCalls}
-use Rattle.acceptance.specs.RunScene.{blank, total, Holds}
+use Rattle.acceptance.specs.RunScene.{cleared, total, Holds}
 
 -- where a length byte n stands first: its request lies in the bytes, and so do the others behind it
 pub first-covered : (ns bs : List ℕ) {n : ℕ} → (length ns ≡ 0 → ⊥) → n ≡ getD ns 0 0 → total ns ≤ length bs → n ≤ length bs
@@ -24,22 +24,22 @@ rest-covered [] bs z e h = absurd (z refl)
 rest-covered (m ∷ ns) bs {n} z e h = rw (to-end 1 (m ∷ ns), to-end n bs, length-drop) (omega arith)
 
 -- no length byte is left
-pub none-taken : (ns bs : List ℕ) (st : State) → length ns ≡ 0 → st ≡ afterCalls (λ _. blank) (cut ns bs) st
+pub none-taken : (ns bs : List ℕ) (st : State) → length ns ≡ 0 → st ≡ afterCalls (λ _. cleared) (cut ns bs) st
 none-taken [] bs st z = refl
 none-taken (m ∷ ns) bs st z = absurd (omega arith)
 
 -- one request, and then the others from what it left
 pub one-taken : (ns bs : List ℕ) (st : State) {n : ℕ} {next last : State} → (length ns ≡ 0 → ⊥) → n ≡ getD ns 0 0
-    → next ≡ requestOf (take n bs) st blank .after
-    → last ≡ afterCalls (λ _. blank) (cut (take (length ns - 1) (drop 1 ns)) (take (length bs - n) (drop n bs))) next
-    → last ≡ afterCalls (λ _. blank) (cut ns bs) st
+    → next ≡ requestOf (take n bs) st cleared .after
+    → last ≡ afterCalls (λ _. cleared) (cut (take (length ns - 1) (drop 1 ns)) (take (length bs - n) (drop n bs))) next
+    → last ≡ afterCalls (λ _. cleared) (cut ns bs) st
 one-taken [] bs st z e p q = absurd (z refl)
 one-taken (m ∷ ns) bs st {n} {next} z e p q =
     q
-    ∙ ap (λ (l : List ℕ). afterCalls (λ _. blank) (cut l (take (length bs - n) (drop n bs))) next) (to-end 1 (m ∷ ns))
-    ∙ ap (λ (l : List ℕ). afterCalls (λ _. blank) (cut ns l) next) (to-end n bs)
-    ∙ ap (afterCalls (λ _. blank) (cut ns (drop n bs))) p
-    ∙ ap (λ (k : ℕ). afterCalls (λ _. blank) (cut ns (drop k bs)) (requestOf (take k bs) st blank .after)) e
+    ∙ ap (λ (l : List ℕ). afterCalls (λ _. cleared) (cut l (take (length bs - n) (drop n bs))) next) (to-end 1 (m ∷ ns))
+    ∙ ap (λ (l : List ℕ). afterCalls (λ _. cleared) (cut ns l) next) (to-end n bs)
+    ∙ ap (afterCalls (λ _. cleared) (cut ns (drop n bs))) p
+    ∙ ap (λ (k : ℕ). afterCalls (λ _. cleared) (cut ns (drop k bs)) (requestOf (take k bs) st cleared .after)) e
 
 -- the two parts of an output that the code hands on
 module _ (o : List ℕ) {n : ℕ} (e : n ≡ getD o 0 0) where

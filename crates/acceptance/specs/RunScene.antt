@@ -4,6 +4,7 @@ use mathlib.Core.List.{List, [], _∷_}
 use mathlib.Core.Bool.{cond}
 use lib.ListN.{length, getD, take, drop, replicate}
 use lib.Dec.{eqb}
+use Rattle.dpa.specs.Frame.{longestResponse}
 use Rattle.memory.specs.declared.block.Memory.the-variants.{Eeprom, External}
 use Rattle.memory.specs.Block.{sizeOf}
 use Rattle.node.specs.Node.{nodeOk}
@@ -14,8 +15,8 @@ use Rattle.scene.specs.Call.{CompileResult, compileOf}
 use Rattle.acceptance.specs.declared.run.SceneAnswer.{SceneAnswer}
 
 -- the response buffer of each call
-abbrev pub blank : List ℕ
-blank = replicate 64 0
+abbrev pub cleared : List ℕ
+cleared = replicate longestResponse 0
 
 abbrev pub total : List ℕ → ℕ
 total [] = 0

@@ -11,7 +11,7 @@ use lib.ListN.{length}
 use lib.Dec.{eqb}
 use Rattle.dpa.specs.declared.settings.Settings.{Settings}
 use Rattle.dpa.specs.Lists.{over}
-use Rattle.dpa.specs.Frame.{responseHeader}
+use Rattle.dpa.specs.Frame.{responseHeaderSize, longestResponse, broadcastNadr, anyHwpid, responseHeader}
 use Rattle.batch.specs.Batch.{All}
 use Rattle.handler.specs.Request.{State, StateRule, itemOf, carryOut, requestOf}
 use Rattle.book.specs.declared.step.Step.{Step}
@@ -24,12 +24,12 @@ use Rattle.scene.specs.Compile.{compiled}
 -- number, with any contents; a scene without a fault; the node's address or 255, its profile or 0xFFFF.
 pub record Given (st : State) (buffers : ℕ → List ℕ) (book : List ℕ) (scene a h : ℕ) : Type 0 where
   pub sound : StateRule st
-  pub room : (k : ℕ) → 64 ≤ length (buffers k)
+  pub room : (k : ℕ) → longestResponse ≤ length (buffers k)
   pub well-formed : bookOk book ≡ true
   pub known : scene < countOf book
   pub no-fault : All (λ (s : Step). stepFault s ≡ 0) (sceneOf book scene)
-  pub address : (a ≡ st .node .settings .address) ⊎ (a ≡ 255)
-  pub profile : (h ≡ st .node .settings .hwpid) ⊎ (h ≡ 0xFFFF)
+  pub address : (a ≡ st .node .settings .address) ⊎ (a ≡ broadcastNadr)
+  pub profile : (h ≡ st .node .settings .hwpid) ⊎ (h ≡ anyHwpid)
 
 -- A request of OS 02 that a node with these settings takes, at address a, without an error in any part.
 pub record Success (pcmd a : ℕ) (s : Settings) (request : List ℕ) (st : State) (buffer : List ℕ) : Type 0 where
@@ -39,8 +39,8 @@ pub record Success (pcmd a : ℕ) (s : Settings) (request : List ℕ) (st : Stat
   pub error : carryOut (itemOf request) st .error ≡ 0
   pub entries : All (λ (e : ℕ). e ≡ 0) (carryOut (itemOf request) st .entries)
   -- the answer: eight header bytes and the later bytes as they were, or at broadcast the buffer as it was
-  pub length : requestOf request st buffer .length ≡ cond (eqb a 255) 0 8
-  pub response : requestOf request st buffer .response ≡ cond (eqb a 255) buffer (over (responseHeader s 0x02 pcmd 0) buffer)
+  pub length : requestOf request st buffer .length ≡ cond (eqb a broadcastNadr) 0 responseHeaderSize
+  pub response : requestOf request st buffer .response ≡ cond (eqb a broadcastNadr) buffer (over (responseHeader s 0x02 pcmd 0) buffer)
   pub load : requestOf request st buffer .load ≡ false
 
 -- Requests in order, each call from what the last one left, and the first with the first buffer.
@@ -56,7 +56,7 @@ afterCalls buffers [] st = st
 afterCalls buffers (r ∷ rs) st = afterCalls (λ k. buffers (suc k)) rs (requestOf r st (buffers 0) .after)
 
 -- The list of requests as a whole: every call succeeds, and node and memories end as those of the step machine.
-pub record Obeyed (pcmd a : ℕ) (buffers : ℕ → List ℕ) (requests : List (List ℕ)) (steps : List Step) (st : State) : Type 0 where
+pub record DoneAsSteps (pcmd a : ℕ) (buffers : ℕ → List ℕ) (requests : List (List ℕ)) (steps : List Step) (st : State) : Type 0 where
   pub calls : AllSucceed pcmd a (st .node .settings) buffers requests st
   pub final : afterCalls buffers requests st ≡ machine steps st
 
@@ -64,4 +64,4 @@ pub record Obeyed (pcmd a : ℕ) (buffers : ℕ → List ℕ) (requests : List (
 abbrev pub SceneTheorem : Type 0
 SceneTheorem =
     (st : State) (buffers : ℕ → List ℕ) (book : List ℕ) (scene a h : ℕ) → Given st buffers book scene a h
-    → Obeyed 0x05 a buffers (compiled a h (sceneOf book scene)) (sceneOf book scene) st
+    → DoneAsSteps 0x05 a buffers (compiled a h (sceneOf book scene)) (sceneOf book scene) st

@@ -1,4 +1,5 @@
 // A scene run on a node: compiled into a lent buffer, and its requests taken one after the other.
+use dpa::frame::Frame;
 use dpa::number::wide;
 use dpa::refusal;
 use handler::request::handle_request;
@@ -13,7 +14,7 @@ ghost use lib.ListN.{length};
 ghost use Rattle.scene.specs.Call.{cut, requestsIn};
 ghost use Rattle.handler.specs.Request.{state, requestOf};
 ghost use Rattle.acceptance.specs.SceneTheorem.{afterCalls};
-ghost use Rattle.acceptance.specs.RunScene.{blank, total, Holds, runScene, ranAs};
+ghost use Rattle.acceptance.specs.RunScene.{cleared, total, Holds, runScene, ranAs};
 
 // A refusal's number, or 0; with 8 the number of the bad step; the node afterwards.
 #[repr(C)]
@@ -26,9 +27,9 @@ pub struct SceneAnswer {
 // One request. Its answer goes to an array of its own.
 fn take_request(node: Node, frame: &[u8], eeprom: &mut [u8], external: &mut [u8]) -> Node
     ensures { λ r. ⌜ state r (now (eeprom .exit)) (now (external .exit))
-        ≡ requestOf (now (frame .entry)) (state node (now (eeprom .entry)) (now (external .entry))) blank .after ⌝ }
+        ≡ requestOf (now (frame .entry)) (state node (now (eeprom .entry)) (now (external .entry))) cleared .after ⌝ }
 {
-    let mut response = [0u8; 64];
+    let mut response = [0u8; Frame::RESPONSE_LONGEST];
     let taken = handle_request(node, frame, eeprom, external, &mut response);
     taken.node
 }
@@ -43,7 +44,7 @@ fn take_requests(
 ) -> Node
     requires { ⌜ total (now lengths) ≤ length (now requests) ⌝ }
     ensures { λ r. ⌜ state r (now (eeprom .exit)) (now (external .exit))
-        ≡ afterCalls (λ _. blank) (cut (now (lengths .entry)) (now (requests .entry))) (state node (now (eeprom .entry)) (now (external .entry))) ⌝ }
+        ≡ afterCalls (λ _. cleared) (cut (now (lengths .entry)) (now (requests .entry))) (state node (now (eeprom .entry)) (now (external .entry))) ⌝ }
 {
     if lengths.len() == 0 {
         return node;
@@ -57,7 +58,7 @@ fn take_requests(
 fn take_output(node: Node, output: &[u8], eeprom: &mut [u8], external: &mut [u8]) -> Node
     requires { ⌜ Holds (now output) ⌝ }
     ensures { λ r. ⌜ state r (now (eeprom .exit)) (now (external .exit))
-        ≡ afterCalls (λ _. blank) (requestsIn (now (output .entry))) (state node (now (eeprom .entry)) (now (external .entry))) ⌝ }
+        ≡ afterCalls (λ _. cleared) (requestsIn (now (output .entry))) (state node (now (eeprom .entry)) (now (external .entry))) ⌝ }
 {
     let from = 1 + wide(output[0]);
     take_requests(node, &output[1..from], &output[from..], eeprom, external)
