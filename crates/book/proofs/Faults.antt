@@ -9,9 +9,9 @@ use native.Mathlib.Omega.{arith}
 use lib.Dec.{ltb, leb, eqb}
 use borrow.Author.Tests.{eqb-true, eq-eqb, ne-eqb, ltb-false, leb-false, lt-ltb, le-ltb}
 use Rattle.dpa.proofs.Bool.{by-test, second-taken, first-taken}
-use Rattle.batch.specs.Batch.{All}
 use Rattle.memory.specs.Block.{sizeOf}
 use Rattle.memory.specs.declared.block.Memory.the-variants.{Eeprom, Ram}
+use Rattle.batch.specs.Batch.{All}
 use Rattle.book.specs.declared.step.Step.{Step}
 use Rattle.book.specs.Step.{stepTimeOk, lampFault, byteFault, stepFault, goodStep, badFrom}
 

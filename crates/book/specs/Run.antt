@@ -1,4 +1,5 @@
--- What the inner functions compute: a step and a contents entry of the bytes, and the first entry of the steps that are left.
+-- What the inner functions compute: a step and a contents entry of the bytes, and the first entry of the steps that are left,
+-- for any limit of an entry; what steps need to be written.
 use mathlib.Core.Bool.{cond, _&&_, true}
 use mathlib.Core.List.{List, _∷_, []}
 use mathlib.Core.Path.{_≡_}

@@ -110,7 +110,7 @@ module _ {entryMost listMost : ℕ} {front : List ℕ} (l : Limits entryMost lis
 
 -- ---- the next entry of the steps from `done` on
 module _ (entryMost listMost : ℕ) (ss : List Step) (done k sz : ℕ) (f : FirstRun entryMost (drop done ss) k sz) where
-  entries-next : entriesOf entryMost (drop done ss) ≡ take k (drop done ss) ∷ entriesOf entryMost (drop (done + k) ss)
+  pub entries-next : entriesOf entryMost (drop done ss) ≡ take k (drop done ss) ∷ entriesOf entryMost (drop (done + k) ss)
   entries-next = f .first ∙ ap (λ (t : List Step). take k (drop done ss) ∷ entriesOf entryMost t) (drop-drop k done ss)
 
   pub bytes-next : (head : List ℕ) (h size : ℕ) → bytesLeft listMost head h size (entriesOf entryMost (drop done ss))

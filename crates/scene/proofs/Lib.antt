@@ -3,4 +3,5 @@ pub mod Sizes
 pub mod Outputs
 pub mod Filling
 pub mod Requests
+pub mod Kept
 pub mod Examples

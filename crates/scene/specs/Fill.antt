@@ -1,6 +1,7 @@
 -- What is left to write behind an open list, for any two limits and any bytes in front of a list.
 use mathlib.Core.List.{List, [], _∷_, _++_}
 use mathlib.Core.Bool.{Bool, cond}
+use mathlib.Core.Path.{_≡_}
 use Prim.Native.Nat.{ℕ, _+_, _≤_}
 use lib.ListN.{length}
 use lib.Dec.{leb}
@@ -8,6 +9,7 @@ use Rattle.dpa.specs.Frame.{pdataMax}
 use Rattle.batch.specs.Batch.{entryBytes}
 use Rattle.book.specs.declared.step.Step.{Step}
 use Rattle.book.specs.Entry.{runData, joinedItem}
+use Rattle.book.specs.Join.{entriesOf}
 
 -- what the limits and the bytes in front of the lists keep: an entry has room for a step, a list for an entry, and a frame
 -- for a list
@@ -47,3 +49,17 @@ lengthsLeft listMost head size [] = (size + head) ∷ []
 lengthsLeft listMost head size (r ∷ rs) =
     let more = length (runData r) in
     turnLength listMost head size more ++ lengthsLeft listMost head (nextSize listMost size more) rs
+
+-- ---- what the first pass keeps for the second: the steps of each entry, and the bytes of its PData
+abbrev pub runBytes : List (List Step) → List ℕ
+runBytes [] = []
+runBytes (r ∷ rs) = length r ∷ length (runData r) ∷ runBytes rs
+
+-- two bytes for each step that a scene has at most
+abbrev pub keptRoom : ℕ
+keptRoom = 128
+
+-- bytes that begin with those of these steps' entries
+pub record Told (entryMost : ℕ) (ss : List Step) (kept : List ℕ) : Type 0 where
+  pub behind : List ℕ
+  pub tells : kept ≡ runBytes (entriesOf entryMost ss) ++ behind

@@ -8,11 +8,11 @@ ghost use lib.ListN.{length};
 ghost use lib.Seq.{sets};
 ghost use Rattle.dpa.specs.Frame.{headerSize};
 ghost use Rattle.book.specs.Book.{stepsIn};
-ghost use Rattle.scene.specs.Compile.{compiled, listLimit};
 ghost use Rattle.book.specs.Join.{entryLimit};
-ghost use Rattle.scene.specs.Call.{lengths};
-ghost use Rattle.scene.specs.Fill.{nextSize, turnLength};
 ghost use Rattle.book.specs.Run.{AllGood};
+ghost use Rattle.scene.specs.Compile.{compiled, listLimit};
+ghost use Rattle.scene.specs.Call.{lengths};
+ghost use Rattle.scene.specs.Fill.{nextSize, turnLength, keptRoom, Told};
 
 // The longest list of a batch, its closing zero included.
 pub const LIMIT: usize = 56;
@@ -25,6 +25,9 @@ pub struct Place {
     pub at: usize,
     pub size: usize,
 }
+
+// The bytes that keep the entries of a scene: for each its steps, and the length of its PData.
+pub const KEPT: usize = 128;
 
 // The length byte of a list's request if an entry with `more` bytes of PData finds the list full.
 fn next_length(size: usize, more: usize, out: &mut [u8], at: usize) -> Place
@@ -46,12 +49,13 @@ fn next_length(size: usize, more: usize, out: &mut [u8], at: usize) -> Place
     }
 }
 
-// One length byte for each request.
-pub fn write_lengths(s: &[u8], n: usize, out: &mut [u8], at: usize) -> usize
-    requires { ⌜ (4 * n ≤ length (now s)) × (n ≤ 64) × AllGood (now s) n
+// One length byte for each request. Keeps the entries, so that the requests are written without finding them again.
+pub fn write_lengths(s: &[u8], n: usize, kept: &mut [u8], out: &mut [u8], at: usize) -> usize
+    requires { ⌜ (4 * n ≤ length (now s)) × (n ≤ 64) × AllGood (now s) n × (keptRoom ≤ length (now kept))
         × ((a h : ℕ) → at + length (compiled a h (stepsIn n (now s))) ≤ length (now out)) ⌝ }
     ensures { λ r. ⌜ ((a h : ℕ) → (r ≡ at + length (compiled a h (stepsIn n (now (s .entry)))))
-        × (now (out .exit) ≡ sets (now (out .entry)) at (lengths (compiled a h (stepsIn n (now (s .entry))))))) ⌝ }
+        × (now (out .exit) ≡ sets (now (out .entry)) at (lengths (compiled a h (stepsIn n (now (s .entry)))))))
+        × Told entryLimit (stepsIn n (now (s .entry))) (now (kept .exit)) ⌝ }
 {
     if n == 0 {
         return at;
@@ -59,8 +63,12 @@ pub fn write_lengths(s: &[u8], n: usize, out: &mut [u8], at: usize) -> usize
     let mut done: usize = 0;
     let mut size = EMPTY;
     let mut w = at;
+    let mut m: usize = 0;
     while done < n {
         let r = run_from(s, n, done);
+        kept[m] = r.steps as u8;
+        kept[m + 1] = r.size as u8;
+        m = m + 2;
         let p = next_length(size, r.size, out, w);
         size = p.size;
         w = p.at;

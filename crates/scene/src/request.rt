@@ -1,12 +1,13 @@
 // The requests of a scene, and the output that holds them.
 use crate::fill::EMPTY;
+use crate::fill::KEPT;
 use crate::fill::LIMIT;
 use crate::fill::Place;
 use crate::fill::write_lengths;
 use batch::entry::HEAD;
 use book::entry::write_entry_at;
-use book::join::run_from;
 use dpa::frame::Frame;
+use dpa::number::wide;
 use dpa::pnum;
 use handler::os::BATCH;
 ghost use mathlib.Core.Path.{_≡_};
@@ -16,11 +17,11 @@ ghost use lib.Seq.{sets};
 ghost use Rattle.dpa.specs.Frame.{frame, headerBytes};
 ghost use Rattle.book.specs.Book.{stepsIn};
 ghost use Rattle.book.specs.Group.{joined};
-ghost use Rattle.scene.specs.Compile.{compiled, listLimit};
 ghost use Rattle.book.specs.Join.{entryLimit};
-ghost use Rattle.scene.specs.Call.{output, outputRoom};
-ghost use Rattle.scene.specs.Fill.{nextSize, turnBytes};
 ghost use Rattle.book.specs.Run.{AllGood};
+ghost use Rattle.scene.specs.Compile.{compiled, listLimit};
+ghost use Rattle.scene.specs.Call.{output, outputRoom};
+ghost use Rattle.scene.specs.Fill.{nextSize, turnBytes, Told};
 
 // The header of a batch.
 fn write_header(a: u16, h: u16, out: &mut [u8], at: usize) -> usize
@@ -60,9 +61,17 @@ fn next_list(a: u16, h: u16, size: usize, more: usize, out: &mut [u8], at: usize
     }
 }
 
-// The requests one behind another.
-fn write_requests(s: &[u8], n: usize, a: u16, h: u16, out: &mut [u8], at: usize) -> usize
-    requires { ⌜ (4 * n ≤ length (now s)) × (n ≤ 64) × AllGood (now s) n
+// The requests one behind another, by the entries that were kept.
+fn write_requests(
+    s: &[u8],
+    n: usize,
+    kept: &[u8],
+    a: u16,
+    h: u16,
+    out: &mut [u8],
+    at: usize,
+) -> usize
+    requires { ⌜ (4 * n ≤ length (now s)) × (n ≤ 64) × AllGood (now s) n × Told entryLimit (stepsIn n (now s)) (now kept)
         × (at + length (joined (compiled a h (stepsIn n (now s)))) ≤ length (now out)) ⌝ }
     ensures { λ r. ⌜ (r ≡ at + length (joined (compiled a h (stepsIn n (now (s .entry))))))
         × (now (out .exit) ≡ sets (now (out .entry)) at (joined (compiled a h (stepsIn n (now (s .entry)))))) ⌝ }
@@ -73,12 +82,15 @@ fn write_requests(s: &[u8], n: usize, a: u16, h: u16, out: &mut [u8], at: usize)
     let mut w = write_header(a, h, out, at);
     let mut size = EMPTY;
     let mut done: usize = 0;
+    let mut m: usize = 0;
     while done < n {
-        let r = run_from(s, n, done);
-        let p = next_list(a, h, size, r.size, out, w);
+        let k = wide(kept[m]);
+        let more = wide(kept[m + 1]);
+        m = m + 2;
+        let p = next_list(a, h, size, more, out, w);
         size = p.size;
-        w = write_entry_at(s, done, r.steps, h, r.size, out, p.at);
-        done = done + r.steps;
+        w = write_entry_at(s, done, k, h, more, out, p.at);
+        done = done + k;
     }
     out[w] = 0;
     w + 1
@@ -90,8 +102,9 @@ pub fn write_output(s: &[u8], n: usize, a: u16, h: u16, out: &mut [u8]) -> usize
     ensures { λ r. ⌜ (r ≡ length (output (compiled a h (stepsIn n (now (s .entry))))))
         × (now (out .exit) ≡ sets (now (out .entry)) 0 (output (compiled a h (stepsIn n (now (s .entry)))))) ⌝ }
 {
-    let w = write_lengths(s, n, out, 1);
+    let mut kept = [0u8; KEPT];
+    let w = write_lengths(s, n, &mut kept, out, 1);
     let count = w - 1;
     out[0] = count as u8;
-    write_requests(s, n, a, h, out, w)
+    write_requests(s, n, &kept, a, h, out, w)
 }

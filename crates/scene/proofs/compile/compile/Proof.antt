@@ -7,10 +7,10 @@ use borrow.Author.Needs.{needs}
 use borrow.Author.Tests.{le-leb, lt-leb, not-true, not-false}
 use Rattle.dpa.proofs.Lists.{to-end}
 use Rattle.book.specs.declared.contents.Content.{Content}
-use Rattle.scene.specs.declared.compile.CompileAnswer.{CompileAnswer}
 use Rattle.book.specs.Book.{countOf, bookOk, sceneOf, stepsIn}
-use Rattle.scene.specs.Call.{compiledAs, compileOf, addressOk}
 use Rattle.book.proofs.Books.{book-facts, body-within, scene-is}
+use Rattle.scene.specs.declared.compile.CompileAnswer.{CompileAnswer}
+use Rattle.scene.specs.Call.{compiledAs, compileOf, addressOk}
 use Rattle.scene.proofs.compile.compile.Statement.{statement}
 use Rattle.scene.proofs.compile.compile.Tie as tie
 

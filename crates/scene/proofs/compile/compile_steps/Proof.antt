@@ -3,12 +3,12 @@ use native.Mathlib.Omega.{arith}
 use lib.ListN.{length}
 use borrow.Author.Needs.{needs}
 use borrow.Author.Tests.{lt-ltb, le-ltb}
-use Rattle.scene.specs.declared.compile.CompileAnswer.{CompileAnswer}
 use Rattle.book.specs.Book.{stepsIn}
+use Rattle.book.proofs.Books.{good-index}
+use Rattle.scene.specs.declared.compile.CompileAnswer.{CompileAnswer}
 use Rattle.scene.specs.Compile.{compiled}
 use Rattle.scene.specs.Call.{output, compiledAs}
 use Rattle.scene.proofs.Outputs.{written-as}
-use Rattle.book.proofs.Books.{good-index}
 use Rattle.scene.proofs.Requests.{short}
 use Rattle.scene.proofs.compile.compile_steps.Statement.{statement}
 use Rattle.scene.proofs.compile.compile_steps.Tie as tie

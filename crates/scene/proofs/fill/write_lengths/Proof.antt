@@ -4,100 +4,155 @@ use Prim.Native.Nat.{ℕ, _+_, _-_, _≤_}
 use native.Mathlib.Omega.{arith}
 use lib.ListN.{length, length-drop, length-set}
 use Rattle.dpa.specs.Frame.{frame, headerBytes, headerSize}
+use Rattle.book.specs.declared.step.Step.{Step}
 use Rattle.book.specs.Book.{stepsIn}
 use Rattle.book.specs.Join.{entriesOf, entryLimit}
+use Rattle.book.proofs.Joining.{steps-length}
+use Rattle.book.proofs.Books.{good-steps}
 use Rattle.scene.specs.Compile.{compiled, listLimit}
 use Rattle.scene.specs.Call.{lengths}
 use Rattle.scene.specs.Fill.{lengthsLeft}
-use Rattle.book.proofs.Joining.{steps-length}
 use Rattle.scene.proofs.Outputs.{lengths-length}
 use Rattle.scene.proofs.Lists.{limits}
-use Rattle.book.proofs.Books.{good-steps}
 use Rattle.scene.proofs.Filling.{lengths-begin}
-use Rattle.scene.proofs.Requests.{Left, Open, open-start, open-end, left-end, lengths-room, lengths-more}
+use Rattle.scene.proofs.Requests.{Left, left-start, Open, open-start, open-end, left-end, lengths-room, lengths-more}
+use Rattle.scene.proofs.Kept.{Keeps, kept-few, kept-more, kept-end}
 use Rattle.scene.proofs.fill.write_lengths.Statement.{statement}
 use Rattle.scene.proofs.fill.write_lengths.Tie as tie
 
 abbrev Inv-loop : tie.InvT-loop
-Inv-loop s n out₀ at done₀ size₀ w₀ out done size w =
+Inv-loop s n kept₀ out₀ at done₀ size₀ w₀ m₀ kept out done size w m =
     Open entryLimit listLimit (lengthsLeft listLimit headerSize) (stepsIn n s) out₀ at done size out w
+    × Keeps entryLimit (stepsIn n s) kept₀ done kept m
 
 abbrev μ-loop : tie.MeasureT-loop
-μ-loop s n out₀ at done₀ size₀ w₀ out done size w = n - done
+μ-loop s n kept₀ out₀ at done₀ size₀ w₀ m₀ kept out done size w m = n - done
+
+abbrev steps : (s : tie.Start Inv-loop μ-loop) → List Step
+steps s = stepsIn (s .args .n) (s .args .s .now)
 
 -- all length bytes, for any address and profile
-abbrev all : (c : tie.Else1 Inv-loop μ-loop) → List ℕ
-all c =
-    let s = c .before .before .before in
-    lengthsLeft listLimit headerSize 1 (entriesOf entryLimit (stepsIn (s .args .n) (s .args .s .now)))
+abbrev all : (s : tie.Start Inv-loop μ-loop) → List ℕ
+all s = lengthsLeft listLimit headerSize 1 (entriesOf entryLimit (steps s))
 
-all-is : (c : tie.Else1 Inv-loop μ-loop) (a h : ℕ) → let s = c .before .before .before in lengths (compiled a h (stepsIn (s .args .n) (s .args .s .now))) ≡ all c
+all-is : (c : tie.Else1 Inv-loop μ-loop) (a h : ℕ) → let s = c .before .before .before .before in lengths (compiled a h (steps s)) ≡ all s
 all-is c a h =
-    let s = c .before .before .before in
-    lengths-begin limits (headerBytes (frame a 2 5 h)) h (stepsIn (s .args .n) (s .args .s .now))
-    (good-steps (s .args .n) (s .args .s .now) (s .pre .2)) (omega (arith, c .if1 .left, steps-length (s .args .n) (s .args .s .now)))
+    let s = c .before .before .before .before in
+    lengths-begin limits (headerBytes (frame a 2 5 h)) h (steps s) (good-steps (s .args .n) (s .args .s .now) (s .pre .2))
+    (omega (arith, c .if1 .left, steps-length (s .args .n) (s .args .s .now)))
 
-room : (c : tie.Else1 Inv-loop μ-loop) → let s = c .before .before .before in s .args .at + length (all c) ≤ length (s .args .out .now)
+room : (c : tie.Else1 Inv-loop μ-loop) → let s = c .before .before .before .before in s .args .at + length (all s) ≤ length (s .args .out .now)
 room c =
-    let s = c .before .before .before in
-    omega (arith, s .pre .3 0 0, ap length (all-is c 0 0), lengths-length (compiled 0 0 (stepsIn (s .args .n) (s .args .s .now))))
+    let s = c .before .before .before .before in
+    omega (arith, s .pre .4 0 0, ap length (all-is c 0 0), lengths-length (compiled 0 0 (steps s)))
 
 -- no steps, no requests
 returns : tie.Need-returns Inv-loop μ-loop
-returns c a h = rw (c .if1 .taken) (omega arith, refl)
+returns c =
+    let s = c .before .before .before .before in
+    rw (c .if1 .taken) ((λ a h. (omega arith, refl)), record { behind = s .args .kept .now; tells = refl })
 
 loop-holds : tie.Need-loop-holds Inv-loop μ-loop
-loop-holds c = open-start limits _ _ _ _
+loop-holds c = (open-start limits _ _ _ _, left-start _ _ _)
 
 run-from-requires : tie.Need-run-from-requires Inv-loop μ-loop
-run-from-requires c κs = omega arith
+run-from-requires c κs =
+    let s = c .before .before .before .before .before .before in
+    (s .pre .0, c .loop-test .taken, s .pre .1)
+
+-- the entry's two bytes have room
+few : (c : tie.After-run-from Inv-loop μ-loop) → c .before .before .loop .m + 2 ≤ 128
+few c =
+    let s = c .before .before .before .before .before .before .before in
+    let l = c .before .before .loop in
+    omega (
+      arith,
+      kept-few entryLimit (steps s) (s .args .kept .now) (l .done) (l .kept) (l .m) (l .inv .1) _ _ (c .run-from .ensures),
+      steps-length (s .args .n) (s .args .s .now),
+      s .pre .1,
+    )
+
+-- its steps are within the scene
+part-of : (c : tie.After-run-from Inv-loop μ-loop)
+    → c .before .before .loop .done + c .run-from .result .steps ≤ c .before .before .before .before .before .before .before .args .n
+part-of c =
+    let s = c .before .before .before .before .before .before .before in
+    omega (
+      arith,
+      c .run-from .ensures .within,
+      length-drop (c .before .before .loop .done) (steps s),
+      steps-length (s .args .n) (s .args .s .now),
+      c .before .loop-test .taken,
+    )
+
+cast-kept : tie.Need-cast-kept Inv-loop μ-loop
+cast-kept c = omega (arith, part-of (c .before), c .before .before .before .before .before .before .before .before .pre .1)
+
+slice-write-kept : tie.Need-slice-write-kept Inv-loop μ-loop
+slice-write-kept c =
+    let s = c .before .before .before .before .before .before .before .before in
+    omega (arith, few (c .before), c .before .before .before .loop .inv .1 .kept, s .pre .3)
+
+cast-kept-2 : tie.Need-cast-kept-2 Inv-loop μ-loop
+cast-kept-2 c = omega (arith, c .before .before .run-from .ensures .small)
+
+add-kept : tie.Need-add-kept Inv-loop μ-loop
+add-kept c = omega (arith, few (c .before .before))
+
+slice-write-kept-2 : tie.Need-slice-write-kept-2 Inv-loop μ-loop
+slice-write-kept-2 c =
+    let s = c .before .before .before .before .before .before .before .before .before in
+    rw length-set (omega (arith, few (c .before .before), c .before .before .before .before .loop .inv .1 .kept, s .pre .3))
+
+add-m : tie.Need-add-m Inv-loop μ-loop
+add-m c = omega (arith, few (c .before .before))
 
 next-length-requires : tie.Need-next-length-requires Inv-loop μ-loop
 next-length-requires c κs =
     let d = c .before .before .before in
-    let r = c .before .run-from in (
-      d .loop .inv .small,
-      r .ensures .small,
-      lengths-room limits _ _ _ _ _ _ _ _ _ (r .ensures) _ (d .loop .inv) (room (d .before)),
+    let l = d .before .before .loop in (
+      l .inv .0 .small,
+      d .run-from .ensures .small,
+      lengths-room limits _ _ _ _ _ _ _ _ _ (d .run-from .ensures) _ (l .inv .0) (room (d .before .before .before)),
     )
 
 add-done : tie.Need-add-done Inv-loop μ-loop
 add-done c =
-    let d = c .before .before .before .before .before in
-    let s = d .before .before .before .before .before .before in
-    omega (
-      arith,
-      d .run-from .ensures .within,
-      length-drop (d .before .before .loop .done) (stepsIn (s .args .n) (s .args .s .now)),
-      steps-length (s .args .n) (s .args .s .now),
-      s .pre .1,
-      d .before .loop-test .taken,
-    )
+    let d = c .before .before .before .before .before .before .before in
+    omega (arith, part-of d, d .before .before .before .before .before .before .before .pre .1)
 
 loop-less : tie.Need-loop-less Inv-loop μ-loop
 loop-less c =
-    let d = c .before .before .before .before .before in
+    let d = c .before .before .before .before .before .before .before in
     omega (arith, d .run-from .ensures .some, d .before .loop-test .taken)
 
 loop-again : tie.Need-loop-again Inv-loop μ-loop
 loop-again c =
     let p = c .before .before .before .next-length .ensures in
-    let d = c .before .before .before .before .before in
-    lengths-more limits _ _ _ _ _ _ _ _ _ (d .run-from .ensures) _ (d .before .before .loop .inv) _ _ _ (p .2) (p .0) (p .1)
+    let d = c .before .before .before .before .before .before .before in
+    let l = d .before .before .loop in (
+      lengths-more limits _ _ _ _ _ _ _ _ _ (d .run-from .ensures) _ (l .inv .0) _ _ _ (p .2) (p .0) (p .1),
+      kept-more entryLimit _ _ _ _ _ (l .inv .1) _ _ (d .run-from .ensures),
+    )
 
 add-out : tie.Need-add-out Inv-loop μ-loop
-add-out c = omega (arith, c .before .loop .inv .small)
+add-out c = omega (arith, c .before .loop .inv .0 .small)
 
 cast-out : tie.Need-cast-out Inv-loop μ-loop
-cast-out c = omega (arith, c .before .loop .inv .small)
+cast-out c = omega (arith, c .before .loop .inv .0 .small)
+
+-- all steps are done
+done-all : (c : tie.After-loop Inv-loop μ-loop) → length (steps (c .before .before .before .before .before .before)) ≤ c .before .loop .done
+done-all c =
+    let s = c .before .before .before .before .before .before in
+    omega (arith, steps-length (s .args .n) (s .args .s .now), c .loop-test .left)
 
 -- the last length byte
-last : (c : tie.After-loop Inv-loop μ-loop) → let s = c .before .before .before .before .before in
-    Left (s .args .out .now) (s .args .at) (all (c .before .before)) (c .before .loop .out) (c .before .loop .w) ((c .before .loop .size + headerSize) ∷ [])
+last : (c : tie.After-loop Inv-loop μ-loop) → let s = c .before .before .before .before .before .before in
+    Left (s .args .out .now) (s .args .at) (all s) (c .before .loop .out) (c .before .loop .w) ((c .before .loop .size + headerSize) ∷ [])
 last c =
-    let s = c .before .before .before .before .before in
-    open-end limits (lengthsLeft listLimit headerSize) (stepsIn (s .args .n) (s .args .s .now)) (s .args .out .now) (s .args .at) _ _ _ _ (c .before .loop .inv)
-    (omega (arith, steps-length (s .args .n) (s .args .s .now), c .loop-test .left))
+    let s = c .before .before .before .before .before .before in
+    open-end limits (lengthsLeft listLimit headerSize) (steps s) (s .args .out .now) (s .args .at) _ _ _ _ (c .before .loop .inv .0) (done-all c)
 
 slice-write-out : tie.Need-slice-write-out Inv-loop μ-loop
 slice-write-out c = omega (arith, last c .place, last c .kept, room (c .before .before))
@@ -106,14 +161,19 @@ add-result : tie.Need-add-result Inv-loop μ-loop
 add-result c = omega (arith, last c .place, last c .kept, room (c .before .before))
 
 same-length : tie.Need-same-length Inv-loop μ-loop
-same-length c = length-set (c .before .loop .out) (c .before .loop .w) _ ∙ c .before .loop .inv .rest .kept
+same-length c = c .before .loop .inv .1 .kept
+
+same-length-2 : tie.Need-same-length-2 Inv-loop μ-loop
+same-length-2 c = length-set (c .before .loop .out) (c .before .loop .w) _ ∙ c .before .loop .inv .0 .rest .kept
 
 returns-2 : tie.Need-returns-2 Inv-loop μ-loop
-returns-2 c a h =
-    let s = c .before .before .before .before .before in
-    let e = all-is (c .before .before) a h in
-    let x = left-end (s .args .out .now) (s .args .at) _ _ _ _ (last c) _ _ refl refl in
-    rw e (omega (arith, x .0, ap length e, lengths-length (compiled a h (stepsIn (s .args .n) (s .args .s .now)))), x .1)
+returns-2 c =
+    let s = c .before .before .before .before .before .before in
+    let x = left-end (s .args .out .now) (s .args .at) _ _ _ _ (last c) _ _ refl refl in (
+      λ a h. let e = all-is (c .before .before) a h in rw e (omega (arith, x .0, ap length e, lengths-length (compiled a h (steps s))), x .1),
+      kept-end entryLimit (steps s) _ _ _ _ (c .before .loop .inv .1) (done-all c)
+          (omega (arith, s .pre .3, s .pre .1, steps-length (s .args .n) (s .args .s .now))),
+    )
 
 pub write-lengths-spec : {M : Type 1} → statement M
 write-lengths-spec =
@@ -124,6 +184,12 @@ write-lengths-spec =
     returns
     loop-holds
     run-from-requires
+    cast-kept
+    slice-write-kept
+    cast-kept-2
+    add-kept
+    slice-write-kept-2
+    add-m
     next-length-requires
     add-done
     loop-less
@@ -133,4 +199,5 @@ write-lengths-spec =
     slice-write-out
     add-result
     same-length
+    same-length-2
     returns-2)

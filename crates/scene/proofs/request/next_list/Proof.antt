@@ -5,8 +5,8 @@ use native.Mathlib.Omega.{arith}
 use lib.ListN.{length, length-set}
 use borrow.Author.Needs.{needs}
 use Rattle.dpa.specs.Frame.{frame, headerBytes, headerSize}
-use Rattle.scene.specs.Compile.{listLimit}
 use Rattle.book.proofs.Writing.{put-two}
+use Rattle.scene.specs.Compile.{listLimit}
 use Rattle.scene.proofs.Filling.{turn-in, turn-out}
 use Rattle.scene.proofs.request.next_list.Statement.{statement}
 use Rattle.scene.proofs.request.next_list.Tie as tie

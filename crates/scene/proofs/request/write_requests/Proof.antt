@@ -2,8 +2,9 @@ use mathlib.Core.List.{List, [], _∷_, _++_}
 use mathlib.Core.Path.{_≡_, refl, sym, ap, _∙_}
 use Prim.Native.Nat.{ℕ, _+_, _-_, _≤_}
 use native.Mathlib.Omega.{arith}
-use lib.ListN.{length, length-append, length-drop, length-set}
-use lib.Seq.{sets}
+use lib.ListN.{length, drop, length-append, length-drop, length-set}
+use lib.Seq.{sets, drop-drop}
+use borrow.Author.Needs.{needs}
 use Rattle.dpa.specs.Frame.{frame, headerBytes}
 use Rattle.batch.specs.Batch.{entryBytes}
 use Rattle.book.specs.declared.step.Step.{Step}
@@ -11,24 +12,29 @@ use Rattle.book.specs.Book.{stepsIn}
 use Rattle.book.specs.Group.{joined}
 use Rattle.book.specs.Entry.{runData, joinedItem}
 use Rattle.book.specs.Join.{entriesOf, entryLimit}
-use Rattle.scene.specs.Compile.{compiled, listLimit}
-use Rattle.scene.specs.Fill.{bytesLeft}
+use Rattle.book.specs.Run.{FirstRun}
 use Rattle.book.proofs.Joining.{steps-length, steps-part}
-use Rattle.scene.proofs.Lists.{limits}
 use Rattle.book.proofs.Writing.{put-two}
+use Rattle.book.proofs.Faults.{Good}
+use Rattle.book.proofs.Groups.{all-drop}
 use Rattle.book.proofs.Books.{good-steps}
 use Rattle.book.proofs.Entries.{entry-ok}
+use Rattle.scene.specs.Compile.{compiled, listLimit}
+use Rattle.scene.specs.Fill.{bytesLeft, Told}
+use Rattle.scene.proofs.Lists.{limits}
 use Rattle.scene.proofs.Filling.{bytes-begin}
 use Rattle.scene.proofs.Requests.{Left, Open, open-start, open-end, left-end, turn-room, entry-room, bytes-more}
+use Rattle.scene.proofs.Kept.{Next, told-next}
 use Rattle.scene.proofs.request.write_requests.Statement.{statement}
 use Rattle.scene.proofs.request.write_requests.Tie as tie
 
 abbrev Inv-loop : tie.InvT-loop
-Inv-loop s n a h out₀ at w₀ size₀ done₀ out w size done =
+Inv-loop s n kept a h out₀ at w₀ size₀ done₀ m₀ out w size done m =
     Open entryLimit listLimit (bytesLeft listLimit (headerBytes (frame a 2 5 h)) h) (stepsIn n s) out₀ w₀ done size out w
+    × Told entryLimit (drop done (stepsIn n s)) (drop m kept)
 
 abbrev μ-loop : tie.MeasureT-loop
-μ-loop s n a h out₀ at w₀ size₀ done₀ out w size done = n - done
+μ-loop s n kept a h out₀ at w₀ size₀ done₀ m₀ out w size done m = n - done
 
 -- the header, and all behind it
 abbrev head : (c : tie.Start Inv-loop μ-loop) → List ℕ
@@ -40,18 +46,19 @@ steps s = stepsIn (s .args .n) (s .args .s .now)
 abbrev all : (c : tie.Start Inv-loop μ-loop) → List ℕ
 all s = bytesLeft listLimit (head s) (s .args .h) 1 (entriesOf entryLimit (steps s))
 
-all-is : (c : tie.Else1 Inv-loop μ-loop) → let s = c .before .before .before in joined (compiled (s .args .a) (s .args .h) (steps s)) ≡ head s ++ all s
+all-is : (c : tie.Else1 Inv-loop μ-loop) → let s = c .before .before .before .before in
+    joined (compiled (s .args .a) (s .args .h) (steps s)) ≡ head s ++ all s
 all-is c =
-    let s = c .before .before .before in
+    let s = c .before .before .before .before in
     bytes-begin limits (head s) (s .args .h) (steps s) (good-steps (s .args .n) (s .args .s .now) (s .pre .2))
     (omega (arith, c .if1 .left, steps-length (s .args .n) (s .args .s .now)))
 
-room : (c : tie.After-slice-known2 Inv-loop μ-loop) → let s = c .before .before .before .before .before .before .before in
+room : (c : tie.After-slice-known2 Inv-loop μ-loop) → let s = c .before .before .before .before .before .before .before .before in
     c .before .before .write-header .result + length (all s) ≤ length (c .before .before .write-header .last .1 .1 .0)
 room c =
-    let s = c .before .before .before .before .before .before .before in
+    let s = c .before .before .before .before .before .before .before .before in
     let w = c .before .before .write-header in
-    omega (arith, s .pre .3, ap length (all-is (c .before .before .before .before)), length-append (head s) (all s), w .ensures .0, w .kept .1 .1 .0)
+    omega (arith, s .pre .4, ap length (all-is (c .before .before .before .before)), length-append (head s) (all s), w .ensures .0, w .kept .1 .1 .0)
 
 -- no steps, no requests
 returns : tie.Need-returns Inv-loop μ-loop
@@ -59,87 +66,124 @@ returns c = rw (c .if1 .taken) (omega arith, refl)
 
 write-header-requires : tie.Need-write-header-requires Inv-loop μ-loop
 write-header-requires c κs =
-    let s = c .before .before .before .before in
-    omega (arith, s .pre .3, ap length (all-is (c .before)), length-append (head s) (all s))
+    let s = c .before .before .before .before .before in
+    omega (arith, s .pre .4, ap length (all-is (c .before)), length-append (head s) (all s))
 
 loop-holds : tie.Need-loop-holds Inv-loop μ-loop
-loop-holds c = open-start limits _ _ _ _
+loop-holds c =
+    let s = c .before .before .before .before .before .before .before .before in
+    (open-start limits _ _ _ _, s .pre .3)
 
-run-from-requires : tie.Need-run-from-requires Inv-loop μ-loop
-run-from-requires c κs =
-    let s = c .before .before .before .before .before .before .before .before .before in
-    (s .pre .0, c .loop-test .taken, s .pre .1)
+-- the entry that is told next
+here : (c : tie.In-loop Inv-loop μ-loop) → let s = c .before .before .before .before .before .before .before .before .before .before in
+    Next entryLimit (drop (c .before .loop .done) (steps s)) (s .args .kept .now) (c .before .loop .m)
+here c =
+    let s = c .before .before .before .before .before .before .before .before .before .before in
+    let l = c .before .loop in
+    told-next entryLimit (omega arith) (drop (l .done) (steps s))
+    (all-drop Good (steps s) (l .done) (good-steps (s .args .n) (s .args .s .now) (s .pre .2))) (s .args .kept .now) (l .m)
+    (omega (arith, length-drop (l .done) (steps s), steps-length (s .args .n) (s .args .s .now), c .loop-test .taken)) (l .inv .1)
+
+shared-slice-read-wide : tie.Need-shared-slice-read-wide Inv-loop μ-loop
+shared-slice-read-wide c = omega (arith, here (c .before) .inside)
+
+wide-requires : tie.Need-wide-requires Inv-loop μ-loop
+wide-requires c κs = search needs
+
+add-wide : tie.Need-add-wide Inv-loop μ-loop
+add-wide c = omega (arith, here (c .before .before) .inside)
+
+shared-slice-read-wide-2 : tie.Need-shared-slice-read-wide-2 Inv-loop μ-loop
+shared-slice-read-wide-2 c = here (c .before .before .before) .inside
+
+wide-requires-2 : tie.Need-wide-requires-2 Inv-loop μ-loop
+wide-requires-2 c κs = search needs
+
+add-m : tie.Need-add-m Inv-loop μ-loop
+add-m c = omega (arith, here (c .before .before .before .before) .inside)
+
+run : (c : tie.After-wide2 Inv-loop μ-loop) → let d = c .before .before .before .before in
+    FirstRun entryLimit (drop (d .before .loop .done) (steps (d .before .before .before .before .before .before .before .before .before .before)))
+    (c .before .before .wide .result) (c .wide2 .result)
+run c = rw (c .before .before .wide .ensures .0, c .wide2 .ensures .0) (here (c .before .before .before .before) .run)
 
 next-list-requires : tie.Need-next-list-requires Inv-loop μ-loop
 next-list-requires c κs =
-    let d = c .before .before .before in
-    let r = c .before .run-from in (
-      d .loop .inv .small,
-      r .ensures .small,
-      turn-room limits _ _ _ _ _ _ _ _ _ (r .ensures) _ _ (d .loop .inv) (room (d .before)),
+    let d = c .before .before .before .before .before in
+    let r = run (c .before) in (
+      d .before .loop .inv .0 .small,
+      r .small,
+      turn-room limits _ _ _ _ _ _ _ _ _ r _ _ (d .before .loop .inv .0) (room (d .before .before)),
     )
 
 -- the entry's steps are within the scene
-part-of : (c : tie.After-run-from Inv-loop μ-loop)
-    → c .before .before .loop .done + c .run-from .result .steps ≤ c .before .before .before .before .before .before .before .before .before .before .args .n
+part-of : (c : tie.After-wide2 Inv-loop μ-loop) → let d = c .before .before .before .before in
+    d .before .loop .done + c .before .before .wide .result ≤ d .before .before .before .before .before .before .before .before .before .before .args .n
 part-of c =
-    let s = c .before .before .before .before .before .before .before .before .before .before in
+    let d = c .before .before .before .before in
+    let s = d .before .before .before .before .before .before .before .before .before .before in
     omega (
       arith,
-      c .run-from .ensures .within,
-      length-drop (c .before .before .loop .done) (steps s),
+      run c .within,
+      length-drop (d .before .loop .done) (steps s),
       steps-length (s .args .n) (s .args .s .now),
-      c .before .loop-test .taken,
+      d .loop-test .taken,
     )
 
 write-entry-at-requires : tie.Need-write-entry-at-requires Inv-loop μ-loop
 write-entry-at-requires c κs =
     let t = c .before .before .before .next-list .ensures in
-    let d = c .before .before .before .before .before in
+    let e = c .before .before .before .before .before in
+    let d = e .before .before .before .before in
     let s = d .before .before .before .before .before .before .before .before .before .before in
-    let l = d .before .before .loop in
-    let r = d .run-from .ensures in
-    let part = part-of d in (
+    let l = d .before .loop in
+    let r = run e in
+    let part = part-of e in (
       omega (arith, part, s .pre .0),
       r .some,
       omega (arith, part, s .pre .1),
       r .small,
       r .fits ∙ ap (λ (t : List Step). length (runData t))
-          (steps-part (s .args .n) (l .done) (d .run-from .result .steps) (s .args .s .now) part),
-      entry-room limits _ _ _ _ _ _ _ _ _ r _ _ (l .inv) _ _ (t .2) (t .0) (room (d .before .before .before)),
+          (steps-part (s .args .n) (l .done) (e .before .before .wide .result) (s .args .s .now) part),
+      entry-room limits _ _ _ _ _ _ _ _ _ r _ _ (l .inv .0) _ _ (t .2) (t .0) (room (d .before .before)),
       entry-ok entryLimit (omega arith) _ _ _ _ _ (s .pre .2) part r,
     )
 
 add-done : tie.Need-add-done Inv-loop μ-loop
 add-done c =
-    let d = c .before .before .before .before .before .before .before .before .before in
-    omega (arith, part-of d, d .before .before .before .before .before .before .before .before .before .before .pre .1)
+    let e = c .before .before .before .before .before .before .before .before in
+    let s = e .before .before .before .before .before .before .before .before .before .before .before .before .before .before in
+    omega (arith, part-of e, s .pre .1)
 
 loop-less : tie.Need-loop-less Inv-loop μ-loop
 loop-less c =
-    let d = c .before .before .before .before .before .before .before .before .before in
-    omega (arith, d .run-from .ensures .some, d .before .loop-test .taken)
+    let e = c .before .before .before .before .before .before .before .before in
+    omega (arith, run e .some, e .before .before .before .before .loop-test .taken)
 
 loop-again : tie.Need-loop-again Inv-loop μ-loop
 loop-again c =
-    let e = c .before .before .before .write-entry-at .ensures in
-    let t = c .before .before .before .before .before .before .before .next-list in
-    let d = c .before .before .before .before .before .before .before .before .before in
+    let w = c .before .before .write-entry-at .ensures in
+    let t = c .before .before .before .before .before .before .next-list in
+    let e = c .before .before .before .before .before .before .before .before in
+    let d = e .before .before .before .before in
     let s = d .before .before .before .before .before .before .before .before .before .before in
-    let l = d .before .before .loop in
-    bytes-more limits _ _ _ _ _ _ _ _ _ (d .run-from .ensures) _ _ (l .inv) _ _ (t .ensures .2) (t .ensures .0) _ _ _
-    (e .1 ∙ ap (λ (x : List Step). sets (t .last .1 .1 .1 .1 .0) (t .result .at) (entryBytes (joinedItem (s .args .h) x)))
-    (sym (steps-part (s .args .n) (l .done) (d .run-from .result .steps) (s .args .s .now) (part-of d))))
-    (e .0) (t .ensures .1)
+    let l = d .before .loop in
+    let k = e .before .before .wide .result in (
+      bytes-more limits _ _ _ _ _ _ _ _ _ (run e) _ _ (l .inv .0) _ _ (t .ensures .2) (t .ensures .0) _ _ _
+          (w .1 ∙ ap (λ (x : List Step). sets (t .last .1 .1 .1 .1 .0) (t .result .at) (entryBytes (joinedItem (s .args .h) x)))
+          (sym (steps-part (s .args .n) (l .done) k (s .args .s .now) (part-of e))))
+          (w .0) (t .ensures .1),
+      rw (← (e .before .before .wide .ensures .0), drop-drop k (l .done) (steps s)) at (here d .rest),
+    )
 
 -- the last zero
-last : (c : tie.After-loop Inv-loop μ-loop) → let s = c .before .before .before .before .before .before .before .before .before in
+last : (c : tie.After-loop Inv-loop μ-loop) → let s = c .before .before .before .before .before .before .before .before .before .before in
     let w = c .before .before .before .before .write-header in
     Left (w .last .1 .1 .0) (w .result) (all s) (c .before .loop .out) (c .before .loop .w) (0 ∷ [])
 last c =
-    let s = c .before .before .before .before .before .before .before .before .before in
+    let s = c .before .before .before .before .before .before .before .before .before .before in
     let w = c .before .before .before .before .write-header in
-    open-end limits (bytesLeft listLimit (head s) (s .args .h)) (steps s) (w .last .1 .1 .0) (w .result) _ _ _ _ (c .before .loop .inv)
+    open-end limits (bytesLeft listLimit (head s) (s .args .h)) (steps s) (w .last .1 .1 .0) (w .result) _ _ _ _ (c .before .loop .inv .0)
     (omega (arith, steps-length (s .args .n) (s .args .s .now), c .loop-test .left))
 
 slice-write-out : tie.Need-slice-write-out Inv-loop μ-loop
@@ -150,12 +194,12 @@ add-result c = omega (arith, last c .place, last c .kept, room (c .before .befor
 
 same-length : tie.Need-same-length Inv-loop μ-loop
 same-length c =
-    length-set (c .before .loop .out) (c .before .loop .w) _ ∙ c .before .loop .inv .rest .kept
+    length-set (c .before .loop .out) (c .before .loop .w) _ ∙ c .before .loop .inv .0 .rest .kept
     ∙ c .before .before .before .before .write-header .kept .1 .1 .0
 
 returns-2 : tie.Need-returns-2 Inv-loop μ-loop
 returns-2 c =
-    let s = c .before .before .before .before .before .before .before .before .before in
+    let s = c .before .before .before .before .before .before .before .before .before .before in
     let w = c .before .before .before .before .write-header in
     let x = left-end (w .last .1 .1 .0) (w .result) (all s) _ _ _ (last c) _ _ refl refl in
     put-two (s .args .out .now) (w .last .1 .1 .0) _ (head s) (all s) _ (s .args .at) (w .result) _ (w .ensures .1) (w .ensures .0) (x .1) (x .0)
@@ -170,7 +214,12 @@ write-requests-spec =
     returns
     write-header-requires
     loop-holds
-    run-from-requires
+    shared-slice-read-wide
+    wide-requires
+    add-wide
+    shared-slice-read-wide-2
+    wide-requires-2
+    add-m
     next-list-requires
     write-entry-at-requires
     add-done
