@@ -1,22 +1,18 @@
--- Document 01, "Worked examples": batches.
+-- Lists read, with the reason and the place where they break; the ErrN are among the worked examples of acceptance.
 use mathlib.Core.Path.{_≡_, refl}
 use mathlib.Core.List.{[], _∷_}
 use Rattle.batch.specs.declared.list.Listed.the-variants.{Sound, Broken}
-use Rattle.batch.specs.Batch.{nextOf, readFrom, reading, listError}
+use Rattle.batch.specs.Batch.{nextOf, readFrom, reading}
 
--- P `00` succeeds and has no entries
+-- `00` has no entries
 pub zero-alone : reading (0 ∷ []) ≡ record { items = []; listed = Sound }
 unfolding nextOf readFrom
 zero-alone = refl
 
--- P `04 00` gives 6
+-- `04 00` has a length under five
 pub four-zero : (reading (4 ∷ 0 ∷ [])) .listed ≡ Broken 1 0
 unfolding nextOf readFrom
 four-zero = refl
-
-pub four-zero-error : listError ((reading (4 ∷ 0 ∷ [])) .listed) ≡ 6
-unfolding nextOf readFrom
-four-zero-error = refl
 
 pub zero-zero : (reading (0 ∷ 0 ∷ [])) .listed ≡ Broken 4 1
 unfolding nextOf readFrom

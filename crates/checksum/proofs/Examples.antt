@@ -1,26 +1,12 @@
--- Worked examples of document 01 for the checksum, of the definitions.
+-- Code checks, of the definition.
 use mathlib.Core.Path.{_≡_, refl}
 use mathlib.Core.List.{List, [], _∷_, _++_}
 use mathlib.Core.Bool.{true, false}
 use Prim.Native.Nat.{ℕ}
 use lib.ListN.{replicate}
 use Rattle.dpa.specs.Served.{served}
-use Rattle.checksum.specs.Sums.{around, addByte, sums, start, checksum}
+use Rattle.checksum.specs.Sums.{around, addByte, sums}
 use Rattle.checksum.specs.Check.{unitOf, firstOf, imageError, imageMatches, codeCheck}
-
-abbrev from : ℕ → List ℕ → ℕ
-from first bytes = checksum (sums (start first) bytes)
-
-pub record Examples : Type 0 where
-  pub zero : from 1 (0x00 ∷ []) ≡ 0x0101
-  pub ff : from 1 (0xFF ∷ []) ≡ 0x0101
-  pub fe : from 1 (0xFE ∷ []) ≡ 0xFFFF
-  pub zeros-64 : from 1 (replicate 64 0) ≡ 0x4001
-  pub zeros-20 : from 3 (replicate 20 0) ≡ 0x3C03
-
-pub examples : Examples
-unfolding around addByte sums
-examples = record { zero = refl; ff = refl; fe = refl; zeros-64 = refl; zeros-20 = refl }
 
 -- 64 zeros at the front of external memory, checked with the load flag, without it, and against another checksum
 pub record Checks (rest : List ℕ) : Type 0 where

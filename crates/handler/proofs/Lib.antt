@@ -6,4 +6,3 @@ pub mod Soundness
 pub mod Listing
 pub mod Sizes
 pub mod Errors
-pub mod Examples

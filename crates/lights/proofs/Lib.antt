@@ -8,4 +8,3 @@ pub mod Walk
 pub mod Places
 pub mod Rule
 pub mod Requests
-pub mod Examples

@@ -1,4 +1,3 @@
 pub mod Lamp
 pub mod Bits
 pub mod Lights
-pub mod Examples

@@ -1,17 +1,12 @@
--- Worked examples: of document 01, and of the sources on confirmations (003) and interfaces (000).
+-- Examples of the sources on confirmations (003) and interfaces (000).
 use mathlib.Core.Path.{_≡_, refl}
 use mathlib.Core.Bool.{false}
 use mathlib.Core.List.{[], _∷_}
 use Prim.Native.Nat.{ℕ, _+_, _*_}
 use native.Mathlib.Omega.{arith}
 use Rattle.timing.specs.declared.slot.Network.the-variants.{Std}
-use Rattle.timing.specs.Slot.{baseOf, extraOf, slotOf, wayOf, earliestOf, sendOf}
+use Rattle.timing.specs.Slot.{baseOf, extraOf, slotOf, wayOf, earliestOf}
 use Rattle.timing.specs.Confirm.{hopsBack, confirmation}
-
--- document 01: hops 2 and 3, PData 5 and 20, delay 20: 340 ms
-pub wait-340 : sendOf 2 5 20 3 20 Std false ≡ record { refusal = 0; milliseconds = 340 }
-unfolding baseOf extraOf slotOf wayOf earliestOf sendOf
-wait-340 = refl
 
 -- 003: q hops there, 20 ms at the node, r hops back with 20 bytes
 pub wait-003 : (q r : ℕ) → earliestOf q 6 20 r 20 Std false ≡ (q + 1) * 40 + 20 + (r + 1) * 50
