@@ -15,10 +15,10 @@ pub struct RequestAnswer {
     pub node: Node,
 }
 
-// The response's length, the load mark, and the lamps afterwards.
+// The load mark, the response's length, and the lamps afterwards.
 pub struct Taken {
-    pub length: usize,
     pub load: bool,
+    pub length: usize,
     pub lamps: [Lamp; 32],
 }
 

@@ -19,22 +19,22 @@ pub const BATCH: u8 = 5;
 
 pub const CODE_CHECK: u8 = 0x0A;
 
-// ErrN, the length of the answer's data, the load mark, and the lamps after a request.
+// ErrN, the load mark, the length of the answer's data, and the lamps after a request.
 pub struct Carried {
     pub error: u8,
-    pub length: usize,
     pub load: bool,
+    pub length: usize,
     pub lamps: [Lamp; 32],
 }
 
 // A request that answers no data.
 pub fn without_data(lamps: [Lamp; 32], error: u8) -> Carried
-    ensures { λ r. ⌜ r ≡ record { error = error; length = 0; load = false; lamps = lamps } ⌝ }
+    ensures { λ r. ⌜ r ≡ record { error = error; load = false; length = 0; lamps = lamps } ⌝ }
 {
     Carried {
         error,
-        length: 0,
         load: false,
+        length: 0,
         lamps,
     }
 }
@@ -84,8 +84,8 @@ pub fn os(
         let checked = code_check(external, pdata, out);
         return Carried {
             error: checked.error,
-            length: checked.length,
             load: checked.load,
+            length: checked.length,
             lamps,
         };
     }

@@ -70,8 +70,8 @@ fn carry_out(
         let after = reply.lamps;
         return Carried {
             error: reply.error,
-            length: reply.length,
             load: false,
+            length: reply.length,
             lamps: after,
         };
     }
@@ -106,8 +106,8 @@ fn take_broadcast(
     );
     let after = done.lamps;
     Taken {
-        length: 0,
         load: done.load,
+        length: 0,
         lamps: after,
     }
 }
@@ -143,8 +143,8 @@ fn take_own(
     let length = done.length;
     let after = done.lamps;
     Taken {
-        length: Frame::RESPONSE_HEADER + length,
         load: done.load,
+        length: Frame::RESPONSE_HEADER + length,
         lamps: after,
     }
 }
