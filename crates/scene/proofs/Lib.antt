@@ -4,4 +4,3 @@ pub mod Outputs
 pub mod Filling
 pub mod Requests
 pub mod Kept
-pub mod Examples

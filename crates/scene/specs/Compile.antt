@@ -4,7 +4,7 @@ use mathlib.Core.Bool.{Bool}
 use Prim.Native.Nat.{ℕ}
 use lib.Dec.{leb}
 use lib.ListN.{length}
-use Rattle.dpa.specs.Frame.{frame, headerBytes}
+use Rattle.dpa.specs.Frame.{pdataMax, frame, headerBytes}
 use Rattle.batch.specs.Batch.{Item, listBytes}
 use Rattle.book.specs.declared.step.Step.{Step}
 use Rattle.book.specs.Entry.{joinedItem}
@@ -23,7 +23,7 @@ listOf h runs = listBytes (joinedItems h runs)
 
 -- the longest list, its closing zero included
 abbrev pub listLimit : ℕ
-listLimit = 56
+listLimit = pdataMax
 
 -- an entry goes into the list before it, which stays at most `most`
 abbrev pub fills : ℕ → ℕ → List (List Step) → List Step → Bool

@@ -15,7 +15,7 @@ ghost use Rattle.scene.specs.Call.{lengths};
 ghost use Rattle.scene.specs.Fill.{nextSize, turnLength, keptRoom, Told};
 
 // The longest list of a batch, its closing zero included.
-pub const LIMIT: usize = 56;
+pub const LIMIT: usize = Frame::PDATA_MAX;
 
 // The bytes of a list without entries: its closing zero.
 pub const EMPTY: usize = 1;
