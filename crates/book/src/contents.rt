@@ -14,49 +14,49 @@ pub struct Content {
     pub steps: usize,
 }
 
-pub fn content_at(b: &[u8], i: usize) -> Content
-    requires { ⌜ (3 * i + 4 ≤ length (now b)) × (i ≤ 16) ⌝ }
-    ensures { λ r. ⌜ (r ≡ contentAt (now (b .entry)) i) × (r .steps < 256) × (r .offset < 65536) ⌝ }
+pub fn content_at(book: &[u8], scene: usize) -> Content
+    requires { ⌜ (3 * scene + 4 ≤ length (now book)) × (scene ≤ 16) ⌝ }
+    ensures { λ r. ⌜ (r ≡ contentAt (now (book .entry)) scene) × (r .steps < 256) × (r .offset < 65536) ⌝ }
 {
     Content {
-        offset: wide_word(word_of(b[3 * i + 1], b[3 * i + 2])),
-        steps: wide(b[3 * i + 3]),
+        offset: wide_word(word_of(book[3 * scene + 1], book[3 * scene + 2])),
+        steps: wide(book[3 * scene + 3]),
     }
 }
 
-// Whether the bodies of n scenes follow one another up to the book's end.
-fn bodies_ok(b: &[u8], n: usize) -> bool
-    requires { ⌜ (1 + 3 * n ≤ length (now b)) × (n ≤ 16) × (n ≡ countOf (now b)) ⌝ }
-    ensures { λ r. ⌜ r ≡ chained (1 + 3 * n) (contentsOf (now (b .entry))) (length (now (b .entry))) ⌝ }
+// Whether the bodies of the scenes follow one another up to the book's end.
+fn bodies_ok(book: &[u8], scenes: usize) -> bool
+    requires { ⌜ (1 + 3 * scenes ≤ length (now book)) × (scenes ≤ 16) × (scenes ≡ countOf (now book)) ⌝ }
+    ensures { λ r. ⌜ r ≡ chained (1 + 3 * scenes) (contentsOf (now (book .entry))) (length (now (book .entry))) ⌝ }
 {
-    let mut start = 1 + 3 * n;
+    let mut start = 1 + 3 * scenes;
     let mut i: usize = 0;
-    while i < n {
-        let c = content_at(b, i);
-        if c.offset != start {
+    while i < scenes {
+        let content = content_at(book, i);
+        if content.offset != start {
             return false;
         }
-        if 64 < c.steps {
+        if 64 < content.steps {
             return false;
         }
-        start = start + 4 * c.steps;
+        start = start + 4 * content.steps;
         i = i + 1;
     }
-    start == b.len()
+    start == book.len()
 }
 
-pub fn book_ok(b: &[u8]) -> bool
-    ensures { λ r. ⌜ r ≡ bookOk (now (b .entry)) ⌝ }
+pub fn book_ok(book: &[u8]) -> bool
+    ensures { λ r. ⌜ r ≡ bookOk (now (book .entry)) ⌝ }
 {
-    if b.len() < 1 {
+    if book.len() < 1 {
         return false;
     }
-    let n = wide(b[0]);
-    if 16 < n {
+    let scenes = wide(book[0]);
+    if 16 < scenes {
         return false;
     }
-    if b.len() < 1 + 3 * n {
+    if book.len() < 1 + 3 * scenes {
         return false;
     }
-    bodies_ok(b, n)
+    bodies_ok(book, scenes)
 }

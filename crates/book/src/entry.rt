@@ -15,18 +15,18 @@ ghost use Rattle.book.specs.Entry.{values, runData, pnumOf, pcmdOf, join
 ghost use Rattle.book.specs.Join.{entryLimit};
 ghost use Rattle.book.specs.Run.{Writable, headBytes};
 
-// The values of n steps.
-fn write_values(s: &[u8], n: usize, out: &mut [u8], at: usize) -> usize
-    requires { ⌜ (4 * n ≤ length (now s)) × (n ≤ 64) × (at + n ≤ length (now out)) ⌝ }
-    ensures { λ r. ⌜ (r ≡ at + n) × (now (out .exit) ≡ sets (now (out .entry)) at (values (stepsIn n (now (s .entry))))) ⌝ }
+// The values of `count` steps.
+fn write_values(body: &[u8], count: usize, out: &mut [u8], at: usize) -> usize
+    requires { ⌜ (4 * count ≤ length (now body)) × (count ≤ 64) × (at + count ≤ length (now out)) ⌝ }
+    ensures { λ r. ⌜ (r ≡ at + count) × (now (out .exit) ≡ sets (now (out .entry)) at (values (stepsIn count (now (body .entry))))) ⌝ }
 {
     let mut i: usize = 0;
-    while i < n {
-        let x = step_at(s, i);
-        out[at + i] = x.value;
+    while i < count {
+        let step = step_at(body, i);
+        out[at + i] = step.value;
         i = i + 1;
     }
-    at + n
+    at + count
 }
 
 fn pnum_of(kind: u8) -> u8
@@ -45,64 +45,71 @@ fn pcmd_of(kind: u8) -> u8
 }
 
 // An entry's five bytes in front of its PData.
-fn write_head(kind: u8, h: u16, size: usize, out: &mut [u8], at: usize) -> usize
+fn write_head(kind: u8, hwpid: u16, size: usize, out: &mut [u8], at: usize) -> usize
     requires { ⌜ (at + 5 ≤ length (now out)) × (size ≤ entryLimit) ⌝ }
-    ensures { λ r. ⌜ (r ≡ at + 5) × (now (out .exit) ≡ sets (now (out .entry)) at (headBytes kind h size)) ⌝ }
+    ensures { λ r. ⌜ (r ≡ at + 5) × (now (out .exit) ≡ sets (now (out .entry)) at (headBytes kind hwpid size)) ⌝ }
 {
     out[at] = (HEAD + size) as u8;
     out[at + 1] = pnum_of(kind);
     out[at + 2] = pcmd_of(kind);
-    out[at + 3] = (h % 256) as u8;
-    out[at + 4] = (h / 256) as u8;
+    out[at + 3] = (hwpid % 256) as u8;
+    out[at + 4] = (hwpid / 256) as u8;
     at + HEAD
 }
 
-// The PData of an entry of n joined steps.
-fn write_pdata(s: &[u8], n: usize, out: &mut [u8], at: usize) -> usize
-    requires { ⌜ (4 * n ≤ length (now s)) × (0 < n) × (n ≤ 64) × (at + length (runData (stepsIn n (now s))) ≤ length (now out))
-        × Writable (now s) n ⌝ }
-    ensures { λ r. ⌜ (r ≡ at + length (runData (stepsIn n (now (s .entry)))))
-        × (now (out .exit) ≡ sets (now (out .entry)) at (runData (stepsIn n (now (s .entry))))) ⌝ }
+// The PData of an entry of `count` joined steps.
+fn write_pdata(body: &[u8], count: usize, out: &mut [u8], at: usize) -> usize
+    requires { ⌜ (4 * count ≤ length (now body)) × (0 < count) × (count ≤ 64) × (at + length (runData (stepsIn count (now body))) ≤ length (now out))
+        × Writable (now body) count ⌝ }
+    ensures { λ r. ⌜ (r ≡ at + length (runData (stepsIn count (now (body .entry)))))
+        × (now (out .exit) ≡ sets (now (out .entry)) at (runData (stepsIn count (now (body .entry))))) ⌝ }
 {
-    let x = step_at(s, 0);
-    let kind = x.kind;
+    let step = step_at(body, 0);
+    let kind = step.kind;
     if kind < 3 {
-        let m = bitmap_of(s, n);
-        let w = write_bitmap(m, out, at);
-        return write_powers(s, n, out, w);
+        let bitmap = bitmap_of(body, count);
+        let end = write_bitmap(bitmap, out, at);
+        return write_powers(body, count, out, end);
     }
-    out[at] = x.target;
-    write_values(s, n, out, at + 1)
+    out[at] = step.target;
+    write_values(body, count, out, at + 1)
 }
 
-// An entry of n joined steps, whose PData has `size` bytes.
-fn write_entry(s: &[u8], n: usize, h: u16, size: usize, out: &mut [u8], at: usize) -> usize
-    requires { ⌜ (4 * n ≤ length (now s)) × (0 < n) × (n ≤ 64) × (size ≤ entryLimit) × (size ≡ length (runData (stepsIn n (now s))))
-        × (at + 5 + size ≤ length (now out)) × Writable (now s) n ⌝ }
-    ensures { λ r. ⌜ (r ≡ at + 5 + size)
-        × (now (out .exit) ≡ sets (now (out .entry)) at (entryBytes (joinedItem h (stepsIn n (now (s .entry)))))) ⌝ }
-{
-    let x = step_at(s, 0);
-    let w = write_head(x.kind, h, size, out, at);
-    write_pdata(s, n, out, w)
-}
-
-// The entry of the k steps from step i on.
-pub fn write_entry_at(
-    s: &[u8],
-    i: usize,
-    k: usize,
-    h: u16,
+// An entry of `count` joined steps, whose PData has `size` bytes.
+fn write_entry(
+    body: &[u8],
+    count: usize,
+    hwpid: u16,
     size: usize,
     out: &mut [u8],
     at: usize,
 ) -> usize
-    requires { ⌜ (4 * (i + k) ≤ length (now s)) × (0 < k) × (i + k ≤ 64) × (size ≤ entryLimit)
-        × (size ≡ length (runData (stepsIn k (drop (4 * i) (now s))))) × (at + 5 + size ≤ length (now out))
-        × Writable (drop (4 * i) (now s)) k ⌝ }
+    requires { ⌜ (4 * count ≤ length (now body)) × (0 < count) × (count ≤ 64) × (size ≤ entryLimit)
+        × (size ≡ length (runData (stepsIn count (now body)))) × (at + 5 + size ≤ length (now out)) × Writable (now body) count ⌝ }
     ensures { λ r. ⌜ (r ≡ at + 5 + size)
-        × (now (out .exit) ≡ sets (now (out .entry)) at (entryBytes (joinedItem h (stepsIn k (drop (4 * i) (now (s .entry))))))) ⌝ }
+        × (now (out .exit) ≡ sets (now (out .entry)) at (entryBytes (joinedItem hwpid (stepsIn count (now (body .entry)))))) ⌝ }
 {
-    let from = 4 * i;
-    write_entry(&s[from..], k, h, size, out, at)
+    let step = step_at(body, 0);
+    let end = write_head(step.kind, hwpid, size, out, at);
+    write_pdata(body, count, out, end)
+}
+
+// The entry of the `taken` steps from step `done` on.
+pub fn write_entry_at(
+    body: &[u8],
+    done: usize,
+    taken: usize,
+    hwpid: u16,
+    size: usize,
+    out: &mut [u8],
+    at: usize,
+) -> usize
+    requires { ⌜ (4 * (done + taken) ≤ length (now body)) × (0 < taken) × (done + taken ≤ 64) × (size ≤ entryLimit)
+        × (size ≡ length (runData (stepsIn taken (drop (4 * done) (now body))))) × (at + 5 + size ≤ length (now out))
+        × Writable (drop (4 * done) (now body)) taken ⌝ }
+    ensures { λ r. ⌜ (r ≡ at + 5 + size)
+        × (now (out .exit) ≡ sets (now (out .entry)) at (entryBytes (joinedItem hwpid (stepsIn taken (drop (4 * done) (now (body .entry))))))) ⌝ }
+{
+    let from = 4 * done;
+    write_entry(&body[from..], taken, hwpid, size, out, at)
 }

@@ -12,56 +12,56 @@ ghost use Rattle.book.specs.Run.{stepAt, stepSize, firstSize, joinedSize
 // The longest PData of an entry.
 pub const LIMIT: usize = 50;
 
-// Whether s may join an entry whose last step is p.
-fn may_follow(p: Step, s: Step) -> bool
-    ensures { λ r. ⌜ r ≡ follows p s ⌝ }
+// Whether a step may join an entry whose last step is `before`.
+fn may_follow(before: Step, step: Step) -> bool
+    ensures { λ r. ⌜ r ≡ follows before step ⌝ }
 {
-    if s.kind == p.kind {
-        if p.kind < 3 {
-            p.target < s.target
+    if step.kind == before.kind {
+        if before.kind < 3 {
+            before.target < step.target
         } else {
-            wide(s.target) == wide(p.target) + 1
+            wide(step.target) == wide(before.target) + 1
         }
     } else {
         false
     }
 }
 
-// The bytes that s takes in an entry of kind k.
-fn step_size(k: u8, s: Step) -> usize
-    ensures { λ r. ⌜ (r ≡ stepSize k s) × (r ≤ 2) ⌝ }
+// The bytes that a step takes in an entry of a kind.
+fn step_size(kind: u8, step: Step) -> usize
+    ensures { λ r. ⌜ (r ≡ stepSize kind step) × (r ≤ 2) ⌝ }
 {
-    if k < 3 {
-        if s.time == 0 { 1 } else { 2 }
+    if kind < 3 {
+        if step.time == 0 { 1 } else { 2 }
     } else {
         1
     }
 }
 
 // The length of the PData of an entry of one step.
-fn first_size(s: Step) -> usize
-    ensures { λ r. ⌜ (r ≡ firstSize s) × (r ≤ 6) ⌝ }
+fn first_size(step: Step) -> usize
+    ensures { λ r. ⌜ (r ≡ firstSize step) × (r ≤ 6) ⌝ }
 {
-    let k = s.kind;
-    if k < 3 {
-        step_size(k, s) + 4
+    let kind = step.kind;
+    if kind < 3 {
+        step_size(kind, step) + 4
     } else {
-        step_size(k, s) + 1
+        step_size(kind, step) + 1
     }
 }
 
-// The length of an entry's PData of `size` bytes with step k added, or 0 where step k does not join it.
-fn joined_size(s: &[u8], k: usize, kind: u8, size: usize) -> usize
-    requires { ⌜ (0 < k) × (4 * k + 4 ≤ length (now s)) × (size ≤ entryLimit) × (k ≤ 64) ⌝ }
-    ensures { λ r. ⌜ r ≡ joinedSize entryLimit (stepAt (now (s .entry)) (k - 1)) (stepAt (now (s .entry)) k) kind size ⌝ }
+// The length of an entry's PData of `size` bytes with the step behind its `taken` steps added, or 0 where that step does not join it.
+fn joined_size(body: &[u8], taken: usize, kind: u8, size: usize) -> usize
+    requires { ⌜ (0 < taken) × (4 * taken + 4 ≤ length (now body)) × (size ≤ entryLimit) × (taken ≤ 64) ⌝ }
+    ensures { λ r. ⌜ r ≡ joinedSize entryLimit (stepAt (now (body .entry)) (taken - 1)) (stepAt (now (body .entry)) taken) kind size ⌝ }
 {
-    let p = step_at(s, k - 1);
-    let x = step_at(s, k);
-    let more = step_size(kind, x) + size;
+    let before = step_at(body, taken - 1);
+    let step = step_at(body, taken);
+    let more = step_size(kind, step) + size;
     if LIMIT < more {
         return 0;
     }
-    if may_follow(p, x) { more } else { 0 }
+    if may_follow(before, step) { more } else { 0 }
 }
 
 // The first entry of a scene: its steps, and the length of its PData.
@@ -70,36 +70,30 @@ pub struct Run {
     pub size: usize,
 }
 
-pub fn run_of(s: &[u8], n: usize) -> Run
-    requires { ⌜ (4 * n ≤ length (now s)) × (0 < n) × (n ≤ 64) ⌝ }
-    ensures { λ r. ⌜ FirstRun entryLimit (stepsIn n (now (s .entry))) (r .steps) (r .size) ⌝ }
+pub fn run_of(body: &[u8], count: usize) -> Run
+    requires { ⌜ (4 * count ≤ length (now body)) × (0 < count) × (count ≤ 64) ⌝ }
+    ensures { λ r. ⌜ FirstRun entryLimit (stepsIn count (now (body .entry))) (r .steps) (r .size) ⌝ }
 {
-    let first = step_at(s, 0);
+    let first = step_at(body, 0);
     let kind = first.kind;
     let mut size = first_size(first);
-    let mut k: usize = 1;
-    while k < n {
-        let more = joined_size(s, k, kind, size);
+    let mut taken: usize = 1;
+    while taken < count {
+        let more = joined_size(body, taken, kind, size);
         if more == 0 {
-            return Run {
-                steps: k,
-                size: size,
-            };
+            return Run { steps: taken, size };
         }
         size = more;
-        k = k + 1;
+        taken = taken + 1;
     }
-    Run {
-        steps: k,
-        size: size,
-    }
+    Run { steps: taken, size }
 }
 
 // The entry that begins at step `done`.
-pub fn run_from(s: &[u8], n: usize, done: usize) -> Run
-    requires { ⌜ (4 * n ≤ length (now s)) × (done < n) × (n ≤ 64) ⌝ }
-    ensures { λ r. ⌜ FirstRun entryLimit (drop done (stepsIn n (now (s .entry)))) (r .steps) (r .size) ⌝ }
+pub fn run_from(body: &[u8], count: usize, done: usize) -> Run
+    requires { ⌜ (4 * count ≤ length (now body)) × (done < count) × (count ≤ 64) ⌝ }
+    ensures { λ r. ⌜ FirstRun entryLimit (drop done (stepsIn count (now (body .entry)))) (r .steps) (r .size) ⌝ }
 {
     let from = 4 * done;
-    run_of(&s[from..], n - done)
+    run_of(&body[from..], count - done)
 }

@@ -10,65 +10,66 @@ ghost use Rattle.book.specs.Entry.{powerBytes, powersBytes, bitmapOf, fo
 ghost use Rattle.book.specs.Run.{Lamps};
 
 // Writes a step's power byte, and its time byte if it has one; returns the place behind them.
-fn write_power(x: Step, out: &mut [u8], at: usize) -> usize
-    requires { ⌜ (x .value ≤ 100) × (at + length (powerBytes x) ≤ length (now out)) ⌝ }
-    ensures { λ r. ⌜ (r ≡ at + length (powerBytes x)) × (now (out .exit) ≡ sets (now (out .entry)) at (powerBytes x)) ⌝ }
+fn write_power(step: Step, out: &mut [u8], at: usize) -> usize
+    requires { ⌜ (step .value ≤ 100) × (at + length (powerBytes step) ≤ length (now out)) ⌝ }
+    ensures { λ r. ⌜ (r ≡ at + length (powerBytes step)) × (now (out .exit) ≡ sets (now (out .entry)) at (powerBytes step)) ⌝ }
 {
-    if x.time == 0 {
-        out[at] = x.value;
+    if step.time == 0 {
+        out[at] = step.value;
         return at + 1;
     }
-    out[at] = x.value + 128;
-    out[at + 1] = x.time;
+    out[at] = step.value + 128;
+    out[at + 1] = step.time;
     at + 2
 }
 
-// The power bytes of n steps.
-pub fn write_powers(s: &[u8], n: usize, out: &mut [u8], at: usize) -> usize
-    requires { ⌜ (4 * n ≤ length (now s)) × (n ≤ 64) × (at + length (powersBytes (stepsIn n (now s))) ≤ length (now out)) × Lamps (now s) n ⌝ }
-    ensures { λ r. ⌜ (r ≡ at + length (powersBytes (stepsIn n (now (s .entry)))))
-        × (now (out .exit) ≡ sets (now (out .entry)) at (powersBytes (stepsIn n (now (s .entry))))) ⌝ }
+// The power bytes of `count` steps.
+pub fn write_powers(body: &[u8], count: usize, out: &mut [u8], at: usize) -> usize
+    requires { ⌜ (4 * count ≤ length (now body)) × (count ≤ 64) × (at + length (powersBytes (stepsIn count (now body))) ≤ length (now out))
+        × Lamps (now body) count ⌝ }
+    ensures { λ r. ⌜ (r ≡ at + length (powersBytes (stepsIn count (now (body .entry)))))
+        × (now (out .exit) ≡ sets (now (out .entry)) at (powersBytes (stepsIn count (now (body .entry))))) ⌝ }
 {
-    let mut w = at;
+    let mut end = at;
     let mut i: usize = 0;
-    while i < n {
-        let x = step_at(s, i);
-        w = write_power(x, out, w);
+    while i < count {
+        let step = step_at(body, i);
+        end = write_power(step, out, end);
         i = i + 1;
     }
-    w
+    end
 }
 
-fn power_of_two(t: u8) -> u64
-    requires { ⌜ t < 32 ⌝ }
-    ensures { λ r. ⌜ (r ≡ 2 ^ t) × (r ≤ 4294967296) ⌝ }
+fn power_of_two(exponent: u8) -> u64
+    requires { ⌜ exponent < 32 ⌝ }
+    ensures { λ r. ⌜ (r ≡ 2 ^ exponent) × (r ≤ 4294967296) ⌝ }
 {
-    1u64 << t
+    1u64 << exponent
 }
 
-// The bitmap of n lamp steps.
-pub fn bitmap_of(s: &[u8], n: usize) -> u64
-    requires { ⌜ (4 * n ≤ length (now s)) × (n ≤ 64) × Lamps (now s) n ⌝ }
-    ensures { λ r. ⌜ r ≡ bitmapOf (stepsIn n (now (s .entry))) ⌝ }
+// The bitmap of `count` lamp steps.
+pub fn bitmap_of(body: &[u8], count: usize) -> u64
+    requires { ⌜ (4 * count ≤ length (now body)) × (count ≤ 64) × Lamps (now body) count ⌝ }
+    ensures { λ r. ⌜ r ≡ bitmapOf (stepsIn count (now (body .entry))) ⌝ }
 {
-    let mut m: u64 = 0;
+    let mut bitmap: u64 = 0;
     let mut i: usize = 0;
-    while i < n {
-        let x = step_at(s, i);
-        m = m + power_of_two(x.target);
+    while i < count {
+        let step = step_at(body, i);
+        bitmap = bitmap + power_of_two(step.target);
         i = i + 1;
     }
-    m
+    bitmap
 }
 
 // The four bytes of a bitmap.
-pub fn write_bitmap(m: u64, out: &mut [u8], at: usize) -> usize
+pub fn write_bitmap(bitmap: u64, out: &mut [u8], at: usize) -> usize
     requires { ⌜ at + 4 ≤ length (now out) ⌝ }
-    ensures { λ r. ⌜ (r ≡ at + 4) × (now (out .exit) ≡ sets (now (out .entry)) at (fourBytes m)) ⌝ }
+    ensures { λ r. ⌜ (r ≡ at + 4) × (now (out .exit) ≡ sets (now (out .entry)) at (fourBytes bitmap)) ⌝ }
 {
-    out[at] = (m % 256) as u8;
-    out[at + 1] = (m / 256 % 256) as u8;
-    out[at + 2] = (m / 256 / 256 % 256) as u8;
-    out[at + 3] = (m / 256 / 256 / 256 % 256) as u8;
+    out[at] = (bitmap % 256) as u8;
+    out[at + 1] = (bitmap / 256 % 256) as u8;
+    out[at + 2] = (bitmap / 256 / 256 % 256) as u8;
+    out[at + 3] = (bitmap / 256 / 256 / 256 % 256) as u8;
     at + 4
 }

@@ -23,16 +23,16 @@ pub struct Step {
     pub time: u8,
 }
 
-// Step i of a scene's bytes.
-pub fn step_at(s: &[u8], i: usize) -> Step
-    requires { ⌜ 4 * i + 4 ≤ length (now s) ⌝ }
-    ensures { λ r. ⌜ r ≡ stepAt (now (s .entry)) i ⌝ }
+// Step i of a scene's body.
+pub fn step_at(body: &[u8], i: usize) -> Step
+    requires { ⌜ 4 * i + 4 ≤ length (now body) ⌝ }
+    ensures { λ r. ⌜ r ≡ stepAt (now (body .entry)) i ⌝ }
 {
     Step {
-        kind: s[4 * i],
-        target: s[4 * i + 1],
-        value: s[4 * i + 2],
-        time: s[4 * i + 3],
+        kind: body[4 * i],
+        target: body[4 * i + 1],
+        value: body[4 * i + 2],
+        time: body[4 * i + 3],
     }
 }
 
@@ -82,19 +82,19 @@ pub fn step_fault(step: Step) -> u8
     fault::KIND
 }
 
-// The number of the first bad step, or n.
-pub fn first_bad(s: &[u8], n: usize) -> usize
-    requires { ⌜ (4 * n ≤ length (now s)) × (n ≤ 64) ⌝ }
-    ensures { λ r. ⌜ (r ≤ n) × (badFrom 0 (stepsIn n (now (s .entry))) ≡ cond (ltb r n) (some r) none) ⌝ }
+// The number of the first bad step, or `count`.
+pub fn first_bad(body: &[u8], count: usize) -> usize
+    requires { ⌜ (4 * count ≤ length (now body)) × (count ≤ 64) ⌝ }
+    ensures { λ r. ⌜ (r ≤ count) × (badFrom 0 (stepsIn count (now (body .entry))) ≡ cond (ltb r count) (some r) none) ⌝ }
 {
     let mut i: usize = 0;
-    while i < n {
-        let x = step_at(s, i);
+    while i < count {
+        let step = step_at(body, i);
         let next = i + 1;
-        if step_fault(x) != fault::NONE {
+        if step_fault(step) != fault::NONE {
             return i;
         }
         i = next;
     }
-    n
+    count
 }

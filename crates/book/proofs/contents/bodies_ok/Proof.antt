@@ -9,11 +9,11 @@ use Rattle.book.proofs.contents.bodies_ok.Statement.{statement}
 use Rattle.book.proofs.contents.bodies_ok.Tie as tie
 
 abbrev Inv-loop : tie.InvT-loop
-Inv-loop b n start₀ i₀ start i =
-    (i ≤ n) × (start ≤ 49 + 256 * i) × (chained (1 + 3 * n) (contentsOf b) (length b) ≡ chained start (drop i (contentsOf b)) (length b))
+Inv-loop book scenes start₀ i₀ start i =
+    (i ≤ scenes) × (start ≤ 49 + 256 * i) × (chained (1 + 3 * scenes) (contentsOf book) (length book) ≡ chained start (drop i (contentsOf book)) (length book))
 
 abbrev μ-loop : tie.MeasureT-loop
-μ-loop b n start₀ i₀ start i = n - i
+μ-loop book scenes start₀ i₀ start i = scenes - i
 
 mul-start : tie.Need-mul-start Inv-loop μ-loop
 mul-start c = omega arith
@@ -32,7 +32,7 @@ returns c =
     let s = c .before .before .before .before .before .before in
     let p = c .before .before .content-at .ensures in
     let l = c .before .before .before .before .loop in
-    let b = s .args .b .now in
+    let b = s .args .book .now in
     let below : l .i < countOf b = omega (arith, s .pre .2, c .before .before .before .loop-test .taken) in
     sym (l .inv .2 ∙ chain-apart b (l .i) (l .start) (length b) _ _ below (ap (λ (x : Content). x .offset) (p .0)) (ap (λ (x : Content). x .steps) (p .0)) (c .if1 .taken))
 
@@ -41,7 +41,7 @@ returns-2 c =
     let s = c .before .before .before .before .before .before .before .before in
     let p = c .before .before .before .before .content-at .ensures in
     let l = c .before .before .before .before .before .before .loop in
-    let b = s .args .b .now in
+    let b = s .args .book .now in
     let below : l .i < countOf b = omega (arith, s .pre .2, c .before .before .before .before .before .loop-test .taken) in
     sym (l .inv .2 ∙ chain-long b (l .i) (l .start) (length b) _ _ below (ap (λ (x : Content). x .offset) (p .0)) (ap (λ (x : Content). x .steps) (p .0))
     (c .before .before .if1 .left) (c .if2 .taken))
@@ -72,7 +72,7 @@ loop-again c =
     let p = c .before .before .before .before .before .content-at .ensures in (
       omega arith,
       omega (arith, l .inv .1, c .before .if2 .left),
-      l .inv .2 ∙ chain-more (s .args .b .now) (l .i) (l .start) (length (s .args .b .now)) _ _
+      l .inv .2 ∙ chain-more (s .args .book .now) (l .i) (l .start) (length (s .args .book .now)) _ _
           (omega (arith, s .pre .2, c .before .before .before .before .before .before .loop-test .taken))
           (ap (λ (x : Content). x .offset) (p .0)) (ap (λ (x : Content). x .steps) (p .0)) (c .before .before .before .if1 .left)
           (c .before .if2 .left),
@@ -82,7 +82,7 @@ returns-3 : tie.Need-returns-3 Inv-loop μ-loop
 returns-3 c =
     let s = c .before .before .before in
     let l = c .before .loop in
-    let b = s .args .b .now in
+    let b = s .args .book .now in
     sym (l .inv .2 ∙ chain-end b (l .i) (l .start) (length b) (omega (arith, s .pre .2, c .loop-test .left)))
 
 pub bodies-ok-spec : {M : Type 1} → statement M

@@ -8,7 +8,7 @@ use Rattle.book.proofs.contents.book_ok.Tie as tie
 
 returns : tie.Need-returns
 unfolding bookOk
-returns c = simp (lt-leb 1 (length (c .before .before .args .b .now)) (c .if1 .taken))
+returns c = simp (lt-leb 1 (length (c .before .before .args .book .now)) (c .if1 .taken))
 
 shared-slice-read-wide : tie.Need-shared-slice-read-wide
 shared-slice-read-wide c = search needs
@@ -19,7 +19,7 @@ wide-requires c κs = search needs
 returns-2 : tie.Need-returns-2
 unfolding bookOk
 returns-2 c =
-    let b = c .before .before .before .before .before .args .b .now in
+    let b = c .before .before .before .before .before .args .book .now in
     simp (le-leb 1 (length b) (c .before .before .before .if1 .left), lt-leb (countOf b) 16 (rw (c .before .wide .ensures .0) at (c .if2 .taken)))
 
 mul-if3 : tie.Need-mul-if3
@@ -31,7 +31,7 @@ add-if3 c = search needs
 returns-3 : tie.Need-returns-3
 unfolding bookOk
 returns-3 c =
-    let b = c .before .before .before .before .before .before .args .b .now in
+    let b = c .before .before .before .before .before .before .args .book .now in
     let e = c .before .before .wide .ensures .0 in
     simp (le-leb 1 (length b) (c .before .before .before .before .if1 .left), le-leb (countOf b) 16 (rw e at (c .before .if2 .left)), lt-leb (1 + 3 * countOf b) (length b) (rw e at (c .if3 .taken)))
 
@@ -41,7 +41,7 @@ bodies-ok-requires c κs = search needs
 returns-4 : tie.Need-returns-4
 unfolding bookOk
 returns-4 c =
-    let b = c .before .before .before .before .before .before .before .args .b .now in
+    let b = c .before .before .before .before .before .before .before .args .book .now in
     let e = c .before .before .before .wide .ensures .0 in
     simp (le-leb 1 (length b) (c .before .before .before .before .before .if1 .left), le-leb (countOf b) 16 (rw e at (c .before .before .if2 .left)), le-leb (1 + 3 * countOf b) (length b) (rw e at (c .before .if3 .left)))
     (rw e at (c .bodies-ok .ensures))

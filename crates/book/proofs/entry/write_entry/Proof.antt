@@ -28,13 +28,13 @@ returns c =
     let s = c .before .before .before .before .before .before .before .before .before .before .before in
     let x = c .before .before .before .before .before .before .before .before in
     let head = c .before .before .before .before .before .before .write-head .ensures in
-    let body = c .before .before .write-pdata .ensures in
-    let e = entry-split (s .args .n) (s .args .s .now) (s .args .h) (s .args .size) (s .pre .1) (s .pre .4) in
-    let both = put-two (s .args .out .now) _ _ (headBytes (stepAt (s .args .s .now) 0 .kind) (s .args .h) (s .args .size))
-    (runData (stepsIn (s .args .n) (s .args .s .now))) _ _ _ _
-    (head .1 ∙ ap (λ (x : Step). sets (s .args .out .now) (s .args .at) (headBytes (x .kind) (s .args .h) (s .args .size))) (x .step-at .ensures))
-    (head .0) (body .1) (body .0) e in
-    (omega (arith, both .0, ap length e, head .0, body .0, s .pre .4), both .1)
+    let pdata = c .before .before .write-pdata .ensures in
+    let e = entry-split (s .args .count) (s .args .body .now) (s .args .hwpid) (s .args .size) (s .pre .1) (s .pre .4) in
+    let both = put-two (s .args .out .now) _ _ (headBytes (stepAt (s .args .body .now) 0 .kind) (s .args .hwpid) (s .args .size))
+    (runData (stepsIn (s .args .count) (s .args .body .now))) _ _ _ _
+    (head .1 ∙ ap (λ (x : Step). sets (s .args .out .now) (s .args .at) (headBytes (x .kind) (s .args .hwpid) (s .args .size))) (x .step-at .ensures))
+    (head .0) (pdata .1) (pdata .0) e in
+    (omega (arith, both .0, ap length e, head .0, pdata .0, s .pre .4), both .1)
 
 pub write-entry-spec : {M : Type 1} → statement M
 write-entry-spec =

@@ -21,8 +21,8 @@ part-write-entry-end c = search needs
 write-entry-requires : tie.Need-write-entry-requires
 write-entry-requires c κs =
     let s = c .before .before .before .before in
-    rw (to-end (4 * s .args .i) (s .args .s .now))
-    (omega (arith, s .pre .0, length-drop (4 * s .args .i) (s .args .s .now)), s .pre .1, omega (arith, s .pre .2), s .pre .3, s .pre .4, s .pre .5, s .pre .6)
+    rw (to-end (4 * s .args .done) (s .args .body .now))
+    (omega (arith, s .pre .0, length-drop (4 * s .args .done) (s .args .body .now)), s .pre .1, omega (arith, s .pre .2), s .pre .3, s .pre .4, s .pre .5, s .pre .6)
 
 same-length : tie.Need-same-length
 same-length c = search needs
@@ -30,7 +30,7 @@ same-length c = search needs
 returns : tie.Need-returns
 returns c =
     let s = c .before .before .before .before .before .before .before in
-    rw (to-end (4 * s .args .i) (s .args .s .now)) at (c .before .before .write-entry .ensures)
+    rw (to-end (4 * s .args .done) (s .args .body .now)) at (c .before .before .write-entry .ensures)
 
 pub write-entry-at-spec : {M : Type 1} → statement M
 write-entry-at-spec =

@@ -26,7 +26,7 @@ write-bitmap-requires c κs =
     let at = c .before .before in
     let s = at .before .before .before in
     let k = rw (at .before .step-at .ensures) at (at .if1 .taken) in
-    omega (arith, s .before .pre .3, ap length (data-lamp (s .before .args .n) (s .before .args .s .now) (s .before .pre .1) k))
+    omega (arith, s .before .pre .3, ap length (data-lamp (s .before .args .count) (s .before .args .body .now) (s .before .pre .1) k))
 
 write-powers-requires : tie.Need-write-powers-requires
 write-powers-requires c κs =
@@ -41,7 +41,7 @@ write-powers-requires c κs =
         e .0,
         sets-keep (s .args .out .now) _ (fourBytes (c .before .before .before .before .before .bitmap-of .result)) (s .args .at) (e .1),
         s .pre .3,
-        ap length (data-lamp (s .args .n) (s .args .s .now) (s .pre .1) k),
+        ap length (data-lamp (s .args .count) (s .args .body .now) (s .pre .1) k),
       ),
       s .pre .4 k,
     )
@@ -56,17 +56,17 @@ returns c =
     let k = rw (at .before .step-at .ensures) at (at .if1 .taken) in
     let four = c .before .before .before .before .before .before .write-bitmap .ensures in
     let powers = c .before .before .write-powers .ensures in
-    let ss = stepsIn (s .args .n) (s .args .s .now) in
+    let ss = stepsIn (s .args .count) (s .args .body .now) in
     put-two (s .args .out .now) _ _ (fourBytes (bitmapOf ss)) (powersBytes ss) _ _ _ _
     (four .1 ∙ ap (λ (m : ℕ). sets (s .args .out .now) (s .args .at) (fourBytes m)) (c .before .before .before .before .before .before .before .before .bitmap-of .ensures))
     (four .0) (powers .1) (powers .0)
-    (data-lamp (s .args .n) (s .args .s .now) (s .pre .1) k)
+    (data-lamp (s .args .count) (s .args .body .now) (s .pre .1) k)
 
 slice-write-out : tie.Need-slice-write-out
 slice-write-out c =
     let s = c .before .before .before .before in
     let k = rw (c .before .step-at .ensures) at (c .if1 .left) in
-    omega (arith, s .pre .3, ap length (data-mem (s .args .n) (s .args .s .now) (s .pre .1) k))
+    omega (arith, s .pre .3, ap length (data-mem (s .args .count) (s .args .body .now) (s .pre .1) k))
 
 add-write-values : tie.Need-add-write-values
 add-write-values c = search needs
@@ -80,8 +80,8 @@ write-values-requires c κs =
       rw length-set (omega (
         arith,
         s .pre .3,
-        values-count (s .args .n) (s .args .s .now),
-        ap length (data-mem (s .args .n) (s .args .s .now) (s .pre .1) k),
+        values-count (s .args .count) (s .args .body .now),
+        ap length (data-mem (s .args .count) (s .args .body .now) (s .pre .1) k),
       )),
     )
 
@@ -98,11 +98,11 @@ returns-2 c =
     let s = at .before .before .before .before in
     let k = rw (at .before .step-at .ensures) at (at .if1 .left) in
     let vs = c .before .before .write-values .ensures in
-    let n = values-count (s .args .n) (s .args .s .now) in
-    put-two (s .args .out .now) _ _ (stepAt (s .args .s .now) 0 .target ∷ []) (values (stepsIn (s .args .n) (s .args .s .now))) _
+    let n = values-count (s .args .count) (s .args .body .now) in
+    put-two (s .args .out .now) _ _ (stepAt (s .args .body .now) 0 .target ∷ []) (values (stepsIn (s .args .count) (s .args .body .now))) _
     _ _ _ (ap (λ (x : Step). set (s .args .out .now) (s .args .at) (x .target)) (at .before .step-at .ensures)) refl (vs .1)
     (omega (arith, vs .0, n))
-    (data-mem (s .args .n) (s .args .s .now) (s .pre .1) k)
+    (data-mem (s .args .count) (s .args .body .now) (s .pre .1) k)
 
 pub write-pdata-spec : {M : Type 1} → statement M
 write-pdata-spec =

@@ -6,10 +6,10 @@ use Rattle.book.proofs.entry.write_values.Statement.{statement}
 use Rattle.book.proofs.entry.write_values.Tie as tie
 
 abbrev Inv-loop : tie.InvT-loop
-Inv-loop s n out₀ at i₀ out i = Valued n s out₀ at i out
+Inv-loop body count out₀ at i₀ out i = Valued count body out₀ at i out
 
 abbrev μ-loop : tie.MeasureT-loop
-μ-loop s n out₀ at i₀ out i = n - i
+μ-loop body count out₀ at i₀ out i = count - i
 
 loop-holds : tie.Need-loop-holds Inv-loop μ-loop
 loop-holds c = (omega arith, refl, refl)

@@ -26,7 +26,7 @@ run-of-requires c κs = search needs
 returns : tie.Need-returns
 returns c =
     let a = c .before .before .before .args in
-    run-part entryLimit (a .n) (a .done) (a .s .now) _ _ (omega arith) (c .run-of .ensures)
+    run-part entryLimit (a .count) (a .done) (a .body .now) _ _ (omega arith) (c .run-of .ensures)
 
 pub run-from-spec : {M : Type 1} → statement M
 run-from-spec =

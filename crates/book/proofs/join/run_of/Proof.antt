@@ -10,10 +10,10 @@ use Rattle.book.proofs.join.run_of.Statement.{statement}
 use Rattle.book.proofs.join.run_of.Tie as tie
 
 abbrev Inv-loop : tie.InvT-loop
-Inv-loop s n kind size₀ k₀ size k = At entryLimit n s k size
+Inv-loop body count kind size₀ k₀ size taken = At entryLimit count body taken size
 
 abbrev μ-loop : tie.MeasureT-loop
-μ-loop s n kind size₀ k₀ size k = n - k
+μ-loop body count kind size₀ k₀ size taken = count - taken
 
 step-at-requires : tie.Need-step-at-requires Inv-loop μ-loop
 step-at-requires c κs = omega arith
@@ -35,8 +35,8 @@ returns c =
     (ap (λ (x : Step). x .kind) (c .before .before .before .before .before .step-at .ensures))
     (c .before .joined-size .ensures) (c .if1 .taken)
 
-add-k : tie.Need-add-k Inv-loop μ-loop
-add-k c = omega arith
+add-taken : tie.Need-add-taken Inv-loop μ-loop
+add-taken c = omega arith
 
 loop-less : tie.Need-loop-less Inv-loop μ-loop
 loop-less c = omega arith
@@ -61,7 +61,7 @@ run-of-spec =
     loop-holds
     joined-size-requires
     returns
-    add-k
+    add-taken
     loop-less
     loop-again
     returns-2)

@@ -6,10 +6,10 @@ use Rattle.book.proofs.power.bitmap_of.Statement.{statement}
 use Rattle.book.proofs.power.bitmap_of.Tie as tie
 
 abbrev Inv-loop : tie.InvT-loop
-Inv-loop s n m₀ i₀ m i = Mapped n s i m
+Inv-loop body count m₀ i₀ bitmap i = Mapped count body i bitmap
 
 abbrev μ-loop : tie.MeasureT-loop
-μ-loop s n m₀ i₀ m i = n - i
+μ-loop body count m₀ i₀ bitmap i = count - i
 
 loop-holds : tie.Need-loop-holds Inv-loop μ-loop
 loop-holds c = (omega arith, refl, omega arith)
@@ -21,8 +21,8 @@ power-of-two-requires : tie.Need-power-of-two-requires Inv-loop μ-loop
 power-of-two-requires c κs =
     rw (c .step-at .ensures) (c .before .before .before .before .pre .2 (c .before .before .loop .i) (c .before .loop-test .taken) .1)
 
-add-m : tie.Need-add-m Inv-loop μ-loop
-add-m c = omega (arith, c .before .before .before .loop .inv .2, c .power-of-two .ensures .1)
+add-bitmap : tie.Need-add-bitmap Inv-loop μ-loop
+add-bitmap c = omega (arith, c .before .before .before .loop .inv .2, c .power-of-two .ensures .1)
 
 add-i : tie.Need-add-i Inv-loop μ-loop
 add-i c = omega arith
@@ -47,7 +47,7 @@ bitmap-of-spec =
     loop-holds
     step-at-requires
     power-of-two-requires
-    add-m
+    add-bitmap
     add-i
     loop-less
     loop-again

@@ -9,7 +9,7 @@ shl-result c = search needs
 
 returns : tie.Need-returns
 returns c =
-    let small = pow-mono {i = c .args .t} {j = 32} (omega arith) in
+    let small = pow-mono {i = c .args .exponent} {j = 32} (omega arith) in
     (omega (arith, small), omega (arith, small))
 
 pub power-of-two-spec : {M : Type 1} → statement M

@@ -10,10 +10,10 @@ use Rattle.book.proofs.power.write_power.Statement.{statement}
 use Rattle.book.proofs.power.write_power.Tie as tie
 
 slice-write-out : tie.Need-slice-write-out
-slice-write-out c = omega (arith, power-one (c .before .before .args .x) (c .if1 .taken))
+slice-write-out c = omega (arith, power-one (c .before .before .args .step) (c .if1 .taken))
 
 add-result : tie.Need-add-result
-add-result c = omega (arith, power-one (c .before .before .args .x) (c .if1 .taken))
+add-result c = omega (arith, power-one (c .before .before .args .step) (c .if1 .taken))
 
 same-length : tie.Need-same-length
 same-length c = search needs
@@ -26,16 +26,16 @@ add-out : tie.Need-add-out
 add-out c = search needs
 
 slice-write-out-2 : tie.Need-slice-write-out-2
-slice-write-out-2 c = omega (arith, power-two (c .before .before .before .args .x) (c .before .if1 .left))
+slice-write-out-2 c = omega (arith, power-two (c .before .before .before .args .step) (c .before .if1 .left))
 
 add-out-2 : tie.Need-add-out-2
-add-out-2 c = omega (arith, power-two (c .before .before .before .args .x) (c .before .if1 .left))
+add-out-2 c = omega (arith, power-two (c .before .before .before .args .step) (c .before .if1 .left))
 
 slice-write-out-3 : tie.Need-slice-write-out-3
-slice-write-out-3 c = rw length-set (omega (arith, power-two (c .before .before .before .args .x) (c .before .if1 .left)))
+slice-write-out-3 c = rw length-set (omega (arith, power-two (c .before .before .before .args .step) (c .before .if1 .left)))
 
 add-result-2 : tie.Need-add-result-2
-add-result-2 c = omega (arith, power-two (c .before .before .before .args .x) (c .before .if1 .left))
+add-result-2 c = omega (arith, power-two (c .before .before .before .args .step) (c .before .if1 .left))
 
 same-length-2 : tie.Need-same-length-2
 same-length-2 c = search needs

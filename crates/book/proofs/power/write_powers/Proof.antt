@@ -6,10 +6,10 @@ use Rattle.book.proofs.power.write_powers.Statement.{statement}
 use Rattle.book.proofs.power.write_powers.Tie as tie
 
 abbrev Inv-loop : tie.InvT-loop
-Inv-loop s n out₀ at w₀ i₀ out w i = Put n s out₀ at i w out
+Inv-loop body count out₀ at w₀ i₀ out end i = Put count body out₀ at i end out
 
 abbrev μ-loop : tie.MeasureT-loop
-μ-loop s n out₀ at w₀ i₀ out w i = n - i
+μ-loop body count out₀ at w₀ i₀ out end i = count - i
 
 loop-holds : tie.Need-loop-holds Inv-loop μ-loop
 loop-holds c = (omega arith, omega arith, refl, refl)
@@ -25,7 +25,7 @@ write-power-requires c κs =
       rw (c .before .step-at .ensures) (at .before .before .before .pre .3 (at .loop .i) h .0),
       rw (c .before .step-at .ensures) (omega (
         arith,
-        room (a .n) (a .s .now) (at .loop .i) h,
+        room (a .count) (a .body .now) (at .loop .i) h,
         at .loop .inv .1,
         at .loop .inv .3,
         at .before .before .before .pre .2,

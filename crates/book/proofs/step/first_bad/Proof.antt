@@ -11,10 +11,10 @@ use Rattle.book.proofs.step.first_bad.Statement.{statement}
 use Rattle.book.proofs.step.first_bad.Tie as tie
 
 abbrev Inv-loop : tie.InvT-loop
-Inv-loop s n i₀ i = (i ≤ n) × (badFrom 0 (stepsIn n s) ≡ badFrom i (drop i (stepsIn n s)))
+Inv-loop body count i₀ i = (i ≤ count) × (badFrom 0 (stepsIn count body) ≡ badFrom i (drop i (stepsIn count body)))
 
 abbrev μ-loop : tie.MeasureT-loop
-μ-loop s n i₀ i = n - i
+μ-loop body count i₀ i = count - i
 
 loop-holds : tie.Need-loop-holds Inv-loop μ-loop
 loop-holds c = (omega arith, refl)
@@ -38,7 +38,7 @@ loop-again c =
     let x = c .before .before .step-at in
     let good = eq-eqb _ _ (sym (c .before .step-fault .ensures) ∙ c .if1 .left) in (
       omega arith,
-      l .inv .1 ∙ bad-more (s .args .n) (s .args .s .now) (l .i) (x .result) (c .before .before .before .loop-test .taken) (x .ensures) good,
+      l .inv .1 ∙ bad-more (s .args .count) (s .args .body .now) (l .i) (x .result) (c .before .before .before .loop-test .taken) (x .ensures) good,
     )
 
 returns : tie.Need-returns Inv-loop μ-loop
@@ -48,13 +48,13 @@ returns c =
     let x = c .before .before .step-at in
     let bad = ne-eqb _ _ (λ z. c .if1 .taken (c .before .step-fault .ensures ∙ z)) in (
       omega arith,
-      l .inv .1 ∙ bad-stop (s .args .n) (s .args .s .now) (l .i) (x .result) (c .before .before .before .loop-test .taken) (x .ensures) bad,
+      l .inv .1 ∙ bad-stop (s .args .count) (s .args .body .now) (l .i) (x .result) (c .before .before .before .loop-test .taken) (x .ensures) bad,
     )
 
 returns-2 : tie.Need-returns-2 Inv-loop μ-loop
 returns-2 c =
     let s = c .before .before .before in
-    (omega arith, c .before .loop .inv .1 ∙ bad-end (s .args .n) (s .args .s .now) (c .before .loop .i) (c .loop-test .left))
+    (omega arith, c .before .loop .inv .1 ∙ bad-end (s .args .count) (s .args .body .now) (c .before .loop .i) (c .loop-test .left))
 
 pub first-bad-spec : {M : Type 1} → statement M
 first-bad-spec =
