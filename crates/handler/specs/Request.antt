@@ -122,19 +122,19 @@ carryOut i st =
     (plain (refused st 7))
 
 -- what carrying out leaves in the code: the state, ErrN, the data's length, the load mark and the lent buffer
-pub record Left : Type 0 where
+pub record Delivered : Type 0 where
   pub after : State
   pub error : ℕ
   pub length : ℕ
   pub load : Bool
   pub out : List ℕ
 
-abbrev pub left : Settings → Carried → List ℕ → List ℕ → List ℕ → List ℕ → Left
-left s c r e x o =
+abbrev pub delivered : Settings → Carried → List ℕ → List ℕ → List ℕ → List ℕ → Delivered
+delivered s c r e x o =
     record { after = held s (c .lamps) r e x; error = c .error; length = c .length; load = c .load; out = o }
 
-abbrev pub leave : Outcome → List ℕ → Left
-leave a o =
+abbrev pub deliver : Outcome → List ℕ → Delivered
+deliver a o =
     record { after = a .after; error = a .error; length = length (a .bytes); load = a .load; out = over (a .bytes) o }
 
 -- the request of a frame

@@ -13,7 +13,7 @@ ghost use mathlib.Core.List.{List};
 ghost use Prim.Native.Nat.{ℕ, _≤_};
 ghost use lib.ListN.{length};
 ghost use Rattle.dpa.specs.Frame.{pdataMax};
-ghost use Rattle.handler.specs.Request.{held, StateRule, left, leave, batchOf, osOf};
+ghost use Rattle.handler.specs.Request.{held, StateRule, delivered, deliver, batchOf, osOf};
 
 pub const BATCH: u8 = 5;
 
@@ -49,8 +49,8 @@ fn run_batch(
     external: &mut [u8],
 ) -> Carried
     requires { ⌜ StateRule (held settings lamps (now ram) (now eeprom) (now external)) ⌝ }
-    ensures { λ r. ⌜ ((o : List ℕ) → left settings r (now (ram .exit)) (now (eeprom .exit)) (now (external .exit)) o
-        ≡ leave (batchOf (now (pdata .entry)) (held settings lamps (now (ram .entry)) (now (eeprom .entry)) (now (external .entry)))) o) ⌝ }
+    ensures { λ r. ⌜ ((o : List ℕ) → delivered settings r (now (ram .exit)) (now (eeprom .exit)) (now (external .exit)) o
+        ≡ deliver (batchOf (now (pdata .entry)) (held settings lamps (now (ram .entry)) (now (eeprom .entry)) (now (external .entry)))) o) ⌝ }
 {
     if pdata.len() == 0 {
         return without_data(lamps, error::DATA_LEN);
@@ -74,8 +74,8 @@ pub fn os(
     out: &mut [u8],
 ) -> Carried
     requires { ⌜ StateRule (held settings lamps (now ram) (now eeprom) (now external)) × (pdataMax ≤ length (now out)) ⌝ }
-    ensures { λ r. ⌜ left settings r (now (ram .exit)) (now (eeprom .exit)) (now (external .exit)) (now (out .exit))
-        ≡ leave (osOf pcmd (now (pdata .entry)) (held settings lamps (now (ram .entry)) (now (eeprom .entry)) (now (external .entry)))) (now (out .entry)) ⌝ }
+    ensures { λ r. ⌜ delivered settings r (now (ram .exit)) (now (eeprom .exit)) (now (external .exit)) (now (out .exit))
+        ≡ deliver (osOf pcmd (now (pdata .entry)) (held settings lamps (now (ram .entry)) (now (eeprom .entry)) (now (external .entry)))) (now (out .entry)) ⌝ }
 {
     if pcmd == BATCH {
         return run_batch(settings, lamps, pdata, ram, eeprom, external);

@@ -25,7 +25,7 @@ ghost use Prim.Native.Nat.{ℕ, _≤_};
 ghost use lib.ListN.{length};
 ghost use Rattle.dpa.specs.Frame.{headerSize, pdataMax, longestResponse};
 ghost use Rattle.batch.specs.Batch.{item};
-ghost use Rattle.handler.specs.Request.{state, held, StateRule, left, leave, carryOut, called, taken, broadcast, respond, takenOf, requestRefusal, requestOf};
+ghost use Rattle.handler.specs.Request.{state, held, StateRule, delivered, deliver, carryOut, called, taken, broadcast, respond, takenOf, requestRefusal, requestOf};
 
 // A request from HWPID on. The answer's data goes to the front of `out`.
 fn carry_out(
@@ -39,8 +39,8 @@ fn carry_out(
     out: &mut [u8],
 ) -> Carried
     requires { ⌜ StateRule (held settings lamps (now ram) (now eeprom) (now external)) × (pdataMax ≤ length (now out)) ⌝ }
-    ensures { λ r. ⌜ left settings r (now (ram .exit)) (now (eeprom .exit)) (now (external .exit)) (now (out .exit))
-        ≡ leave (carryOut (item (header .pnum) (header .pcmd) (header .hwpid) (now (pdata .entry)))
+    ensures { λ r. ⌜ delivered settings r (now (ram .exit)) (now (eeprom .exit)) (now (external .exit)) (now (out .exit))
+        ≡ deliver (carryOut (item (header .pnum) (header .pcmd) (header .hwpid) (now (pdata .entry)))
         (held settings lamps (now (ram .entry)) (now (eeprom .entry)) (now (external .entry)))) (now (out .entry)) ⌝ }
 {
     if for_node(settings, header.hwpid) {

@@ -3,8 +3,8 @@ use mathlib.Core.Path.{ap, sym, _∙_}
 use mathlib.Core.List.{[]}
 use Rattle.dpa.specs.Served.{served}
 use Rattle.batch.specs.Batch.{listError}
-use Rattle.handler.specs.Request.{State, held, Outcome, plain, leave}
-use Rattle.handler.proofs.Carrying.{batch-empty, batch-broken, batch-runs, left-as}
+use Rattle.handler.specs.Request.{State, held, Outcome, plain, deliver}
+use Rattle.handler.proofs.Carrying.{batch-empty, batch-broken, batch-runs, delivered-as}
 use Rattle.handler.proofs.os.run_batch.Statement.{statement}
 use Rattle.handler.proofs.os.run_batch.Tie as tie
 use Rattle.handler.proofs.os.run_batch.Reads as reads
@@ -25,8 +25,8 @@ without-data-requires c κs = search needs
 returns : tie.Need-returns
 returns c = λ o.
     let s = c .before .before .before .before .before .before in
-    left-as (c .without-data .ensures)
-    ∙ ap (λ (x : Outcome). leave x o) (sym (batch-empty (s .args .pdata .now) (given s) (c .before .if1 .taken)))
+    delivered-as (c .without-data .ensures)
+    ∙ ap (λ (x : Outcome). deliver x o) (sym (batch-empty (s .args .pdata .now) (given s) (c .before .if1 .taken)))
 
 read-list-requires : tie.Need-read-list-requires
 read-list-requires c κs = search needs
@@ -47,8 +47,8 @@ returns-2 : tie.Need-returns-2
 returns-2 c = λ o.
     let r = c .before .before .before .before in
     let s = r .before .before .before .before .before .before in
-    left-as (c .without-data2 .ensures)
-    ∙ ap (λ (x : Outcome). leave x o)
+    delivered-as (c .without-data2 .ensures)
+    ∙ ap (λ (x : Outcome). deliver x o)
     (sym (batch-broken (s .args .pdata .now) (given s) (r .before .if1 .left) (sym (r .read-list .ensures) ∙ c .before .before .enum-told2 .given .1) (c .before .list-error .ensures ∙ ap listError (r .read-list .ensures))))
 
 run-list-requires : tie.Need-run-list-requires
@@ -70,9 +70,9 @@ returns-3 : tie.Need-returns-3
 returns-3 c = λ o.
     let r = c .before .before .before .before .before .before .before .before .before .before .before .before .before in
     let s = r .before .before .before .before .before .before in
-    left-as (c .without-data3 .ensures)
-    ∙ ap (λ (x : State). leave (plain (served x 0 [])) o) (c .before .before .before .before .before .before .before .run-list .ensures)
-    ∙ ap (λ (x : Outcome). leave x o)
+    delivered-as (c .without-data3 .ensures)
+    ∙ ap (λ (x : State). deliver (plain (served x 0 [])) o) (c .before .before .before .before .before .before .before .run-list .ensures)
+    ∙ ap (λ (x : Outcome). deliver x o)
     (sym (batch-runs (s .args .pdata .now) (given s) (r .before .if1 .left) (sym (r .read-list .ensures) ∙ c .before .before .before .before .before .before .before .before .before .before .before .enum-told .given .1)))
 
 pub run-batch-spec : {M : Type 1} → statement M

@@ -1,8 +1,8 @@
 use borrow.Author.Needs.{needs}
 use mathlib.Core.Path.{ap, sym, _∙_}
 use Rattle.batch.specs.Batch.{Item, item}
-use Rattle.handler.specs.Request.{State, held, perform, Outcome, leave}
-use Rattle.handler.proofs.Carrying.{carry-other, carry-os, carry-peripheral, left-as, left-plain}
+use Rattle.handler.specs.Request.{State, held, perform, Outcome, deliver}
+use Rattle.handler.proofs.Carrying.{carry-other, carry-os, carry-peripheral, delivered-as, delivered-plain}
 use Rattle.handler.proofs.request.carry_out.Statement.{statement}
 use Rattle.handler.proofs.request.carry_out.Tie as tie
 use Rattle.handler.proofs.request.carry_out.Reads as reads
@@ -43,7 +43,7 @@ returns : tie.Need-returns
 returns c =
     let s = c .before .before .before .before .before .before .before .before .before .before .before .before .before .before .before .before .before .before .before .before .before .before in
     c .before .before .before .before .before .before .before .before .os .ensures
-    ∙ ap (λ (x : Outcome). leave x (s .args .out .now))
+    ∙ ap (λ (x : Outcome). deliver x (s .args .out .now))
     (sym (carry-os (asked s) (given s) (sym (c .before .before .before .before .before .before .before .before .before .before .before .before .before .before .before .before .for-node .ensures) ∙ c .before .before .before .before .before .before .before .before .before .before .before .before .before .before .before .if1 .taken) (c .before .before .before .before .before .before .before .before .before .before .before .before .before .if2 .taken)))
 
 peripheral-requires : tie.Need-peripheral-requires
@@ -64,8 +64,8 @@ same-length-8 c = search needs
 returns-2 : tie.Need-returns-2
 returns-2 c =
     let s = c .before .before .before .before .before .before .before .before .before .before .before .before .before .before .before .before .before .before .before .before .before .before .before in
-    left-plain (perform (s .args .header .pnum) (s .args .header .pcmd) (s .args .pdata .now) (given s)) (s .args .out .now) (c .before .before .before .before .before .before .before .before .before .peripheral .ensures)
-    ∙ ap (λ (x : Outcome). leave x (s .args .out .now))
+    delivered-plain (perform (s .args .header .pnum) (s .args .header .pcmd) (s .args .pdata .now) (given s)) (s .args .out .now) (c .before .before .before .before .before .before .before .before .before .peripheral .ensures)
+    ∙ ap (λ (x : Outcome). deliver x (s .args .out .now))
     (sym (carry-peripheral (asked s) (given s) (sym (c .before .before .before .before .before .before .before .before .before .before .before .before .before .before .before .before .before .for-node .ensures) ∙ c .before .before .before .before .before .before .before .before .before .before .before .before .before .before .before .before .if1 .taken) (c .before .before .before .before .before .before .before .before .before .before .before .before .before .before .if2 .left)))
 
 without-data-requires : tie.Need-without-data-requires
@@ -74,8 +74,8 @@ without-data-requires c κs = search needs
 returns-3 : tie.Need-returns-3
 returns-3 c =
     let s = c .before .before .before .before .before .before .before .before in
-    left-as (c .without-data .ensures)
-    ∙ ap (λ (x : Outcome). leave x (s .args .out .now))
+    delivered-as (c .without-data .ensures)
+    ∙ ap (λ (x : Outcome). deliver x (s .args .out .now))
     (sym (carry-other (asked s) (given s) (sym (c .before .before .for-node .ensures) ∙ c .before .if1 .left)))
 
 pub carry-out-spec : {M : Type 1} → statement M

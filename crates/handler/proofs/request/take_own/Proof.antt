@@ -2,7 +2,7 @@ use borrow.Author.Needs.{needs}
 use native.Mathlib.Omega.{arith}
 use mathlib.Core.Path.{ap}
 use Rattle.batch.specs.Batch.{Item, item}
-use Rattle.handler.specs.Request.{State, held, Left, carryOut}
+use Rattle.handler.specs.Request.{State, held, Delivered, carryOut}
 use Rattle.handler.proofs.Sizes.{carry-fits}
 use Rattle.handler.proofs.Taking.{own-answer}
 use Rattle.handler.proofs.request.take_own.Statement.{statement}
@@ -39,7 +39,7 @@ write-header-requires c κs = search needs
 add-t19 : tie.Need-add-t19
 add-t19 c =
     let s = c .before .before .before .before .before .before .before .before .before .before .before .before .before .before .before .before .before .before .before .before .before .before .before in
-    let n = ap (λ (l : Left). l .length) (c .before .before .before .before .before .before .before .before .before .before .before .before .before .carry-out .ensures) in
+    let n = ap (λ (l : Delivered). l .length) (c .before .before .before .before .before .before .before .before .before .before .before .before .before .carry-out .ensures) in
     let z = carry-fits (asked s) (given s) (s .pre .0) in
     omega arith
 
