@@ -106,8 +106,8 @@ typedef struct grelfint_compile_answer {
  * Written: nothing. */
 grelfint_node_answer grelfint_start(grelfint_settings settings);
 
-/* One second passes: every nonzero seconds figure falls by 1; where that
- * makes it 0, the level becomes 0.
+/* One second passes: a running timer loses a second, and a lamp whose timer
+ * ends goes to level 0.
  * Answer: refusal and the node after. Refusals: 1. Written: nothing. */
 grelfint_node_answer grelfint_tick(grelfint_node node);
 

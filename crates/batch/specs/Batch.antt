@@ -47,8 +47,8 @@ abbrev pub All : {A : Type 0} → (A → Type 0) → List A → Type 0
 All P [] = Unit
 All P (x ∷ xs) = P x × All P xs
 
--- What stands first in the remaining bytes. Reasons: 1 length under five, 2 entry over the end, 3 no closing zero,
--- 4 bytes behind the zero; with the place from the first of these bytes.
+-- What the remaining bytes start with. Reasons of a fault: 1 a length below five, 2 an entry longer than the bytes,
+-- 3 the zero is missing, 4 the zero is not the last byte; the place counts from the first of these bytes.
 unfoldable pub nextOf : List ℕ → Next
 nextOf s =
     cond (eqb (length s) 0) (Fault 3 0)

@@ -11,7 +11,7 @@ pub enum Listed {
     Broken { reason: u8, at: usize },
 }
 
-// Each entry is read, then the rest of the list.
+// The first entry, then what follows it.
 pub fn read_list(rest: &[u8]) -> Listed
     ensures { λ r. ⌜ r ≡ (reading (now (rest .entry))) .listed ⌝ }
 {

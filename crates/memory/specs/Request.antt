@@ -28,7 +28,7 @@ dataOf m pdata = drop (addressBytes m) pdata
 abbrev pub blockError : Memory → ℕ → ℕ → ℕ
 blockError m start n = blockFault (sizeOf m) (longestOf m) start n 5 4
 
--- a read's PData has exactly its fields
+-- PData of a read: address and length, nothing else
 unfoldable pub readError : Memory → List ℕ → ℕ
 readError m pdata =
     cond (eqb (length pdata) (addressBytes m + 1))

@@ -63,7 +63,7 @@ actualLevels s ls = map (λ (l : Lamp). actualLevel s (l .level)) ls
 abbrev pub levelsAnswer : ℕ → List ℕ → LevelsAnswer
 levelsAnswer refusal vs = record { refusal = refusal; levels = vs }
 
--- what is answered to who asks for the actual levels
+-- what the call for the actual levels answers
 unfoldable pub levelsOf : Node → LevelsAnswer
 levelsOf n = cond (nodeOk n) (levelsAnswer 0 (actualLevels (n .settings) (n .lamps))) (levelsAnswer 1 (replicate 32 0))
 
