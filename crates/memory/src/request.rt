@@ -69,7 +69,7 @@ fn read(memory: Memory, mem: &[u8], pdata: &[u8], out: &mut [u8]) -> Reply
         ≡ layOut (readRequest memory (now (pdata .entry)) (now (mem .entry))) (now (out .entry)) ⌝ }
 {
     let error = read_error(memory, pdata);
-    if error != 0 {
+    if error != dpa::error::NONE {
         return Reply { error, length: 0 };
     }
     let width = address_bytes(memory);
@@ -77,7 +77,7 @@ fn read(memory: Memory, mem: &[u8], pdata: &[u8], out: &mut [u8]) -> Reply
     let count = wide(pdata[width]);
     copy_out(mem, start, count, out);
     Reply {
-        error: 0,
+        error: dpa::error::NONE,
         length: count,
     }
 }
@@ -89,7 +89,7 @@ fn write(memory: Memory, mem: &mut [u8], pdata: &[u8]) -> u8
         ≡ layOut (writeRequest memory (now (pdata .entry)) (now (mem .entry))) o) ⌝ }
 {
     let error = write_error(memory, pdata);
-    if error != 0 {
+    if error != dpa::error::NONE {
         return error;
     }
     let width = address_bytes(memory);

@@ -59,7 +59,7 @@ pub fn view<'a>(
 ) -> &'a [u8]
     ensures { λ r. ⌜ now r ≡ viewPart (now (eeprom .entry)) (now (external .entry)) pnum start length ⌝ }
 {
-    if view_status(eeprom, external, pnum, start, length) != 0 {
+    if view_status(eeprom, external, pnum, start, length) != dpa::refusal::NONE {
         return &eeprom[0..0];
     }
     let end = start + length;

@@ -63,7 +63,7 @@ fn run(book: &[u8]) {
 }
 
 fn main() {
-    let mut book = [0u8; 4146];
+    let mut book = [0u8; LONGEST_BOOK + 1];
     let n = io::read_full(STDIN_FILENO, &mut book);
     if LONGEST_BOOK < n {
         refuse(refusal::BOOK);
