@@ -10,10 +10,10 @@ use Rattle.book.proofs.join.run_of.Statement.{statement}
 use Rattle.book.proofs.join.run_of.Tie as tie
 
 abbrev Inv-loop : tie.InvT-loop
-Inv-loop body count kind size₀ k₀ size taken = At entryLimit count body taken size
+Inv-loop body count kind size₀ taken₀ size taken = At entryLimit count body taken size
 
 abbrev μ-loop : tie.MeasureT-loop
-μ-loop body count kind size₀ k₀ size taken = count - taken
+μ-loop body count kind size₀ taken₀ size taken = count - taken
 
 step-at-requires : tie.Need-step-at-requires Inv-loop μ-loop
 step-at-requires c κs = omega arith

@@ -6,10 +6,10 @@ use Rattle.book.proofs.power.bitmap_of.Statement.{statement}
 use Rattle.book.proofs.power.bitmap_of.Tie as tie
 
 abbrev Inv-loop : tie.InvT-loop
-Inv-loop body count m₀ i₀ bitmap i = Mapped count body i bitmap
+Inv-loop body count bitmap₀ i₀ bitmap i = Mapped count body i bitmap
 
 abbrev μ-loop : tie.MeasureT-loop
-μ-loop body count m₀ i₀ bitmap i = count - i
+μ-loop body count bitmap₀ i₀ bitmap i = count - i
 
 loop-holds : tie.Need-loop-holds Inv-loop μ-loop
 loop-holds c = (omega arith, refl, omega arith)

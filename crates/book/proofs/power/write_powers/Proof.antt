@@ -6,10 +6,10 @@ use Rattle.book.proofs.power.write_powers.Statement.{statement}
 use Rattle.book.proofs.power.write_powers.Tie as tie
 
 abbrev Inv-loop : tie.InvT-loop
-Inv-loop body count out₀ at w₀ i₀ out end i = Put count body out₀ at i end out
+Inv-loop body count out₀ at end₀ i₀ out end i = Put count body out₀ at i end out
 
 abbrev μ-loop : tie.MeasureT-loop
-μ-loop body count out₀ at w₀ i₀ out end i = count - i
+μ-loop body count out₀ at end₀ i₀ out end i = count - i
 
 loop-holds : tie.Need-loop-holds Inv-loop μ-loop
 loop-holds c = (omega arith, omega arith, refl, refl)
