@@ -29,41 +29,48 @@ fn refused(refusal: u8, step: u8) -> CompileAnswer
     ensures { λ r. ⌜ r ≡ record { refusal = refusal; step = step; length = 0 } ⌝ }
 {
     CompileAnswer {
-        refusal: refusal,
-        step: step,
+        refusal,
+        step,
         length: 0,
     }
 }
 
-fn address_ok(a: u16) -> bool
-    ensures { λ r. ⌜ r ≡ addressOk a ⌝ }
+fn address_ok(address: u16) -> bool
+    ensures { λ r. ⌜ r ≡ addressOk address ⌝ }
 {
-    if a == Frame::BROADCAST {
+    if address == Frame::BROADCAST {
         return true;
     }
-    if a < 1 {
+    if address < 1 {
         return false;
     }
-    a <= LAST_ADDRESS
+    address <= LAST_ADDRESS
 }
 
 // Steps of a scene, compiled into the output buffer.
-fn compile_steps(s: &[u8], n: usize, a: u16, h: u16, out: &mut [u8]) -> CompileAnswer
-    requires { ⌜ (4 * n ≤ length (now s)) × (n ≤ 64) ⌝ }
-    ensures { λ r. ⌜ compiledAs r (now (out .exit)) ≡ compileSteps (badFrom 0 (stepsIn n (now (s .entry)))) a h (stepsIn n (now (s .entry))) (now (out .entry)) ⌝ }
+fn compile_steps(
+    body: &[u8],
+    count: usize,
+    address: u16,
+    hwpid: u16,
+    out: &mut [u8],
+) -> CompileAnswer
+    requires { ⌜ (4 * count ≤ length (now body)) × (count ≤ 64) ⌝ }
+    ensures { λ r. ⌜ compiledAs r (now (out .exit))
+        ≡ compileSteps (badFrom 0 (stepsIn count (now (body .entry)))) address hwpid (stepsIn count (now (body .entry))) (now (out .entry)) ⌝ }
 {
-    let bad = first_bad(s, n);
-    if bad < n {
+    let bad = first_bad(body, count);
+    if bad < count {
         return refused(refusal::STEP, bad as u8);
     }
     if out.len() < ROOM {
         return refused(refusal::OUTPUT, 0);
     }
-    let length = write_output(s, n, a, h, out);
+    let length = write_output(body, count, address, hwpid, out);
     CompileAnswer {
         refusal: 0,
         step: 0,
-        length: length,
+        length,
     }
 }
 
@@ -77,14 +84,14 @@ pub fn compile(book: &[u8], scene: usize, address: u16, hwpid: u16, out: &mut [u
     if !book_ok(book) {
         return refused(refusal::BOOK, 0);
     }
-    let count = wide(book[0]);
-    if count <= scene {
+    let scenes = wide(book[0]);
+    if scenes <= scene {
         return refused(refusal::SCENE, 0);
     }
     let content = content_at(book, scene);
     let from = content.offset;
-    let n = content.steps;
-    compile_steps(&book[from..], n, address, hwpid, out)
+    let count = content.steps;
+    compile_steps(&book[from..], count, address, hwpid, out)
 }
 
 // The same with the profile that every node takes.

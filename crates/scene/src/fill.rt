@@ -38,7 +38,7 @@ fn next_length(size: usize, more: usize, out: &mut [u8], at: usize) -> Place
     let entry = HEAD + more;
     if size + entry <= LIMIT {
         return Place {
-            at: at,
+            at,
             size: size + entry,
         };
     }
@@ -50,30 +50,30 @@ fn next_length(size: usize, more: usize, out: &mut [u8], at: usize) -> Place
 }
 
 // One length byte for each request. Keeps the entries, so that the requests are written without finding them again.
-pub fn write_lengths(s: &[u8], n: usize, kept: &mut [u8], out: &mut [u8], at: usize) -> usize
-    requires { ⌜ (4 * n ≤ length (now s)) × (n ≤ 64) × AllGood (now s) n × (keptRoom ≤ length (now kept))
-        × ((a h : ℕ) → at + length (compiled a h (stepsIn n (now s))) ≤ length (now out)) ⌝ }
-    ensures { λ r. ⌜ ((a h : ℕ) → (r ≡ at + length (compiled a h (stepsIn n (now (s .entry)))))
-        × (now (out .exit) ≡ sets (now (out .entry)) at (lengths (compiled a h (stepsIn n (now (s .entry)))))))
-        × Told entryLimit (stepsIn n (now (s .entry))) (now (kept .exit)) ⌝ }
+pub fn write_lengths(body: &[u8], count: usize, kept: &mut [u8], out: &mut [u8], at: usize) -> usize
+    requires { ⌜ (4 * count ≤ length (now body)) × (count ≤ 64) × AllGood (now body) count × (keptRoom ≤ length (now kept))
+        × ((address hwpid : ℕ) → at + length (compiled address hwpid (stepsIn count (now body))) ≤ length (now out)) ⌝ }
+    ensures { λ r. ⌜ ((address hwpid : ℕ) → (r ≡ at + length (compiled address hwpid (stepsIn count (now (body .entry)))))
+        × (now (out .exit) ≡ sets (now (out .entry)) at (lengths (compiled address hwpid (stepsIn count (now (body .entry)))))))
+        × Told entryLimit (stepsIn count (now (body .entry))) (now (kept .exit)) ⌝ }
 {
-    if n == 0 {
+    if count == 0 {
         return at;
     }
     let mut done: usize = 0;
     let mut size = EMPTY;
-    let mut w = at;
-    let mut m: usize = 0;
-    while done < n {
-        let r = run_from(s, n, done);
-        kept[m] = r.steps as u8;
-        kept[m + 1] = r.size as u8;
-        m = m + 2;
-        let p = next_length(size, r.size, out, w);
-        size = p.size;
-        w = p.at;
-        done = done + r.steps;
+    let mut end = at;
+    let mut pair: usize = 0;
+    while done < count {
+        let run = run_from(body, count, done);
+        kept[pair] = run.steps as u8;
+        kept[pair + 1] = run.size as u8;
+        pair = pair + 2;
+        let place = next_length(size, run.size, out, end);
+        size = place.size;
+        end = place.at;
+        done = done + run.steps;
     }
-    out[w] = (size + Frame::HEADER) as u8;
-    w + 1
+    out[end] = (size + Frame::HEADER) as u8;
+    end + 1
 }

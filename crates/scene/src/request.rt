@@ -24,11 +24,11 @@ ghost use Rattle.scene.specs.Call.{output, outputRoom};
 ghost use Rattle.scene.specs.Fill.{nextSize, turnBytes, Told};
 
 // The header of a batch.
-fn write_header(a: u16, h: u16, out: &mut [u8], at: usize) -> usize
+fn write_header(address: u16, hwpid: u16, out: &mut [u8], at: usize) -> usize
     requires { ⌜ at + 6 ≤ length (now out) ⌝ }
-    ensures { λ r. ⌜ (r ≡ at + 6) × (now (out .exit) ≡ sets (now (out .entry)) at (headerBytes (frame a 0x02 0x05 h))) ⌝ }
+    ensures { λ r. ⌜ (r ≡ at + 6) × (now (out .exit) ≡ sets (now (out .entry)) at (headerBytes (frame address 0x02 0x05 hwpid))) ⌝ }
 {
-    let header = Frame::header(a, pnum::OS, BATCH, h);
+    let header = Frame::header(address, pnum::OS, BATCH, hwpid);
     out[at] = header[0];
     out[at + 1] = header[1];
     out[at + 2] = header[2];
@@ -39,72 +39,72 @@ fn write_header(a: u16, h: u16, out: &mut [u8], at: usize) -> usize
 }
 
 // The zero and the next header if an entry with `more` bytes of PData finds the list of `size` bytes full.
-fn next_list(a: u16, h: u16, size: usize, more: usize, out: &mut [u8], at: usize) -> Place
+fn next_list(address: u16, hwpid: u16, size: usize, more: usize, out: &mut [u8], at: usize) -> Place
     requires { ⌜ (size ≤ listLimit) × (more ≤ entryLimit)
-        × (at + length (turnBytes listLimit (headerBytes (frame a 0x02 0x05 h)) size more) ≤ length (now out)) ⌝ }
-    ensures { λ r. ⌜ (r .at ≡ at + length (turnBytes listLimit (headerBytes (frame a 0x02 0x05 h)) size more))
+        × (at + length (turnBytes listLimit (headerBytes (frame address 0x02 0x05 hwpid)) size more) ≤ length (now out)) ⌝ }
+    ensures { λ r. ⌜ (r .at ≡ at + length (turnBytes listLimit (headerBytes (frame address 0x02 0x05 hwpid)) size more))
         × (r .size ≡ nextSize listLimit size more)
-        × (now (out .exit) ≡ sets (now (out .entry)) at (turnBytes listLimit (headerBytes (frame a 0x02 0x05 h)) size more)) ⌝ }
+        × (now (out .exit) ≡ sets (now (out .entry)) at (turnBytes listLimit (headerBytes (frame address 0x02 0x05 hwpid)) size more)) ⌝ }
 {
     let entry = HEAD + more;
     if size + entry <= LIMIT {
         return Place {
-            at: at,
+            at,
             size: size + entry,
         };
     }
     out[at] = 0;
-    let w = write_header(a, h, out, at + 1);
+    let end = write_header(address, hwpid, out, at + 1);
     Place {
-        at: w,
+        at: end,
         size: EMPTY + entry,
     }
 }
 
 // The requests one behind another, by the entries that were kept.
 fn write_requests(
-    s: &[u8],
-    n: usize,
+    body: &[u8],
+    count: usize,
     kept: &[u8],
-    a: u16,
-    h: u16,
+    address: u16,
+    hwpid: u16,
     out: &mut [u8],
     at: usize,
 ) -> usize
-    requires { ⌜ (4 * n ≤ length (now s)) × (n ≤ 64) × AllGood (now s) n × Told entryLimit (stepsIn n (now s)) (now kept)
-        × (at + length (joined (compiled a h (stepsIn n (now s)))) ≤ length (now out)) ⌝ }
-    ensures { λ r. ⌜ (r ≡ at + length (joined (compiled a h (stepsIn n (now (s .entry))))))
-        × (now (out .exit) ≡ sets (now (out .entry)) at (joined (compiled a h (stepsIn n (now (s .entry)))))) ⌝ }
+    requires { ⌜ (4 * count ≤ length (now body)) × (count ≤ 64) × AllGood (now body) count × Told entryLimit (stepsIn count (now body)) (now kept)
+        × (at + length (joined (compiled address hwpid (stepsIn count (now body)))) ≤ length (now out)) ⌝ }
+    ensures { λ r. ⌜ (r ≡ at + length (joined (compiled address hwpid (stepsIn count (now (body .entry))))))
+        × (now (out .exit) ≡ sets (now (out .entry)) at (joined (compiled address hwpid (stepsIn count (now (body .entry)))))) ⌝ }
 {
-    if n == 0 {
+    if count == 0 {
         return at;
     }
-    let mut w = write_header(a, h, out, at);
+    let mut end = write_header(address, hwpid, out, at);
     let mut size = EMPTY;
     let mut done: usize = 0;
-    let mut m: usize = 0;
-    while done < n {
-        let k = wide(kept[m]);
-        let more = wide(kept[m + 1]);
-        m = m + 2;
-        let p = next_list(a, h, size, more, out, w);
-        size = p.size;
-        w = write_entry_at(s, done, k, h, more, out, p.at);
-        done = done + k;
+    let mut pair: usize = 0;
+    while done < count {
+        let taken = wide(kept[pair]);
+        let more = wide(kept[pair + 1]);
+        pair = pair + 2;
+        let place = next_list(address, hwpid, size, more, out, end);
+        size = place.size;
+        end = write_entry_at(body, done, taken, hwpid, more, out, place.at);
+        done = done + taken;
     }
-    out[w] = 0;
-    w + 1
+    out[end] = 0;
+    end + 1
 }
 
 // The whole output of a scene; returns its length.
-pub fn write_output(s: &[u8], n: usize, a: u16, h: u16, out: &mut [u8]) -> usize
-    requires { ⌜ (4 * n ≤ length (now s)) × (n ≤ 64) × AllGood (now s) n × (outputRoom ≤ length (now out)) ⌝ }
-    ensures { λ r. ⌜ (r ≡ length (output (compiled a h (stepsIn n (now (s .entry))))))
-        × (now (out .exit) ≡ sets (now (out .entry)) 0 (output (compiled a h (stepsIn n (now (s .entry)))))) ⌝ }
+pub fn write_output(body: &[u8], count: usize, address: u16, hwpid: u16, out: &mut [u8]) -> usize
+    requires { ⌜ (4 * count ≤ length (now body)) × (count ≤ 64) × AllGood (now body) count × (outputRoom ≤ length (now out)) ⌝ }
+    ensures { λ r. ⌜ (r ≡ length (output (compiled address hwpid (stepsIn count (now (body .entry))))))
+        × (now (out .exit) ≡ sets (now (out .entry)) 0 (output (compiled address hwpid (stepsIn count (now (body .entry)))))) ⌝ }
 {
     let mut kept = [0u8; KEPT];
-    let w = write_lengths(s, n, &mut kept, out, 1);
-    let count = w - 1;
-    out[0] = count as u8;
-    write_requests(s, n, &kept, a, h, out, w)
+    let end = write_lengths(body, count, &mut kept, out, 1);
+    let requests = end - 1;
+    out[0] = requests as u8;
+    write_requests(body, count, &kept, address, hwpid, out, end)
 }

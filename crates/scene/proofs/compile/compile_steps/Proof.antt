@@ -40,7 +40,7 @@ returns-2 c =
 write-output-requires : tie.Need-write-output-requires
 write-output-requires c κs =
     let s = c .before .before .before .before .before .before in
-    (s .pre .0, s .pre .1, good-index (s .args .n) (s .args .s .now) (c .before .before .before .first-bad .ensures .1 ∙ rw (le-ltb _ _ (c .before .before .if1 .left))), c .before .if2 .left)
+    (s .pre .0, s .pre .1, good-index (s .args .count) (s .args .body .now) (c .before .before .before .first-bad .ensures .1 ∙ rw (le-ltb _ _ (c .before .before .if1 .left))), c .before .if2 .left)
 
 same-length : tie.Need-same-length
 same-length c = search needs
@@ -49,14 +49,14 @@ returns-3 : tie.Need-returns-3
 returns-3 c =
     let s = c .before .before .before .before .before .before .before .before .before in
     let f = c .before .before .before .before .before .before .first-bad .ensures .1 in
-    let z = le-ltb (c .before .before .before .before .before .before .first-bad .result) (s .args .n)
+    let z = le-ltb (c .before .before .before .before .before .before .first-bad .result) (s .args .count)
     (c .before .before .before .before .before .if1 .left) in
     let p = c .before .before .write-output .ensures in
-    let g = good-index (s .args .n) (s .args .s .now) (f ∙ rw z) in
+    let g = good-index (s .args .count) (s .args .body .now) (f ∙ rw z) in
     rw (f, z, le-ltb (length (s .args .out .now)) 4096 (c .before .before .before .before .if2 .left))
-    (written-as (output (compiled (s .args .a) (s .args .h) (stepsIn (s .args .n) (s .args .s .now)))) (s .args .out .now) _ _ (p .0) (p .1) (omega (
+    (written-as (output (compiled (s .args .address) (s .args .hwpid) (stepsIn (s .args .count) (s .args .body .now)))) (s .args .out .now) _ _ (p .0) (p .1) (omega (
       arith,
-      short (s .args .n) (s .args .s .now) g (s .pre .1) (s .args .a) (s .args .h),
+      short (s .args .count) (s .args .body .now) g (s .pre .1) (s .args .address) (s .args .hwpid),
       c .before .before .before .before .if2 .left,
     )))
 

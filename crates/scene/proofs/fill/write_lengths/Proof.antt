@@ -21,15 +21,15 @@ use Rattle.scene.proofs.fill.write_lengths.Statement.{statement}
 use Rattle.scene.proofs.fill.write_lengths.Tie as tie
 
 abbrev Inv-loop : tie.InvT-loop
-Inv-loop s n kept₀ out₀ at done₀ size₀ w₀ m₀ kept out done size w m =
-    Open entryLimit listLimit (lengthsLeft listLimit headerSize) (stepsIn n s) out₀ at done size out w
-    × Keeps entryLimit (stepsIn n s) kept₀ done kept m
+Inv-loop body count kept₀ out₀ at done₀ size₀ end₀ pair₀ kept out done size end pair =
+    Open entryLimit listLimit (lengthsLeft listLimit headerSize) (stepsIn count body) out₀ at done size out end
+    × Keeps entryLimit (stepsIn count body) kept₀ done kept pair
 
 abbrev μ-loop : tie.MeasureT-loop
-μ-loop s n kept₀ out₀ at done₀ size₀ w₀ m₀ kept out done size w m = n - done
+μ-loop body count kept₀ out₀ at done₀ size₀ end₀ pair₀ kept out done size end pair = count - done
 
 abbrev steps : (s : tie.Start Inv-loop μ-loop) → List Step
-steps s = stepsIn (s .args .n) (s .args .s .now)
+steps s = stepsIn (s .args .count) (s .args .body .now)
 
 -- all length bytes, for any address and profile
 abbrev all : (s : tie.Start Inv-loop μ-loop) → List ℕ
@@ -38,8 +38,8 @@ all s = lengthsLeft listLimit headerSize 1 (entriesOf entryLimit (steps s))
 all-is : (c : tie.Else1 Inv-loop μ-loop) (a h : ℕ) → let s = c .before .before .before .before in lengths (compiled a h (steps s)) ≡ all s
 all-is c a h =
     let s = c .before .before .before .before in
-    lengths-begin limits (headerBytes (frame a 2 5 h)) h (steps s) (good-steps (s .args .n) (s .args .s .now) (s .pre .2))
-    (omega (arith, c .if1 .left, steps-length (s .args .n) (s .args .s .now)))
+    lengths-begin limits (headerBytes (frame a 2 5 h)) h (steps s) (good-steps (s .args .count) (s .args .body .now) (s .pre .2))
+    (omega (arith, c .if1 .left, steps-length (s .args .count) (s .args .body .now)))
 
 room : (c : tie.Else1 Inv-loop μ-loop) → let s = c .before .before .before .before in s .args .at + length (all s) ≤ length (s .args .out .now)
 room c =
@@ -61,27 +61,27 @@ run-from-requires c κs =
     (s .pre .0, c .loop-test .taken, s .pre .1)
 
 -- the entry's two bytes have room
-few : (c : tie.After-run-from Inv-loop μ-loop) → c .before .before .loop .m + 2 ≤ 128
+few : (c : tie.After-run-from Inv-loop μ-loop) → c .before .before .loop .pair + 2 ≤ 128
 few c =
     let s = c .before .before .before .before .before .before .before in
     let l = c .before .before .loop in
     omega (
       arith,
-      kept-few entryLimit (steps s) (s .args .kept .now) (l .done) (l .kept) (l .m) (l .inv .1) _ _ (c .run-from .ensures),
-      steps-length (s .args .n) (s .args .s .now),
+      kept-few entryLimit (steps s) (s .args .kept .now) (l .done) (l .kept) (l .pair) (l .inv .1) _ _ (c .run-from .ensures),
+      steps-length (s .args .count) (s .args .body .now),
       s .pre .1,
     )
 
 -- its steps are within the scene
 part-of : (c : tie.After-run-from Inv-loop μ-loop)
-    → c .before .before .loop .done + c .run-from .result .steps ≤ c .before .before .before .before .before .before .before .args .n
+    → c .before .before .loop .done + c .run-from .result .steps ≤ c .before .before .before .before .before .before .before .args .count
 part-of c =
     let s = c .before .before .before .before .before .before .before in
     omega (
       arith,
       c .run-from .ensures .within,
       length-drop (c .before .before .loop .done) (steps s),
-      steps-length (s .args .n) (s .args .s .now),
+      steps-length (s .args .count) (s .args .body .now),
       c .before .loop-test .taken,
     )
 
@@ -104,8 +104,8 @@ slice-write-kept-2 c =
     let s = c .before .before .before .before .before .before .before .before .before in
     rw length-set (omega (arith, few (c .before .before), c .before .before .before .before .loop .inv .1 .kept, s .pre .3))
 
-add-m : tie.Need-add-m Inv-loop μ-loop
-add-m c = omega (arith, few (c .before .before))
+add-pair : tie.Need-add-pair Inv-loop μ-loop
+add-pair c = omega (arith, few (c .before .before))
 
 next-length-requires : tie.Need-next-length-requires Inv-loop μ-loop
 next-length-requires c κs =
@@ -145,11 +145,11 @@ cast-out c = omega (arith, c .before .loop .inv .0 .small)
 done-all : (c : tie.After-loop Inv-loop μ-loop) → length (steps (c .before .before .before .before .before .before)) ≤ c .before .loop .done
 done-all c =
     let s = c .before .before .before .before .before .before in
-    omega (arith, steps-length (s .args .n) (s .args .s .now), c .loop-test .left)
+    omega (arith, steps-length (s .args .count) (s .args .body .now), c .loop-test .left)
 
 -- the last length byte
 last : (c : tie.After-loop Inv-loop μ-loop) → let s = c .before .before .before .before .before .before in
-    Left (s .args .out .now) (s .args .at) (all s) (c .before .loop .out) (c .before .loop .w) ((c .before .loop .size + headerSize) ∷ [])
+    Left (s .args .out .now) (s .args .at) (all s) (c .before .loop .out) (c .before .loop .end) ((c .before .loop .size + headerSize) ∷ [])
 last c =
     let s = c .before .before .before .before .before .before in
     open-end limits (lengthsLeft listLimit headerSize) (steps s) (s .args .out .now) (s .args .at) _ _ _ _ (c .before .loop .inv .0) (done-all c)
@@ -164,7 +164,7 @@ same-length : tie.Need-same-length Inv-loop μ-loop
 same-length c = c .before .loop .inv .1 .kept
 
 same-length-2 : tie.Need-same-length-2 Inv-loop μ-loop
-same-length-2 c = length-set (c .before .loop .out) (c .before .loop .w) _ ∙ c .before .loop .inv .0 .rest .kept
+same-length-2 c = length-set (c .before .loop .out) (c .before .loop .end) _ ∙ c .before .loop .inv .0 .rest .kept
 
 returns-2 : tie.Need-returns-2 Inv-loop μ-loop
 returns-2 c =
@@ -172,7 +172,7 @@ returns-2 c =
     let x = left-end (s .args .out .now) (s .args .at) _ _ _ _ (last c) _ _ refl refl in (
       λ a h. let e = all-is (c .before .before) a h in rw e (omega (arith, x .0, ap length e, lengths-length (compiled a h (steps s))), x .1),
       kept-end entryLimit (steps s) _ _ _ _ (c .before .loop .inv .1) (done-all c)
-          (omega (arith, s .pre .3, s .pre .1, steps-length (s .args .n) (s .args .s .now))),
+          (omega (arith, s .pre .3, s .pre .1, steps-length (s .args .count) (s .args .body .now))),
     )
 
 pub write-lengths-spec : {M : Type 1} → statement M
@@ -189,7 +189,7 @@ write-lengths-spec =
     cast-kept-2
     add-kept
     slice-write-kept-2
-    add-m
+    add-pair
     next-length-requires
     add-done
     loop-less

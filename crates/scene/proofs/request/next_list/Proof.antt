@@ -23,7 +23,7 @@ add-t11 c = search needs
 returns : tie.Need-returns
 returns c =
     let a = c .before .before .args in
-    let t = turn-in listLimit (headerBytes (frame (a .a) 2 5 (a .h))) headerSize (a .size) (a .more) (c .if1 .taken) in
+    let t = turn-in listLimit (headerBytes (frame (a .address) 2 5 (a .hwpid))) headerSize (a .size) (a .more) (c .if1 .taken) in
     rw (t .0, t .2) (omega arith, refl, refl)
 
 -- the zero and the header have room
@@ -33,7 +33,7 @@ room c =
     omega (
       arith,
       c .before .before .pre .2,
-      ap length (turn-out listLimit (headerBytes (frame (a .a) 2 5 (a .h))) headerSize (a .size) (a .more) (c .if1 .left) .0),
+      ap length (turn-out listLimit (headerBytes (frame (a .address) 2 5 (a .hwpid))) headerSize (a .size) (a .more) (c .if1 .left) .0),
     )
 
 slice-write-out : tie.Need-slice-write-out
@@ -56,7 +56,7 @@ same-length c =
 returns-2 : tie.Need-returns-2
 returns-2 c =
     let a = c .before .before .before .before .before .before .args in
-    let head = headerBytes (frame (a .a) 2 5 (a .h)) in
+    let head = headerBytes (frame (a .address) 2 5 (a .hwpid)) in
     let t = turn-out listLimit head headerSize (a .size) (a .more) (c .before .before .before .before .if1 .left) in
     let w = c .before .before .write-header .ensures in
     let both = put-two (a .out .now) _ _ (0 ∷ []) head (0 ∷ head) (a .at) _ _ refl refl (w .1) (w .0) refl in

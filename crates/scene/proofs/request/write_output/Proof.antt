@@ -15,11 +15,11 @@ use Rattle.scene.proofs.request.write_output.Statement.{statement}
 use Rattle.scene.proofs.request.write_output.Tie as tie
 
 abbrev requests : (s : tie.Start) → ℕ → ℕ → List (List ℕ)
-requests s a h = compiled a h (stepsIn (s .args .n) (s .args .s .now))
+requests s a h = compiled a h (stepsIn (s .args .count) (s .args .body .now))
 
 -- the output fits, for any address and profile
 room : (s : tie.Start) (a h : ℕ) → suc (length (requests s a h) + length (joined (requests s a h))) ≤ length (s .args .out .now)
-room s a h = omega (arith, s .pre .3, short (s .args .n) (s .args .s .now) (s .pre .2) (s .pre .1) a h, output-length (requests s a h))
+room s a h = omega (arith, s .pre .3, short (s .args .count) (s .args .body .now) (s .pre .2) (s .pre .1) a h, output-length (requests s a h))
 
 slice-aggregate-write-lengths : tie.Need-slice-aggregate-write-lengths
 slice-aggregate-write-lengths c = search needs
@@ -29,8 +29,8 @@ write-lengths-requires c κs =
     let s = c .before .before .before .before in
     (s .pre .0, s .pre .1, s .pre .2, omega arith, λ a h. omega (arith, room s a h))
 
-sub-count : tie.Need-sub-count
-sub-count c = omega (arith, c .before .before .before .write-lengths .ensures .0 0 0 .0)
+sub-requests : tie.Need-sub-requests
+sub-requests c = omega (arith, c .before .before .before .write-lengths .ensures .0 0 0 .0)
 
 cast-out : tie.Need-cast-out
 cast-out c =
@@ -38,8 +38,8 @@ cast-out c =
     omega (
       arith,
       c .before .before .before .write-lengths .ensures .0 0 0 .0,
-      requests-few entryLimit listLimit 5 [] 0 0 (stepsIn (s .args .n) (s .args .s .now)),
-      steps-length (s .args .n) (s .args .s .now),
+      requests-few entryLimit listLimit 5 [] 0 0 (stepsIn (s .args .count) (s .args .body .now)),
+      steps-length (s .args .count) (s .args .body .now),
       s .pre .1,
     )
 
@@ -57,7 +57,7 @@ write-requests-requires c κs =
       s .pre .1,
       s .pre .2,
       p .ensures .1,
-      rw length-set (omega (arith, room s (s .args .a) (s .args .h), p .ensures .0 (s .args .a) (s .args .h) .0, p .kept .1 .1 .1 .0)),
+      rw length-set (omega (arith, room s (s .args .address) (s .args .hwpid), p .ensures .0 (s .args .address) (s .args .hwpid) .0, p .kept .1 .1 .1 .0)),
     )
 
 same-length : tie.Need-same-length
@@ -69,9 +69,9 @@ returns : tie.Need-returns
 returns c =
     let s = c .before .before .before .before .before .before .before .before .before .before .before .before .before in
     let p = c .before .before .before .before .before .before .before .before .write-lengths in
-    let l = p .ensures .0 (s .args .a) (s .args .h) in
+    let l = p .ensures .0 (s .args .address) (s .args .hwpid) in
     let q = c .before .before .write-requests .ensures in
-    output-written (s .args .out .now) (p .last .1 .1 .1 .0) _ (requests s (s .args .a) (s .args .h)) _ (p .result) _ (omega (arith, l .0))
+    output-written (s .args .out .now) (p .last .1 .1 .1 .0) _ (requests s (s .args .address) (s .args .hwpid)) _ (p .result) _ (omega (arith, l .0))
     (l .1) (l .0) (q .1) (q .0)
 
 pub write-output-spec : {M : Type 1} → statement M
@@ -80,7 +80,7 @@ write-output-spec =
     (tie.spec
     slice-aggregate-write-lengths
     write-lengths-requires
-    sub-count
+    sub-requests
     cast-out
     slice-write-out
     slice-aggregate-write-requests

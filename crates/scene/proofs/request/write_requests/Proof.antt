@@ -29,29 +29,29 @@ use Rattle.scene.proofs.request.write_requests.Statement.{statement}
 use Rattle.scene.proofs.request.write_requests.Tie as tie
 
 abbrev Inv-loop : tie.InvT-loop
-Inv-loop s n kept a h out₀ at w₀ size₀ done₀ m₀ out w size done m =
-    Open entryLimit listLimit (bytesLeft listLimit (headerBytes (frame a 2 5 h)) h) (stepsIn n s) out₀ w₀ done size out w
-    × Told entryLimit (drop done (stepsIn n s)) (drop m kept)
+Inv-loop body count kept address hwpid out₀ at end₀ size₀ done₀ pair₀ out end size done pair =
+    Open entryLimit listLimit (bytesLeft listLimit (headerBytes (frame address 2 5 hwpid)) hwpid) (stepsIn count body) out₀ end₀ done size out end
+    × Told entryLimit (drop done (stepsIn count body)) (drop pair kept)
 
 abbrev μ-loop : tie.MeasureT-loop
-μ-loop s n kept a h out₀ at w₀ size₀ done₀ m₀ out w size done m = n - done
+μ-loop body count kept address hwpid out₀ at end₀ size₀ done₀ pair₀ out end size done pair = count - done
 
 -- the header, and all behind it
 abbrev head : (c : tie.Start Inv-loop μ-loop) → List ℕ
-head s = headerBytes (frame (s .args .a) 2 5 (s .args .h))
+head s = headerBytes (frame (s .args .address) 2 5 (s .args .hwpid))
 
 abbrev steps : (c : tie.Start Inv-loop μ-loop) → List Step
-steps s = stepsIn (s .args .n) (s .args .s .now)
+steps s = stepsIn (s .args .count) (s .args .body .now)
 
 abbrev all : (c : tie.Start Inv-loop μ-loop) → List ℕ
-all s = bytesLeft listLimit (head s) (s .args .h) 1 (entriesOf entryLimit (steps s))
+all s = bytesLeft listLimit (head s) (s .args .hwpid) 1 (entriesOf entryLimit (steps s))
 
 all-is : (c : tie.Else1 Inv-loop μ-loop) → let s = c .before .before .before .before in
-    joined (compiled (s .args .a) (s .args .h) (steps s)) ≡ head s ++ all s
+    joined (compiled (s .args .address) (s .args .hwpid) (steps s)) ≡ head s ++ all s
 all-is c =
     let s = c .before .before .before .before in
-    bytes-begin limits (head s) (s .args .h) (steps s) (good-steps (s .args .n) (s .args .s .now) (s .pre .2))
-    (omega (arith, c .if1 .left, steps-length (s .args .n) (s .args .s .now)))
+    bytes-begin limits (head s) (s .args .hwpid) (steps s) (good-steps (s .args .count) (s .args .body .now) (s .pre .2))
+    (omega (arith, c .if1 .left, steps-length (s .args .count) (s .args .body .now)))
 
 room : (c : tie.After-slice-known2 Inv-loop μ-loop) → let s = c .before .before .before .before .before .before .before .before in
     c .before .before .write-header .result + length (all s) ≤ length (c .before .before .write-header .last .1 .1 .0)
@@ -76,13 +76,13 @@ loop-holds c =
 
 -- the entry that is told next
 here : (c : tie.In-loop Inv-loop μ-loop) → let s = c .before .before .before .before .before .before .before .before .before .before in
-    Next entryLimit (drop (c .before .loop .done) (steps s)) (s .args .kept .now) (c .before .loop .m)
+    Next entryLimit (drop (c .before .loop .done) (steps s)) (s .args .kept .now) (c .before .loop .pair)
 here c =
     let s = c .before .before .before .before .before .before .before .before .before .before in
     let l = c .before .loop in
     told-next entryLimit (omega arith) (drop (l .done) (steps s))
-    (all-drop Good (steps s) (l .done) (good-steps (s .args .n) (s .args .s .now) (s .pre .2))) (s .args .kept .now) (l .m)
-    (omega (arith, length-drop (l .done) (steps s), steps-length (s .args .n) (s .args .s .now), c .loop-test .taken)) (l .inv .1)
+    (all-drop Good (steps s) (l .done) (good-steps (s .args .count) (s .args .body .now) (s .pre .2))) (s .args .kept .now) (l .pair)
+    (omega (arith, length-drop (l .done) (steps s), steps-length (s .args .count) (s .args .body .now), c .loop-test .taken)) (l .inv .1)
 
 shared-slice-read-wide : tie.Need-shared-slice-read-wide Inv-loop μ-loop
 shared-slice-read-wide c = omega (arith, here (c .before) .inside)
@@ -99,8 +99,8 @@ shared-slice-read-wide-2 c = here (c .before .before .before) .inside
 wide-requires-2 : tie.Need-wide-requires-2 Inv-loop μ-loop
 wide-requires-2 c κs = search needs
 
-add-m : tie.Need-add-m Inv-loop μ-loop
-add-m c = omega (arith, here (c .before .before .before .before) .inside)
+add-pair : tie.Need-add-pair Inv-loop μ-loop
+add-pair c = omega (arith, here (c .before .before .before .before) .inside)
 
 run : (c : tie.After-wide2 Inv-loop μ-loop) → let d = c .before .before .before .before in
     FirstRun entryLimit (drop (d .before .loop .done) (steps (d .before .before .before .before .before .before .before .before .before .before)))
@@ -118,7 +118,7 @@ next-list-requires c κs =
 
 -- the entry's steps are within the scene
 part-of : (c : tie.After-wide2 Inv-loop μ-loop) → let d = c .before .before .before .before in
-    d .before .loop .done + c .before .before .wide .result ≤ d .before .before .before .before .before .before .before .before .before .before .args .n
+    d .before .loop .done + c .before .before .wide .result ≤ d .before .before .before .before .before .before .before .before .before .before .args .count
 part-of c =
     let d = c .before .before .before .before in
     let s = d .before .before .before .before .before .before .before .before .before .before in
@@ -126,7 +126,7 @@ part-of c =
       arith,
       run c .within,
       length-drop (d .before .loop .done) (steps s),
-      steps-length (s .args .n) (s .args .s .now),
+      steps-length (s .args .count) (s .args .body .now),
       d .loop-test .taken,
     )
 
@@ -144,7 +144,7 @@ write-entry-at-requires c κs =
       omega (arith, part, s .pre .1),
       r .small,
       r .fits ∙ ap (λ (t : List Step). length (runData t))
-          (steps-part (s .args .n) (l .done) (e .before .before .wide .result) (s .args .s .now) part),
+          (steps-part (s .args .count) (l .done) (e .before .before .wide .result) (s .args .body .now) part),
       entry-room limits _ _ _ _ _ _ _ _ _ r _ _ (l .inv .0) _ _ (t .2) (t .0) (room (d .before .before)),
       entry-ok entryLimit (omega arith) _ _ _ _ _ (s .pre .2) part r,
     )
@@ -170,8 +170,8 @@ loop-again c =
     let l = d .before .loop in
     let k = e .before .before .wide .result in (
       bytes-more limits _ _ _ _ _ _ _ _ _ (run e) _ _ (l .inv .0) _ _ (t .ensures .2) (t .ensures .0) _ _ _
-          (w .1 ∙ ap (λ (x : List Step). sets (t .last .1 .1 .1 .1 .0) (t .result .at) (entryBytes (joinedItem (s .args .h) x)))
-          (sym (steps-part (s .args .n) (l .done) k (s .args .s .now) (part-of e))))
+          (w .1 ∙ ap (λ (x : List Step). sets (t .last .1 .1 .1 .1 .0) (t .result .at) (entryBytes (joinedItem (s .args .hwpid) x)))
+          (sym (steps-part (s .args .count) (l .done) k (s .args .body .now) (part-of e))))
           (w .0) (t .ensures .1),
       rw (← (e .before .before .wide .ensures .0), drop-drop k (l .done) (steps s)) at (here d .rest),
     )
@@ -179,12 +179,12 @@ loop-again c =
 -- the last zero
 last : (c : tie.After-loop Inv-loop μ-loop) → let s = c .before .before .before .before .before .before .before .before .before .before in
     let w = c .before .before .before .before .write-header in
-    Left (w .last .1 .1 .0) (w .result) (all s) (c .before .loop .out) (c .before .loop .w) (0 ∷ [])
+    Left (w .last .1 .1 .0) (w .result) (all s) (c .before .loop .out) (c .before .loop .end) (0 ∷ [])
 last c =
     let s = c .before .before .before .before .before .before .before .before .before .before in
     let w = c .before .before .before .before .write-header in
-    open-end limits (bytesLeft listLimit (head s) (s .args .h)) (steps s) (w .last .1 .1 .0) (w .result) _ _ _ _ (c .before .loop .inv .0)
-    (omega (arith, steps-length (s .args .n) (s .args .s .now), c .loop-test .left))
+    open-end limits (bytesLeft listLimit (head s) (s .args .hwpid)) (steps s) (w .last .1 .1 .0) (w .result) _ _ _ _ (c .before .loop .inv .0)
+    (omega (arith, steps-length (s .args .count) (s .args .body .now), c .loop-test .left))
 
 slice-write-out : tie.Need-slice-write-out Inv-loop μ-loop
 slice-write-out c = omega (arith, last c .place, last c .kept, room (c .before .before))
@@ -194,7 +194,7 @@ add-result c = omega (arith, last c .place, last c .kept, room (c .before .befor
 
 same-length : tie.Need-same-length Inv-loop μ-loop
 same-length c =
-    length-set (c .before .loop .out) (c .before .loop .w) _ ∙ c .before .loop .inv .0 .rest .kept
+    length-set (c .before .loop .out) (c .before .loop .end) _ ∙ c .before .loop .inv .0 .rest .kept
     ∙ c .before .before .before .before .write-header .kept .1 .1 .0
 
 returns-2 : tie.Need-returns-2 Inv-loop μ-loop
@@ -219,7 +219,7 @@ write-requests-spec =
     add-wide
     shared-slice-read-wide-2
     wide-requires-2
-    add-m
+    add-pair
     next-list-requires
     write-entry-at-requires
     add-done
