@@ -46,10 +46,6 @@ firstEntry (b ∷ xs) =
     (cond (ltb b 128) (Valid (change (b % 128) 0) 1) (timedEntry (b % 128) xs))
     Invalid
 
-abbrev pub isValid : Entry → Bool
-isValid (Valid e size) = true
-isValid Invalid = false
-
 -- ---- all entries, read before any lamp changes
 
 pub data Reading : Type 0 where
@@ -70,10 +66,6 @@ abbrev pub entries : ℕ → List ℕ → Reading
 entries zero [] = good []
 entries zero (x ∷ xs) = bad
 entries (suc n) xs = andThen (firstEntry xs) (λ size. entries n (drop size xs))
-
-abbrev pub isGood : Reading → Bool
-isGood (good es) = true
-isGood bad = false
 
 -- ---- a lamp after its entry
 
@@ -125,10 +117,6 @@ changeLamps s c xs ls =
 unfoldable pub enumerateLamps : Settings → List ℕ → List Lamp → Served (List Lamp)
 enumerateLamps s xs ls = cond (eqb (length xs) 0) (served ls 0 (s .«lamp_count» ∷ [])) (refused ls 5)
 
--- the command of a PCMD up to 02 hex
-unfoldable pub commandOf : ℕ → Command
-commandOf pcmd = cond (eqb pcmd 0x00) Set (cond (eqb pcmd 0x01) Raise Lower)
-
 unfoldable pub lightsRequest : Settings → ℕ → List ℕ → List Lamp → Served (List Lamp)
 lightsRequest s pcmd xs ls =
     cond (eqb pcmd 0x00) (changeLamps s Set xs ls)
@@ -136,3 +124,17 @@ lightsRequest s pcmd xs ls =
     (cond (eqb pcmd 0x02) (changeLamps s Lower xs ls)
     (cond (eqb pcmd 0x3E) (enumerateLamps s xs ls)
     (refused ls 2))))
+
+-- ---- what inner functions tell
+
+abbrev pub isValid : Entry → Bool
+isValid (Valid e size) = true
+isValid Invalid = false
+
+abbrev pub isGood : Reading → Bool
+isGood (good es) = true
+isGood bad = false
+
+-- the command of a PCMD up to 02 hex
+unfoldable pub commandOf : ℕ → Command
+commandOf pcmd = cond (eqb pcmd 0x00) Set (cond (eqb pcmd 0x01) Raise Lower)

@@ -22,7 +22,7 @@ pub enum Entry {
 }
 
 // What a valid entry asks of its lamp, and how many bytes it takes.
-pub struct Taken {
+pub struct ReadEntry {
     pub power: u8,
     pub seconds: u16,
     pub size: usize,
@@ -97,14 +97,14 @@ pub fn entries_ok(src: &[u8], n: usize) -> bool
 }
 
 // The entry that starts at a place, once it is known to be valid.
-pub fn change_at(src: &[u8], at: usize) -> Taken
+pub fn change_at(src: &[u8], at: usize) -> ReadEntry
     requires { ⌜ isValid (firstEntry (drop at (now src))) ≡ true ⌝ }
     ensures { λ r. ⌜ firstEntry (drop at (now (src .entry))) ≡ Valid (change (r .power) (r .seconds)) (r .size) ⌝ }
 {
     let byte = src[at];
     let power = byte % 128;
     if byte < 128 {
-        return Taken {
+        return ReadEntry {
             power,
             seconds: 0,
             size: 1,
@@ -113,7 +113,7 @@ pub fn change_at(src: &[u8], at: usize) -> Taken
     let next = at + 1;
     let time = src[next];
     let seconds = seconds_of(time);
-    Taken {
+    ReadEntry {
         power,
         seconds,
         size: 2,
