@@ -39,7 +39,7 @@ on_both_sides! {
     guide_pulse_batch,
 }
 
-// ---- document 01, not marked P ----
+// ---- document 01: worked examples, and the rules next to them ----
 fn external_read_at_the_end(side: Side) {
     let mut b = Board::started(side, 3, 1);
     b.external[0x3FFF] = 0x5C;
