@@ -68,7 +68,7 @@ fn compile_steps(
     }
     let length = write_output(body, count, address, hwpid, out);
     CompileAnswer {
-        refusal: 0,
+        refusal: refusal::NONE,
         step: 0,
         length,
     }

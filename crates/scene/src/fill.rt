@@ -20,7 +20,7 @@ pub const LIMIT: usize = Frame::PDATA_MAX;
 // The bytes of a list without entries: its closing zero.
 pub const EMPTY: usize = 1;
 
-// Where what is next goes, and the bytes of the list that the entry went into.
+// The next free place, and the bytes of the open list.
 pub struct Place {
     pub at: usize,
     pub size: usize,
