@@ -15,17 +15,32 @@ use dpa::pnum;
 use dpa::refusal;
 use dpa::settings::Settings;
 use lights::lamp::Lamp;
+use lights::request::LightsReply;
 use memory::block::Memory;
 use memory::block::size_of;
 use node::record::Node;
 use node::record::node_ok;
 ghost use mathlib.Core.Path.{_≡_};
+ghost use mathlib.Core.Bool.{false};
 ghost use mathlib.Core.List.{List};
 ghost use Prim.Native.Nat.{ℕ, _≤_};
 ghost use lib.ListN.{length};
 ghost use Rattle.dpa.specs.Frame.{headerSize, pdataMax, longestResponse};
 ghost use Rattle.batch.specs.Batch.{item};
 ghost use Rattle.handler.specs.Request.{state, held, StateRule, delivered, deliver, carryOut, called, taken, broadcast, respond, takenOf, requestRefusal, requestOf};
+
+// A request to a peripheral sets no load mark.
+fn of_peripheral(reply: LightsReply) -> Carried
+    ensures { λ r. ⌜ r ≡ record { error = reply .error; load = false; length = reply .length; lamps = reply .lamps } ⌝ }
+{
+    let lamps = reply.lamps;
+    Carried {
+        error: reply.error,
+        load: false,
+        length: reply.length,
+        lamps,
+    }
+}
 
 // A request from HWPID on. The answer's data goes to the front of `out`.
 fn carry_out(
@@ -43,39 +58,25 @@ fn carry_out(
         ≡ deliver (carryOut (item (header .pnum) (header .pcmd) (header .hwpid) (now (pdata .entry)))
         (held settings lamps (now (ram .entry)) (now (eeprom .entry)) (now (external .entry)))) (now (out .entry)) ⌝ }
 {
-    if for_node(settings, header.hwpid) {
-        if header.pnum == pnum::OS {
-            return os(
-                settings,
-                lamps,
-                header.pcmd,
-                pdata,
-                ram,
-                eeprom,
-                external,
-                out,
-            );
-        }
-        let reply = peripheral(
-            settings,
-            lamps,
-            header.pnum,
-            header.pcmd,
-            pdata,
-            ram,
-            eeprom,
-            external,
-            out,
-        );
-        let after = reply.lamps;
-        return Carried {
-            error: reply.error,
-            load: false,
-            length: reply.length,
-            lamps: after,
-        };
+    if !for_node(settings, header.hwpid) {
+        return without_data(lamps, error::HWPID);
     }
-    without_data(lamps, error::HWPID)
+    let pcmd = header.pcmd;
+    if header.pnum == pnum::OS {
+        return os(settings, lamps, pcmd, pdata, ram, eeprom, external, out);
+    }
+    let reply = peripheral(
+        settings,
+        lamps,
+        header.pnum,
+        pcmd,
+        pdata,
+        ram,
+        eeprom,
+        external,
+        out,
+    );
+    of_peripheral(reply)
 }
 
 // A broadcast is carried out and never answered: its data goes to an array of its own.
