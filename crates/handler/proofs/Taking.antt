@@ -20,7 +20,7 @@ use Rattle.node.specs.declared.record.Node.{Node}
 use Rattle.handler.specs.declared.os.Carried.{Carried}
 use Rattle.handler.specs.declared.answer.RequestAnswer.{RequestAnswer}
 use Rattle.node.specs.Node.{nodeOk}
-use Rattle.handler.specs.Request.{State, state, StateRule, Outcome, Delivered, delivered, deliver, itemOf, carryOut, Called, called, taken, silent, broadcast, respond, takenOf, requestRefusal, refusalOf, requestOf}
+use Rattle.handler.specs.Request.{State, state, StateRule, Outcome, Delivered, delivered, deliver, itemOf, carryOut, Called, called, calledInParts, silent, broadcast, respond, takenOf, requestRefusal, refusalOf, requestOf}
 
 -- the request that the code takes out of a frame
 pub frame-item : (f : List ℕ) {h : Frame} → h ≡ headerOf f → item (h .pnum) (h .pcmd) (h .hwpid) (take (length f - 6) (drop 6 f)) ≡ itemOf f
@@ -77,9 +77,9 @@ called-as {r} {t} {e} {x} {o} q = ap (λ (u : RequestAnswer). called u e x o) q
 pub own-answer : (o m : List ℕ) → 8 ≤ length o → (s : Settings) (i : Item) (a : Outcome) {c : Carried} {r e x w : List ℕ}
     → delivered s c r e x m ≡ deliver a (midOf 8 (length o - 8) o)
     → w ≡ responseHeader s (i .pnum) (i .pcmd) (c .error) ++ drop 8 (putMid 8 (length o - 8) o m)
-    → taken s (record { length = 8 + c .length; load = c .load; lamps = c .lamps }) r e x w ≡ respond s i a o
+    → calledInParts s (record { length = 8 + c .length; load = c .load; lamps = c .lamps }) r e x w ≡ respond s i a o
 own-answer o m h s i a {c} {r} {e} {x} {w} q u =
-    ap (taken s (record { length = 8 + c .length; load = c .load; lamps = c .lamps }) r e x)
+    ap (calledInParts s (record { length = 8 + c .length; load = c .load; lamps = c .lamps }) r e x)
     (u ∙ ap (λ (l : List ℕ). responseHeader s (i .pnum) (i .pcmd) (c .error) ++ l) (rear-back 8 o m h))
     ∙ ap headed q
     ∙ ap answered (rear-lent 8 o)

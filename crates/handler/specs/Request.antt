@@ -31,10 +31,6 @@ pub record State : Type 0 where
 abbrev pub state : Node → List ℕ → List ℕ → State
 state n e x = record { node = n; eeprom = e; external = x }
 
--- the same of a node in parts: settings, lamps, RAM
-abbrev pub held : Settings → List Lamp → List ℕ → List ℕ → List ℕ → State
-held s ls r e x = state (record { settings = s; lamps = ls; ram = r }) e x
-
 -- a sound node with memories of their sizes
 pub record StateRule (st : State) : Type 0 where
   pub node-ok : nodeOk (st .node) ≡ true
@@ -121,22 +117,6 @@ carryOut i st =
     (cond (eqb (i .pnum) 2) (osOf (i .pcmd) (i .pdata) st) (plain (perform (i .pnum) (i .pcmd) (i .pdata) st)))
     (plain (refused st 7))
 
--- what carrying out leaves in the code: the state, ErrN, the data's length, the load mark and the lent buffer
-pub record Delivered : Type 0 where
-  pub after : State
-  pub error : ℕ
-  pub length : ℕ
-  pub load : Bool
-  pub out : List ℕ
-
-abbrev pub delivered : Settings → Carried → List ℕ → List ℕ → List ℕ → List ℕ → Delivered
-delivered s c r e x o =
-    record { after = held s (c .lamps) r e x; error = c .error; length = c .length; load = c .load; out = o }
-
-abbrev pub deliver : Outcome → List ℕ → Delivered
-deliver a o =
-    record { after = a .after; error = a .error; length = length (a .bytes); load = a .load; out = over (a .bytes) o }
-
 -- the request of a frame
 abbrev pub itemOf : List ℕ → Item
 itemOf f = item (headerOf f .pnum) (headerOf f .pcmd) (headerOf f .hwpid) (pdataOf f)
@@ -148,15 +128,6 @@ pub record Called : Type 0 where
   pub length : ℕ
   pub load : Bool
   pub response : List ℕ
-
-abbrev pub called : RequestAnswer → List ℕ → List ℕ → List ℕ → Called
-called r e x o =
-    record { after = state (r .node) e x; refusal = r .refusal; length = r .length; load = r .load; response = o }
-
--- the same of a call that was not refused, of a node in parts
-abbrev pub taken : Settings → Taken → List ℕ → List ℕ → List ℕ → List ℕ → Called
-taken s t r e x o =
-    record { after = held s (t .lamps) r e x; refusal = 0; length = t .length; load = t .load; response = o }
 
 -- no answer: the response buffer stays
 abbrev pub silent : State → ℕ → Bool → List ℕ → Called
@@ -204,3 +175,35 @@ refusalOf f st o = requestRefusal (st .node) (length f) (length (st .eeprom)) (l
 unfoldable pub requestOf : List ℕ → State → List ℕ → Called
 requestOf f st o =
     cond (eqb (refusalOf f st o) 0) (takenOf f st o) (silent st (refusalOf f st o) false o)
+
+-- ---- how the code shows it
+
+-- the state of a node in parts: settings, lamps, RAM
+abbrev pub held : Settings → List Lamp → List ℕ → List ℕ → List ℕ → State
+held s ls r e x = state (record { settings = s; lamps = ls; ram = r }) e x
+
+-- what carrying out leaves: the state, ErrN, the data's length, the load mark and the lent buffer
+pub record Delivered : Type 0 where
+  pub after : State
+  pub error : ℕ
+  pub length : ℕ
+  pub load : Bool
+  pub out : List ℕ
+
+abbrev pub delivered : Settings → Carried → List ℕ → List ℕ → List ℕ → List ℕ → Delivered
+delivered s c r e x o =
+    record { after = held s (c .lamps) r e x; error = c .error; length = c .length; load = c .load; out = o }
+
+abbrev pub deliver : Outcome → List ℕ → Delivered
+deliver a o =
+    record { after = a .after; error = a .error; length = length (a .bytes); load = a .load; out = over (a .bytes) o }
+
+-- a call by its answer, both memories and the response buffer
+abbrev pub called : RequestAnswer → List ℕ → List ℕ → List ℕ → Called
+called r e x o =
+    record { after = state (r .node) e x; refusal = r .refusal; length = r .length; load = r .load; response = o }
+
+-- the same of a call that was not refused, of a node in parts
+abbrev pub calledInParts : Settings → Taken → List ℕ → List ℕ → List ℕ → List ℕ → Called
+calledInParts s t r e x o =
+    record { after = held s (t .lamps) r e x; refusal = 0; length = t .length; load = t .load; response = o }

@@ -27,7 +27,7 @@ ghost use Prim.Native.Nat.{ℕ, _≤_};
 ghost use lib.ListN.{length};
 ghost use Rattle.dpa.specs.Frame.{headerSize, pdataMax, longestResponse};
 ghost use Rattle.batch.specs.Batch.{item};
-ghost use Rattle.handler.specs.Request.{state, held, StateRule, delivered, deliver, carryOut, called, taken, broadcast, respond, takenOf, requestRefusal, requestOf};
+ghost use Rattle.handler.specs.Request.{state, held, StateRule, delivered, deliver, carryOut, called, calledInParts, broadcast, respond, takenOf, requestRefusal, requestOf};
 
 // A request to a peripheral sets no load mark.
 fn of_peripheral(reply: LightsReply) -> Carried
@@ -90,7 +90,7 @@ fn take_broadcast(
     external: &mut [u8],
 ) -> Taken
     requires { ⌜ StateRule (held settings lamps (now ram) (now eeprom) (now external)) ⌝ }
-    ensures { λ r. ⌜ ((o : List ℕ) → taken settings r (now (ram .exit)) (now (eeprom .exit)) (now (external .exit)) o
+    ensures { λ r. ⌜ ((o : List ℕ) → calledInParts settings r (now (ram .exit)) (now (eeprom .exit)) (now (external .exit)) o
         ≡ broadcast (carryOut (item (header .pnum) (header .pcmd) (header .hwpid) (now (pdata .entry)))
         (held settings lamps (now (ram .entry)) (now (eeprom .entry)) (now (external .entry)))) o) ⌝ }
 {
@@ -125,7 +125,7 @@ fn take_own(
     response: &mut [u8],
 ) -> Taken
     requires { ⌜ StateRule (held settings lamps (now ram) (now eeprom) (now external)) × (longestResponse ≤ length (now response)) ⌝ }
-    ensures { λ r. ⌜ taken settings r (now (ram .exit)) (now (eeprom .exit)) (now (external .exit)) (now (response .exit))
+    ensures { λ r. ⌜ calledInParts settings r (now (ram .exit)) (now (eeprom .exit)) (now (external .exit)) (now (response .exit))
         ≡ respond settings (item (header .pnum) (header .pcmd) (header .hwpid) (now (pdata .entry)))
         (carryOut (item (header .pnum) (header .pcmd) (header .hwpid) (now (pdata .entry)))
         (held settings lamps (now (ram .entry)) (now (eeprom .entry)) (now (external .entry)))) (now (response .entry)) ⌝ }
