@@ -20,9 +20,9 @@ use Rattle.book.specs.declared.step.Step.{Step}
 use Rattle.book.specs.Machine.{machine}
 use Rattle.book.specs.Entry.{entryData, pnumOf, pcmdOf, joinedItem}
 use Rattle.book.specs.Join.{follows}
-use Rattle.scene.specs.Fill.{Limits}
 use Rattle.book.proofs.Faults.{eeprom-good}
 use Rattle.book.proofs.Runs.{Linked, Run}
+use Rattle.scene.proofs.Lists.{Limits}
 use Rattle.acceptance.proofs.Lamps.{LampRun, entry-lamp-run}
 use Rattle.acceptance.proofs.Memories.{bytesOf, Writes, writes-ram, writes-eeprom, ByteRun, entry-byte-run}
 

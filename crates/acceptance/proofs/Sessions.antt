@@ -12,12 +12,11 @@ use Rattle.book.specs.declared.step.Step.{Step}
 use Rattle.book.specs.Group.{joined}
 use Rattle.book.specs.Machine.{machine}
 use Rattle.scene.specs.Compile.{joinedItems, batchesOf, requestBytes, requestsOf}
-use Rattle.scene.specs.Fill.{Limits}
 use Rattle.book.proofs.Groups.{joined-append}
 use Rattle.book.proofs.Places.{machine-append, machine-stays}
 use Rattle.book.proofs.Faults.{Good}
 use Rattle.book.proofs.Runs.{Run, joining-keeps}
-use Rattle.scene.proofs.Lists.{Filling, fillings, filling-keeps}
+use Rattle.scene.proofs.Lists.{Limits, Filling, fillings, filling-keeps}
 use Rattle.scene.proofs.Sizes.{filling-fits}
 use Rattle.acceptance.specs.SceneTheorem.{Success, AllSucceed, afterCalls, DoneAsSteps}
 use Rattle.acceptance.proofs.Batches.{AllPerform, entries-perform, batch-performs}

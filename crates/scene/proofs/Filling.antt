@@ -20,8 +20,23 @@ use Rattle.book.proofs.Groups.{grow-in, grow-out}
 use Rattle.book.proofs.Runs.{Run, runs, joining-keeps}
 use Rattle.scene.specs.Compile.{joinedItems, listOf, fills, batchesOf}
 use Rattle.scene.specs.Call.{lengths}
-use Rattle.scene.specs.Fill.{Limits, takes, nextSize, turnBytes, turnLength, bytesLeft, lengthsLeft}
+use Rattle.scene.specs.Fill.{takes, nextSize, turnBytes, turnLength}
+use Rattle.scene.proofs.Lists.{Limits}
 use Rattle.scene.proofs.Sizes.{entries-snoc, list-snoc, list-one}
+
+-- all bytes behind an open list's entries, where these entries are left
+abbrev pub bytesLeft : ℕ → List ℕ → ℕ → ℕ → List (List Step) → List ℕ
+bytesLeft listMost head h size [] = 0 ∷ []
+bytesLeft listMost head h size (r ∷ rs) =
+    let more = length (runData r) in
+    turnBytes listMost head size more ++ (entryBytes (joinedItem h r) ++ bytesLeft listMost head h (nextSize listMost size more) rs)
+
+-- the length bytes of its request and of those behind it
+abbrev pub lengthsLeft : ℕ → ℕ → ℕ → List (List Step) → List ℕ
+lengthsLeft listMost head size [] = (size + head) ∷ []
+lengthsLeft listMost head size (r ∷ rs) =
+    let more = length (runData r) in
+    turnLength listMost head size more ++ lengthsLeft listMost head (nextSize listMost size more) rs
 
 -- requests that begin with the bytes `head`, in front of their lists
 abbrev pub headed : List ℕ → ℕ → List (List Step) → List ℕ

@@ -18,7 +18,7 @@ use Rattle.book.specs.Run.{FirstRun}
 use Rattle.book.proofs.Faults.{Good}
 use Rattle.book.proofs.Groups.{length-group}
 use Rattle.book.proofs.Runs.{Run, runs, joining-keeps}
-use Rattle.scene.specs.Fill.{runBytes, Told}
+use Rattle.scene.specs.Fill.{runBytes, KeepsEntries}
 use Rattle.scene.proofs.Filling.{entries-next}
 use Rattle.scene.proofs.Requests.{Left, left-more}
 
@@ -58,7 +58,7 @@ run-some most (s ∷ ss) q = (omega arith, q .2)
 pub record Next (entryMost : ℕ) (xs : List Step) (kept : List ℕ) (m : ℕ) : Type 0 where
   pub inside : m + 1 < length kept
   pub run : FirstRun entryMost xs (getD kept m 0) (getD kept (m + 1) 0)
-  pub rest : Told entryMost (drop (getD kept m 0) xs) (drop (m + 2) kept)
+  pub rest : KeepsEntries entryMost (drop (getD kept m 0) xs) (drop (m + 2) kept)
 
 -- the entry that joining makes first
 module _ (entryMost : ℕ) (six : 6 ≤ entryMost) (xs : List Step) (good : All Good xs) where
@@ -83,8 +83,8 @@ module _ (entryMost : ℕ) (six : 6 ≤ entryMost) (xs : List Step) (good : All 
         first = e ∙ ap₂ (λ (l : List Step) (ls : List (List Step)). l ∷ ls) (sym same) (c .rest ∙ ap (entriesOf entryMost) (sym rest));
       }
 
-  module _ (kept : List ℕ) (m : ℕ) (behind : List ℕ) (some : 0 < length xs) where
-    next-from : (es : List (List Step)) → entriesOf entryMost xs ≡ es → drop m kept ≡ runBytes es ++ behind → Next entryMost xs kept m
+  module _ (kept : List ℕ) (m : ℕ) (unused : List ℕ) (some : 0 < length xs) where
+    next-from : (es : List (List Step)) → entriesOf entryMost xs ≡ es → drop m kept ≡ runBytes es ++ unused → Next entryMost xs kept m
     next-from [] e q = absurd (omega (arith, ap length (sym (joining-keeps entryMost xs) ∙ ap joined e)))
     next-from (r ∷ rs) e q =
         let f = first-run r rs e in
@@ -95,11 +95,11 @@ module _ (entryMost : ℕ) (six : 6 ≤ entryMost) (xs : List Step) (good : All 
         record {
           inside = omega (arith, ap length q, length-drop m kept);
           run = rw (a, b) f;
-          rest = rw a (record { behind = behind; tells = sym (drop-drop 2 m kept) ∙ ap (drop 2) q ∙ ap (λ (ls : List (List Step)). runBytes ls ++ behind) n });
+          rest = rw a (record { unused = unused; begins = sym (drop-drop 2 m kept) ∙ ap (drop 2) q ∙ ap (λ (ls : List (List Step)). runBytes ls ++ unused) n });
         }
 
-  pub told-next : (kept : List ℕ) (m : ℕ) → 0 < length xs → Told entryMost xs (drop m kept) → Next entryMost xs kept m
-  told-next kept m some t = next-from kept m (t .behind) some (entriesOf entryMost xs) refl (t .tells)
+  pub next-kept : (kept : List ℕ) (m : ℕ) → 0 < length xs → KeepsEntries entryMost xs (drop m kept) → Next entryMost xs kept m
+  next-kept kept m some t = next-from kept m (t .unused) some (entriesOf entryMost xs) refl (t .begins)
 
 -- ---- the loop of write_lengths: those of the steps up to `done` are kept in the first m bytes
 abbrev pub Keeps : ℕ → List Step → List ℕ → ℕ → List ℕ → ℕ → Type 0
@@ -125,11 +125,11 @@ module _ (entryMost : ℕ) (ss : List Step) (old : List ℕ) (done : ℕ) (kept 
     kept-more =
         left-more old 0 _ kept m _ l (k ∷ sz ∷ []) _ _ (m + 2) kept-next (ap (λ (i : ℕ). set (set kept m k) i sz) (add-one m)) refl
 
-  pub kept-end : length ss ≤ done → 2 * length ss ≤ length old → Told entryMost ss kept
+  pub kept-end : length ss ≤ done → 2 * length ss ≤ length old → KeepsEntries entryMost ss kept
   kept-end d h =
       let none : drop done ss ≡ [] = drop-of-length-le ss {i = done} d in
       let e : sets old 0 (runBytes (entriesOf entryMost ss)) ≡ sets kept m (runBytes (entriesOf entryMost [])) = rw none at (l .bytes) in
       record {
-        behind = drop (0 + length (runBytes (entriesOf entryMost ss))) old;
-        tells = sym e ∙ sets-eq (runBytes (entriesOf entryMost ss)) old 0 (omega (arith, kept-room entryMost ss));
+        unused = drop (0 + length (runBytes (entriesOf entryMost ss))) old;
+        begins = sym e ∙ sets-eq (runBytes (entriesOf entryMost ss)) old 0 (omega (arith, kept-room entryMost ss));
       }

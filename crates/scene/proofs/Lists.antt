@@ -2,10 +2,11 @@
 use mathlib.Core.Bool.{true}
 use mathlib.Core.List.{List, [], _∷_, _++_}
 use mathlib.Core.Path.{_≡_}
-use Prim.Native.Nat.{ℕ, _≤_}
+use Prim.Native.Nat.{ℕ, _+_, _≤_}
 use native.Mathlib.Omega.{arith}
 use lib.ListN.{length, length-append}
 use borrow.Author.Tests.{leb-true}
+use Rattle.dpa.specs.Frame.{pdataMax}
 use Rattle.batch.specs.Batch.{All, entriesBytes, entryBytes}
 use Rattle.book.specs.declared.step.Step.{Step}
 use Rattle.book.specs.Join.{entriesOf, entryLimit}
@@ -14,7 +15,13 @@ use Rattle.book.proofs.Groups.{all-snoc, all-group, joined-group}
 use Rattle.book.proofs.Faults.{Good}
 use Rattle.book.proofs.Runs.{Run, runs}
 use Rattle.scene.specs.Compile.{fills, listOf, batchesOf, listLimit}
-use Rattle.scene.specs.Fill.{Limits}
+
+-- what the limits and the bytes in front of the lists keep: an entry has room for a step, a list for an entry, and a frame
+-- for a list
+pub record Limits (entryMost listMost : ℕ) (front : List ℕ) : Type 0 where
+  pub entry : 6 ≤ entryMost
+  pub list : entryMost + 6 ≤ listMost
+  pub frame : length front + listMost ≤ pdataMax
 
 -- the entries of a list that is at most `listMost`
 pub record Filling (entryMost listMost h : ℕ) (rs : List (List Step)) : Type 0 where

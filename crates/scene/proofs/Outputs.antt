@@ -24,9 +24,8 @@ use Rattle.book.proofs.Groups.{length-group}
 use Rattle.book.proofs.Books.{scene-length}
 use Rattle.scene.specs.Compile.{fills, batchesOf, requestBytes, requestsOf, compiled}
 use Rattle.scene.specs.Call.{lengths, output, cut, requestsIn, outputRoom, CompileResult, written, addressOk, compileSteps, compileOf}
-use Rattle.scene.specs.Fill.{Limits}
 use Rattle.scene.proofs.Sizes.{Frame-sized, requests-fit}
-use Rattle.scene.proofs.Lists.{limits}
+use Rattle.scene.proofs.Lists.{Limits, limits}
 
 -- ---- the requests are read back
 

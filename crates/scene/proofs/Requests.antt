@@ -18,10 +18,10 @@ use Rattle.book.proofs.Joining.{steps-length}
 use Rattle.book.proofs.Books.{good-steps}
 use Rattle.scene.specs.Compile.{compiled}
 use Rattle.scene.specs.Call.{lengths, output, outputRoom}
-use Rattle.scene.specs.Fill.{Limits, nextSize, turnBytes, turnLength, bytesLeft, lengthsLeft}
-use Rattle.scene.proofs.Filling.{next-small, bytes-next, lengths-next}
+use Rattle.scene.specs.Fill.{nextSize, turnBytes, turnLength}
+use Rattle.scene.proofs.Filling.{bytesLeft, lengthsLeft, next-small, bytes-next, lengths-next}
 use Rattle.scene.proofs.Outputs.{lengths-length, output-length, output-fits}
-use Rattle.scene.proofs.Lists.{limits}
+use Rattle.scene.proofs.Lists.{Limits, limits}
 
 -- `all` written from `at` is what `rest` written on from w makes of `out`
 pub record Left (old : List ℕ) (at : ℕ) (all out : List ℕ) (w : ℕ) (rest : List ℕ) : Type 0 where

@@ -11,8 +11,7 @@ use Rattle.book.specs.declared.step.Step.{Step}
 use Rattle.book.specs.Entry.{runData, joinedItem}
 use Rattle.book.proofs.Faults.{Good}
 use Rattle.scene.specs.Compile.{joinedItems, listOf, batchesOf, requestBytes, requestsOf}
-use Rattle.scene.specs.Fill.{Limits}
-use Rattle.scene.proofs.Lists.{Filling, fillings}
+use Rattle.scene.proofs.Lists.{Limits, Filling, fillings}
 
 -- an entry more in a list
 pub entries-snoc : (h : ℕ) (rs : List (List Step)) (r : List Step)

@@ -12,7 +12,7 @@ ghost use Rattle.book.specs.Join.{entryLimit};
 ghost use Rattle.book.specs.Run.{AllGood};
 ghost use Rattle.scene.specs.Compile.{compiled, listLimit};
 ghost use Rattle.scene.specs.Call.{lengths};
-ghost use Rattle.scene.specs.Fill.{nextSize, turnLength, keptRoom, Told};
+ghost use Rattle.scene.specs.Fill.{nextSize, turnLength, keptRoom, KeepsEntries};
 
 // The longest list of a batch, its closing zero included.
 pub const LIMIT: usize = Frame::PDATA_MAX;
@@ -55,7 +55,7 @@ pub fn write_lengths(body: &[u8], count: usize, kept: &mut [u8], out: &mut [u8],
         × ((address hwpid : ℕ) → at + length (compiled address hwpid (stepsIn count (now body))) ≤ length (now out)) ⌝ }
     ensures { λ r. ⌜ ((address hwpid : ℕ) → (r ≡ at + length (compiled address hwpid (stepsIn count (now (body .entry)))))
         × (now (out .exit) ≡ sets (now (out .entry)) at (lengths (compiled address hwpid (stepsIn count (now (body .entry)))))))
-        × Told entryLimit (stepsIn count (now (body .entry))) (now (kept .exit)) ⌝ }
+        × KeepsEntries entryLimit (stepsIn count (now (body .entry))) (now (kept .exit)) ⌝ }
 {
     if count == 0 {
         return at;

@@ -21,7 +21,7 @@ ghost use Rattle.book.specs.Join.{entryLimit};
 ghost use Rattle.book.specs.Run.{AllGood};
 ghost use Rattle.scene.specs.Compile.{compiled, listLimit};
 ghost use Rattle.scene.specs.Call.{output, outputRoom};
-ghost use Rattle.scene.specs.Fill.{nextSize, turnBytes, Told};
+ghost use Rattle.scene.specs.Fill.{nextSize, turnBytes, KeepsEntries};
 
 // The header of a batch.
 fn write_header(address: u16, hwpid: u16, out: &mut [u8], at: usize) -> usize
@@ -71,7 +71,7 @@ fn write_requests(
     out: &mut [u8],
     at: usize,
 ) -> usize
-    requires { ⌜ (4 * count ≤ length (now body)) × (count ≤ 64) × AllGood (now body) count × Told entryLimit (stepsIn count (now body)) (now kept)
+    requires { ⌜ (4 * count ≤ length (now body)) × (count ≤ 64) × AllGood (now body) count × KeepsEntries entryLimit (stepsIn count (now body)) (now kept)
         × (at + length (joined (compiled address hwpid (stepsIn count (now body)))) ≤ length (now out)) ⌝ }
     ensures { λ r. ⌜ (r ≡ at + length (joined (compiled address hwpid (stepsIn count (now (body .entry))))))
         × (now (out .exit) ≡ sets (now (out .entry)) at (joined (compiled address hwpid (stepsIn count (now (body .entry)))))) ⌝ }

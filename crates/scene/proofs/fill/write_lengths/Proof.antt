@@ -11,10 +11,9 @@ use Rattle.book.proofs.Joining.{steps-length}
 use Rattle.book.proofs.Books.{good-steps}
 use Rattle.scene.specs.Compile.{compiled, listLimit}
 use Rattle.scene.specs.Call.{lengths}
-use Rattle.scene.specs.Fill.{lengthsLeft}
 use Rattle.scene.proofs.Outputs.{lengths-length}
 use Rattle.scene.proofs.Lists.{limits}
-use Rattle.scene.proofs.Filling.{lengths-begin}
+use Rattle.scene.proofs.Filling.{lengthsLeft, lengths-begin}
 use Rattle.scene.proofs.Requests.{Left, left-start, Open, open-start, open-end, left-end, lengths-room, lengths-more}
 use Rattle.scene.proofs.Kept.{Keeps, kept-few, kept-more, kept-end}
 use Rattle.scene.proofs.fill.write_lengths.Statement.{statement}
@@ -50,7 +49,7 @@ room c =
 returns : tie.Need-returns Inv-loop μ-loop
 returns c =
     let s = c .before .before .before .before in
-    rw (c .if1 .taken) ((λ a h. (omega arith, refl)), record { behind = s .args .kept .now; tells = refl })
+    rw (c .if1 .taken) ((λ a h. (omega arith, refl)), record { unused = s .args .kept .now; begins = refl })
 
 loop-holds : tie.Need-loop-holds Inv-loop μ-loop
 loop-holds c = (open-start limits _ _ _ _, left-start _ _ _)

@@ -20,18 +20,18 @@ use Rattle.book.proofs.Groups.{all-drop}
 use Rattle.book.proofs.Books.{good-steps}
 use Rattle.book.proofs.Entries.{entry-ok}
 use Rattle.scene.specs.Compile.{compiled, listLimit}
-use Rattle.scene.specs.Fill.{bytesLeft, Told}
+use Rattle.scene.specs.Fill.{KeepsEntries}
 use Rattle.scene.proofs.Lists.{limits}
-use Rattle.scene.proofs.Filling.{bytes-begin}
+use Rattle.scene.proofs.Filling.{bytesLeft, bytes-begin}
 use Rattle.scene.proofs.Requests.{Left, Open, open-start, open-end, left-end, turn-room, entry-room, bytes-more}
-use Rattle.scene.proofs.Kept.{Next, told-next}
+use Rattle.scene.proofs.Kept.{Next, next-kept}
 use Rattle.scene.proofs.request.write_requests.Statement.{statement}
 use Rattle.scene.proofs.request.write_requests.Tie as tie
 
 abbrev Inv-loop : tie.InvT-loop
 Inv-loop body count kept address hwpid out₀ at end₀ size₀ done₀ pair₀ out end size done pair =
     Open entryLimit listLimit (bytesLeft listLimit (headerBytes (frame address 2 5 hwpid)) hwpid) (stepsIn count body) out₀ end₀ done size out end
-    × Told entryLimit (drop done (stepsIn count body)) (drop pair kept)
+    × KeepsEntries entryLimit (drop done (stepsIn count body)) (drop pair kept)
 
 abbrev μ-loop : tie.MeasureT-loop
 μ-loop body count kept address hwpid out₀ at end₀ size₀ done₀ pair₀ out end size done pair = count - done
@@ -74,13 +74,13 @@ loop-holds c =
     let s = c .before .before .before .before .before .before .before .before in
     (open-start limits _ _ _ _, s .pre .3)
 
--- the entry that is told next
+-- the kept entry that is next
 here : (c : tie.In-loop Inv-loop μ-loop) → let s = c .before .before .before .before .before .before .before .before .before .before in
     Next entryLimit (drop (c .before .loop .done) (steps s)) (s .args .kept .now) (c .before .loop .pair)
 here c =
     let s = c .before .before .before .before .before .before .before .before .before .before in
     let l = c .before .loop in
-    told-next entryLimit (omega arith) (drop (l .done) (steps s))
+    next-kept entryLimit (omega arith) (drop (l .done) (steps s))
     (all-drop Good (steps s) (l .done) (good-steps (s .args .count) (s .args .body .now) (s .pre .2))) (s .args .kept .now) (l .pair)
     (omega (arith, length-drop (l .done) (steps s), steps-length (s .args .count) (s .args .body .now), c .loop-test .taken)) (l .inv .1)
 
