@@ -57,7 +57,7 @@ fn run_entry(
 // The entries that a list reads as, each with the lamps and the memories that the one before left.
 pub fn run_list(
     settings: Settings,
-    lamps: [Lamp; 32],
+    mut lamps: [Lamp; 32],
     list: &[u8],
     ram: &mut [u8],
     eeprom: &mut [u8],
@@ -67,34 +67,30 @@ pub fn run_list(
     ensures { λ r. ⌜ held settings r (now (ram .exit)) (now (eeprom .exit)) (now (external .exit))
         ≡ runItems entryAfter (reading (now (list .entry)) .items) (held settings lamps (now (ram .entry)) (now (eeprom .entry)) (now (external .entry))) ⌝ }
 {
-    let mut after = lamps;
     let mut at: usize = 0;
     while at < list.len() {
-        let first = next_entry(&list[at..]);
         let Next::Entry {
             len,
             pnum,
             pcmd,
             hwpid,
-        } = first
+        } = next_entry(&list[at..])
         else {
-            return after;
+            return lamps;
         };
-        let from = at + HEAD;
-        let to = at + len;
         let next = run_entry(
             settings,
-            after,
+            lamps,
             pnum,
             pcmd,
             hwpid,
-            &list[from..to],
+            &list[at + HEAD..at + len],
             ram,
             eeprom,
             external,
         );
-        after = next;
-        at = to;
+        lamps = next;
+        at = at + len;
     }
-    after
+    lamps
 }

@@ -15,23 +15,23 @@ use Rattle.batch.proofs.entry.next_entry.Reads as next-entry-reads
 use Rattle.handler.proofs.entries.run_entry.Reads as run-entry-reads
 
 abbrev Inv-loop : tie.InvT-loop
-Inv-loop settings list ram₀ eeprom₀ external₀ after₀ at₀ ram eeprom external after at =
-    Running list (held settings after₀ ram₀ eeprom₀ external₀) at (held settings after ram eeprom external)
+Inv-loop settings lamps₀ list ram₀ eeprom₀ external₀ at₀ lamps ram eeprom external at =
+    Running list (held settings lamps₀ ram₀ eeprom₀ external₀) at (held settings lamps ram eeprom external)
     × (length ram ≡ length ram₀) × (length eeprom ≡ length eeprom₀) × (length external ≡ length external₀)
 
 abbrev μ-loop : tie.MeasureT-loop
-μ-loop settings list ram₀ eeprom₀ external₀ after₀ at₀ ram eeprom external after at = length list - at
+μ-loop settings lamps₀ list ram₀ eeprom₀ external₀ at₀ lamps ram eeprom external at = length list - at
 
 -- the entry that stands at the place
 first-is : (c : tie.After-known-told Inv-loop μ-loop) →
     let list = c .before .before .before .before .before .before .before .before .before .before .before .args .list .now in
     let at = c .before .before .before .before .before .before .loop .at in
-    let g = c .before .first .given .0 in
+    let g = c .before .len .given .0 in
     nextOf (take (length list - at) (drop at list)) ≡ Entry (g .0) (g .1 .0) (g .1 .1 .0) (g .1 .1 .1 .0)
-first-is c = sym (c .before .before .before .next-entry .ensures) ∙ c .before .first .given .1
+first-is c = sym (c .before .before .before .next-entry .ensures) ∙ c .before .len .given .1
 
 sized : (c : tie.After-known-told Inv-loop μ-loop) →
-    (5 ≤ c .before .first .given .0 .0) × (c .before .before .before .before .before .before .loop .at + c .before .first .given .0 .0 ≤ length (c .before .before .before .before .before .before .before .before .before .before .before .args .list .now))
+    (5 ≤ c .before .len .given .0 .0) × (c .before .before .before .before .before .before .loop .at + c .before .len .given .0 .0 ≤ length (c .before .before .before .before .before .before .before .before .before .before .before .args .list .now))
 sized c = turn-sized _ _ _ _ (c .before .before .before .before .before .before .loop .inv .0) (first-is c)
 
 loop-holds : tie.Need-loop-holds Inv-loop μ-loop
@@ -49,8 +49,8 @@ part-next-entry-end c = search needs
 next-entry-requires : tie.Need-next-entry-requires Inv-loop μ-loop
 next-entry-requires c κs = search needs
 
-enum-known-first : tie.Need-enum-known-first Inv-loop μ-loop
-enum-known-first c = search needs
+enum-known-len : tie.Need-enum-known-len Inv-loop μ-loop
+enum-known-len c = search needs
 
 same-length : tie.Need-same-length Inv-loop μ-loop
 same-length c = search needs
@@ -64,11 +64,11 @@ same-length-3 c = search needs
 returns : tie.Need-returns Inv-loop μ-loop
 returns c = turn-ends _ _ _ _ (c .before .before .before .before .loop .inv .0) (c .before .next-entry .ensures) (c .match .keys2)
 
-add-from : tie.Need-add-from Inv-loop μ-loop
-add-from c = let z = sized c in omega arith
+add-run-entry : tie.Need-add-run-entry Inv-loop μ-loop
+add-run-entry c = let z = sized c in omega arith
 
-add-to : tie.Need-add-to Inv-loop μ-loop
-add-to c = let z = sized c in omega arith
+add-run-entry-2 : tie.Need-add-run-entry-2 Inv-loop μ-loop
+add-run-entry-2 c = let z = sized c in omega arith
 
 sub-run-entry : tie.Need-sub-run-entry Inv-loop μ-loop
 sub-run-entry c = let z = sized c in omega arith
@@ -81,6 +81,9 @@ part-run-entry-end c = let z = sized c in omega arith
 
 run-entry-requires : tie.Need-run-entry-requires Inv-loop μ-loop
 run-entry-requires c κs = c .before .before .before .before .before .before .before .before .before .before .loop .inv .0 .sound
+
+add-at : tie.Need-add-at Inv-loop μ-loop
+add-at c = let z = sized (c .before .before .before .before .before .before .before .before .before .before .before) in omega arith
 
 loop-less : tie.Need-loop-less Inv-loop μ-loop
 loop-less c = let z = sized (c .before .before .before .before .before .before .before .before .before .before .before) in omega arith
@@ -117,17 +120,18 @@ run-list-spec =
     part-next-entry-start
     part-next-entry-end
     next-entry-requires
-    enum-known-first
+    enum-known-len
     same-length
     same-length-2
     same-length-3
     returns
-    add-from
-    add-to
+    add-run-entry
+    add-run-entry-2
     sub-run-entry
     part-run-entry-start
     part-run-entry-end
     run-entry-requires
+    add-at
     loop-less
     loop-again
     same-length-4
