@@ -4,7 +4,7 @@ use dpa::pnum;
 use dpa::reply::Reply;
 use dpa::settings::Settings;
 use lights::lamp::Lamp;
-use lights::request::LightsReply;
+use lights::request::LampsReply;
 use memory::block::Memory;
 ghost use mathlib.Core.Path.{_≡_};
 ghost use Prim.Native.Nat.{_≤_};
@@ -14,10 +14,10 @@ ghost use Rattle.dpa.specs.Served.{laid, layOut};
 ghost use Rattle.handler.specs.Request.{held, StateRule, perform};
 
 // A request to a memory leaves the lamps alone.
-fn of_memory(lamps: [Lamp; 32], reply: Reply) -> LightsReply
+fn of_memory(lamps: [Lamp; 32], reply: Reply) -> LampsReply
     ensures { λ r. ⌜ r ≡ record { error = reply .error; length = reply .length; lamps = lamps } ⌝ }
 {
-    LightsReply {
+    LampsReply {
         error: reply.error,
         length: reply.length,
         lamps,
@@ -35,7 +35,7 @@ pub fn peripheral(
     eeprom: &mut [u8],
     external: &mut [u8],
     out: &mut [u8],
-) -> LightsReply
+) -> LampsReply
     requires { ⌜ StateRule (held settings lamps (now ram) (now eeprom) (now external)) × (pdataMax ≤ length (now out)) ⌝ }
     ensures { λ r. ⌜ laid (held settings (r .lamps) (now (ram .exit)) (now (eeprom .exit)) (now (external .exit))) (r .error) (r .length) (now (out .exit))
         ≡ layOut (perform pnum pcmd (now (pdata .entry)) (held settings lamps (now (ram .entry)) (now (eeprom .entry)) (now (external .entry)))) (now (out .entry)) ⌝ }
@@ -55,7 +55,7 @@ pub fn peripheral(
     if pnum == pnum::LIGHTS {
         return lights::request::request(settings, lamps, pcmd, pdata, out);
     }
-    LightsReply {
+    LampsReply {
         error: error::PNUM,
         length: 0,
         lamps,

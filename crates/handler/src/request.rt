@@ -15,7 +15,7 @@ use dpa::pnum;
 use dpa::refusal;
 use dpa::settings::Settings;
 use lights::lamp::Lamp;
-use lights::request::LightsReply;
+use lights::request::LampsReply;
 use memory::block::Memory;
 use memory::block::size_of;
 use node::record::Node;
@@ -30,7 +30,7 @@ ghost use Rattle.batch.specs.Batch.{item};
 ghost use Rattle.handler.specs.Request.{state, held, StateRule, delivered, deliver, carryOut, called, calledInParts, broadcast, respond, takenOf, requestRefusal, requestOf};
 
 // A request to a peripheral sets no load mark.
-fn of_peripheral(reply: LightsReply) -> Carried
+fn of_peripheral(reply: LampsReply) -> Carried
     ensures { λ r. ⌜ r ≡ record { error = reply .error; load = false; length = reply .length; lamps = reply .lamps } ⌝ }
 {
     let lamps = reply.lamps;

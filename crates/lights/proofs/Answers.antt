@@ -15,10 +15,10 @@ use Rattle.lights.proofs.Bits.{bits-mask}
 use Rattle.lights.proofs.Entries.{bad-entries}
 use Rattle.lights.specs.declared.apply.Command.{Command}
 use Rattle.lights.specs.declared.lamp.Lamp.{Lamp}
-use Rattle.lights.specs.declared.request.LightsReply.{LightsReply}
+use Rattle.lights.specs.declared.request.LampsReply.{LampsReply}
 
 -- a refused request leaves the lent bytes
-pub laid-refused : (r : LightsReply) (x : Served (List Lamp)) (e : ℕ) (ls : List Lamp) (o : List ℕ)
+pub laid-refused : (r : LampsReply) (x : Served (List Lamp)) (e : ℕ) (ls : List Lamp) (o : List ℕ)
     → r ≡ record { error = e; length = 0; lamps = ls } → x ≡ refused ls e
     → laid (r .lamps) (r .error) (r .length) o ≡ layOut x o
 laid-refused r x e ls o p q = rw (p, q)

@@ -27,7 +27,7 @@ pub const LOWER: u8 = 0x02;
 pub const ENUMERATE: u8 = 0x3E;
 
 // ErrN, how many bytes of data stand at the front of the lent buffer, and the lamps afterwards.
-pub struct LightsReply {
+pub struct LampsReply {
     pub error: u8,
     pub length: usize,
     pub lamps: [Lamp; 32],
@@ -50,10 +50,10 @@ fn selected(mask: u32) -> usize
     u32::count_ones(mask) as usize
 }
 
-fn refuse(error: u8, lamps: [Lamp; 32]) -> LightsReply
+fn refuse(error: u8, lamps: [Lamp; 32]) -> LampsReply
     ensures { λ r. ⌜ r ≡ record { error = error; length = 0; lamps = lamps } ⌝ }
 {
-    LightsReply {
+    LampsReply {
         error,
         length: 0,
         lamps,
@@ -77,7 +77,7 @@ fn change_lamps(
     command: Command,
     pdata: &[u8],
     out: &mut [u8],
-) -> LightsReply
+) -> LampsReply
     requires { ⌜ (settingsOk settings ≡ true) × Dimmed lamps × (32 ≤ length (now out)) ⌝ }
     ensures { λ r. ⌜ laid (r .lamps) (r .error) (r .length) (now (out .exit)) ≡ layOut (changeLamps settings command (now (pdata .entry)) lamps) (now (out .entry)) ⌝ }
 {
@@ -90,14 +90,14 @@ fn change_lamps(
         return refuse(error::DATA, lamps);
     }
     let after = apply(settings, command, mask, pdata, lamps, out);
-    LightsReply {
+    LampsReply {
         error: error::NONE,
         length,
         lamps: after,
     }
 }
 
-fn enumerate(settings: Settings, lamps: [Lamp; 32], pdata: &[u8], out: &mut [u8]) -> LightsReply
+fn enumerate(settings: Settings, lamps: [Lamp; 32], pdata: &[u8], out: &mut [u8]) -> LampsReply
     requires { ⌜ 32 ≤ length (now out) ⌝ }
     ensures { λ r. ⌜ laid (r .lamps) (r .error) (r .length) (now (out .exit)) ≡ layOut (enumerateLamps settings (now (pdata .entry)) lamps) (now (out .entry)) ⌝ }
 {
@@ -105,7 +105,7 @@ fn enumerate(settings: Settings, lamps: [Lamp; 32], pdata: &[u8], out: &mut [u8]
         return refuse(error::DATA_LEN, lamps);
     }
     out[0] = settings.lamp_count;
-    LightsReply {
+    LampsReply {
         error: error::NONE,
         length: 1,
         lamps,
@@ -119,7 +119,7 @@ pub fn request(
     pcmd: u8,
     pdata: &[u8],
     out: &mut [u8],
-) -> LightsReply
+) -> LampsReply
     requires { ⌜ (settingsOk settings ≡ true) × Dimmed lamps × (pdataMax ≤ length (now out)) ⌝ }
     ensures { λ r. ⌜ laid (r .lamps) (r .error) (r .length) (now (out .exit)) ≡ layOut (lightsRequest settings pcmd (now (pdata .entry)) lamps) (now (out .entry)) ⌝ }
 {
