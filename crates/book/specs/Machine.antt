@@ -1,5 +1,5 @@
 -- Document 01, "Scenes": the step machine, which does steps singly. It is written from its own paragraph; with the lights
--- request it shares the lamp record alone (`changed`, `off`).
+-- request it shares the records and the replacing of their fields alone (`changed`, `off`, `withLamps`, `nodeIs`).
 use mathlib.Core.Bool.{cond, _||_}
 use mathlib.Core.List.{List, [], _∷_}
 use Prim.Native.Nat.{ℕ, _+_, _-_, _*_, _%_, min}
