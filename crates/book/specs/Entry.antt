@@ -4,6 +4,9 @@ use mathlib.Core.List.{List, [], _∷_, _++_}
 use Prim.Native.Nat.{ℕ, _+_, _^_}
 use lib.Dec.{ltb, eqb}
 use Rattle.dpa.specs.Number.{low, high}
+use Rattle.dpa.specs.Pnum.{lightsPnum}
+use Rattle.memory.specs.declared.block.Memory.the-variants.{Eeprom, Ram}
+use Rattle.memory.specs.Block.{memoryPnum}
 use Rattle.batch.specs.Batch.{Item, item}
 use Rattle.book.specs.declared.step.Step.{Step}
 
@@ -45,7 +48,7 @@ kindOf (s ∷ ss) = s .kind
 
 -- lights, RAM or EEPROM
 unfoldable pub pnumOf : ℕ → ℕ
-pnumOf k = cond (ltb k 3) 0x71 (cond (eqb k 3) 0x05 0x03)
+pnumOf k = cond (ltb k 3) lightsPnum (cond (eqb k 3) (memoryPnum Ram) (memoryPnum Eeprom))
 
 -- set, raise, lower, or a memory's write
 unfoldable pub pcmdOf : ℕ → ℕ

@@ -2,4 +2,5 @@ pub mod Number
 pub mod Lists
 pub mod Settings
 pub mod Frame
+pub mod Pnum
 pub mod Served

@@ -8,9 +8,10 @@ use lib.Dec.{ltb, eqb}
 use Rattle.dpa.specs.declared.settings.Settings.{Settings}
 use Rattle.dpa.specs.Lists.{over}
 use Rattle.dpa.specs.Frame.{responseHeaderSize, longestResponse, broadcastNadr, anyHwpid, headerOf, pdataOf, frameFits, responseHeader}
+use Rattle.dpa.specs.Pnum.{osPnum, lightsPnum}
 use Rattle.dpa.specs.Served.{Served, served, refused, within}
 use Rattle.memory.specs.declared.block.Memory.the-variants.{Eeprom, Ram, External}
-use Rattle.memory.specs.Block.{sizeOf}
+use Rattle.memory.specs.Block.{memoryPnum, sizeOf}
 use Rattle.memory.specs.Request.{memoryRequest}
 use Rattle.lights.specs.declared.lamp.Lamp.{Lamp}
 use Rattle.lights.specs.Lights.{lightsRequest}
@@ -50,10 +51,10 @@ externalIs st x = state (st .node) (st .eeprom) x
 -- the memories and the lights, by PNUM
 unfoldable pub perform : ℕ → ℕ → List ℕ → State → Served State
 perform pnum pcmd pdata st =
-    cond (eqb pnum 3) (within (eepromIs st) (memoryRequest Eeprom pcmd pdata (st .eeprom)))
-    (cond (eqb pnum 4) (within (externalIs st) (memoryRequest External pcmd pdata (st .external)))
-    (cond (eqb pnum 5) (within (nodeIs st) (within (withRam (st .node)) (memoryRequest Ram pcmd pdata (st .node .ram))))
-    (cond (eqb pnum 0x71) (within (nodeIs st) (within (withLamps (st .node)) (lightsRequest (st .node .settings) pcmd pdata (st .node .lamps))))
+    cond (eqb pnum (memoryPnum Eeprom)) (within (eepromIs st) (memoryRequest Eeprom pcmd pdata (st .eeprom)))
+    (cond (eqb pnum (memoryPnum External)) (within (externalIs st) (memoryRequest External pcmd pdata (st .external)))
+    (cond (eqb pnum (memoryPnum Ram)) (within (nodeIs st) (within (withRam (st .node)) (memoryRequest Ram pcmd pdata (st .node .ram))))
+    (cond (eqb pnum lightsPnum) (within (nodeIs st) (within (withLamps (st .node)) (lightsRequest (st .node .settings) pcmd pdata (st .node .lamps))))
     (refused st 3))))
 
 -- the node's hardware profile, or the one that every node takes
@@ -114,7 +115,7 @@ osOf pcmd pdata st =
 unfoldable pub carryOut : Item → State → Outcome
 carryOut i st =
     cond (forNode (st .node .settings) (i .hwpid))
-    (cond (eqb (i .pnum) 2) (osOf (i .pcmd) (i .pdata) st) (plain (perform (i .pnum) (i .pcmd) (i .pdata) st)))
+    (cond (eqb (i .pnum) osPnum) (osOf (i .pcmd) (i .pdata) st) (plain (perform (i .pnum) (i .pcmd) (i .pdata) st)))
     (plain (refused st 7))
 
 -- the request of a frame

@@ -15,6 +15,15 @@ use Rattle.lights.specs.declared.entry.Entry.the-variants.{Valid, Invali
 use Rattle.lights.specs.declared.apply.Command.{Command}
 use Rattle.lights.specs.declared.apply.Command.the-variants.{Set, Raise, Lower}
 
+-- the PCMD of each command
+abbrev pub commandPcmd : Command → ℕ
+commandPcmd Set = 0x00
+commandPcmd Raise = 0x01
+commandPcmd Lower = 0x02
+
+abbrev pub enumeratePcmd : ℕ
+enumeratePcmd = 0x3E
+
 -- ---- an entry
 
 -- a power byte's low seven bits: a level of 0 to 100, or 127 to keep
@@ -45,6 +54,11 @@ firstEntry (b ∷ xs) =
     cond (powerOk (b % 128))
     (cond (ltb b 128) (Valid (change (b % 128) 0) 1) (timedEntry (b % 128) xs))
     Invalid
+
+-- the ErrN of an entry
+abbrev pub powerEntryError : Entry → ℕ
+powerEntryError (Valid e size) = 0
+powerEntryError Invalid = 6
 
 -- ---- all entries, read before any lamp changes
 
@@ -105,12 +119,12 @@ levelsBefore s n (suc b ∷ bs) (l ∷ ls) = cond (ltb 0 n) (actualLevel s (l .l
 abbrev pub answered : Settings → Command → List ℕ → List Lamp → Reading → Served (List Lamp)
 answered s c bs ls (good es) =
     served (lampsAfter c (s .«lamp_count») bs es ls) 0 (levelsBefore s (s .«lamp_count») bs ls)
-answered s c bs ls bad = refused ls 6
+answered s c bs ls bad = refused ls (powerEntryError Invalid)
 
 -- PData of set, raise and lower: four bitmap bytes, then an entry for each one-bit
 unfoldable pub changeLamps : Settings → Command → List ℕ → List Lamp → Served (List Lamp)
 changeLamps s c xs ls =
-    cond (ltb (length xs) 4) (refused ls 6)
+    cond (ltb (length xs) 4) (refused ls (powerEntryError Invalid))
     (answered s c (bitmap xs) ls (entries (count (bitmap xs)) (drop 4 xs)))
 
 -- 3E hex: the count of lamps
@@ -119,10 +133,10 @@ enumerateLamps s xs ls = cond (eqb (length xs) 0) (served ls 0 (s .«lamp_count�
 
 unfoldable pub lightsRequest : Settings → ℕ → List ℕ → List Lamp → Served (List Lamp)
 lightsRequest s pcmd xs ls =
-    cond (eqb pcmd 0x00) (changeLamps s Set xs ls)
-    (cond (eqb pcmd 0x01) (changeLamps s Raise xs ls)
-    (cond (eqb pcmd 0x02) (changeLamps s Lower xs ls)
-    (cond (eqb pcmd 0x3E) (enumerateLamps s xs ls)
+    cond (eqb pcmd (commandPcmd Set)) (changeLamps s Set xs ls)
+    (cond (eqb pcmd (commandPcmd Raise)) (changeLamps s Raise xs ls)
+    (cond (eqb pcmd (commandPcmd Lower)) (changeLamps s Lower xs ls)
+    (cond (eqb pcmd enumeratePcmd) (enumerateLamps s xs ls)
     (refused ls 2))))
 
 -- ---- what inner functions tell
@@ -137,4 +151,4 @@ isGood bad = false
 
 -- the command of a PCMD up to 02 hex
 unfoldable pub commandOf : ℕ → Command
-commandOf pcmd = cond (eqb pcmd 0x00) Set (cond (eqb pcmd 0x01) Raise Lower)
+commandOf pcmd = cond (eqb pcmd (commandPcmd Set)) Set (cond (eqb pcmd (commandPcmd Raise)) Raise Lower)

@@ -7,6 +7,12 @@ use lib.Dec.{leb, ltb}
 use Rattle.memory.specs.declared.block.Memory.{Memory}
 use Rattle.memory.specs.declared.block.Memory.the-variants.{Eeprom, Ram, External}
 
+-- the PNUM of each memory
+abbrev pub memoryPnum : Memory → ℕ
+memoryPnum Memory.Eeprom = 0x03
+memoryPnum Memory.Ram = 0x05
+memoryPnum Memory.External = 0x04
+
 abbrev pub sizeOf : Memory → ℕ
 sizeOf Memory.Eeprom = 192
 sizeOf Memory.Ram = 48

@@ -7,7 +7,7 @@ use lib.Dec.{eqb}
 use Rattle.dpa.specs.Lists.{part}
 use Rattle.memory.specs.declared.block.Memory.{Memory}
 use Rattle.memory.specs.declared.block.Memory.the-variants.{Eeprom, External}
-use Rattle.memory.specs.Block.{sizeOf, longestOf, blockFault}
+use Rattle.memory.specs.Block.{memoryPnum, sizeOf, longestOf, blockFault}
 
 -- the block rule: 15, then 16
 abbrev pub blockRefusal : Memory → ℕ → ℕ → ℕ
@@ -18,8 +18,8 @@ unfoldable pub viewStatus : List ℕ → List ℕ → ℕ → ℕ → ℕ → �
 viewStatus eeprom external pnum start n =
     cond (eqb (length eeprom) (sizeOf Memory.Eeprom))
     (cond (eqb (length external) (sizeOf Memory.External))
-    (cond (eqb pnum 3) (blockRefusal Memory.Eeprom start n)
-    (cond (eqb pnum 4) (blockRefusal Memory.External start n)
+    (cond (eqb pnum (memoryPnum Memory.Eeprom)) (blockRefusal Memory.Eeprom start n)
+    (cond (eqb pnum (memoryPnum Memory.External)) (blockRefusal Memory.External start n)
     10))
     4)
     4
@@ -28,5 +28,5 @@ viewStatus eeprom external pnum start n =
 unfoldable pub viewPart : List ℕ → List ℕ → ℕ → ℕ → ℕ → List ℕ
 viewPart eeprom external pnum start n =
     cond (eqb (viewStatus eeprom external pnum start n) 0)
-    (cond (eqb pnum 3) (part eeprom start n) (part external start n))
+    (cond (eqb pnum (memoryPnum Memory.Eeprom)) (part eeprom start n) (part external start n))
     []
