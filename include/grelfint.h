@@ -70,8 +70,11 @@ typedef struct grelfint_node_answer {
 
 typedef struct grelfint_request_answer {
     uint8_t refusal;
-    size_t length; /* bytes of the response; 0: nothing to send */
-    bool load;     /* a code check matched and asked for loading */
+    size_t length;  /* bytes of the response; 0: nothing to send */
+    bool load;      /* a code check matched and asked for loading */
+    bool addressed; /* not refused, and NADR is this node's address or 0x00FF.
+                     * A broadcast that was carried out and a frame for another
+                     * node both have length 0; only this field differs. */
     grelfint_node node;
 } grelfint_request_answer;
 

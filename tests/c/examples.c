@@ -31,6 +31,9 @@ _Static_assert(sizeof(grelfint_lamp) == 4, "lamp");
 _Static_assert(sizeof(grelfint_node) == 8 + 32 * 4 + 48, "node");
 _Static_assert(offsetof(grelfint_node, lamps) == 8, "lamps");
 _Static_assert(offsetof(grelfint_node, ram) == 136, "ram");
+_Static_assert(offsetof(grelfint_request_answer, load) == 16, "load");
+_Static_assert(offsetof(grelfint_request_answer, addressed) == 17, "addressed");
+_Static_assert(offsetof(grelfint_request_answer, node) == 18, "node of a request's answer");
 
 static grelfint_node node;
 static uint8_t eeprom[GRELFINT_EEPROM];
@@ -67,7 +70,7 @@ static void request(const char *name, uint8_t pnum, uint8_t pcmd,
         memcpy(want + 8, data, data_length);
     answer = grelfint_handle_request(node, frame, 6 + pdata_length, eeprom, sizeof eeprom,
                                      external, sizeof external, response, GRELFINT_RESPONSE);
-    check(name, answer.refusal == 0 && answer.length == 8 + data_length &&
+    check(name, answer.refusal == 0 && answer.addressed && answer.length == 8 + data_length &&
                     memcmp(response, want, sizeof want) == 0);
     node = answer.node;
     load_mark = answer.load;
@@ -111,6 +114,33 @@ static void lamps(void)
     request("level 100", 0x71, 0, BYTES(1, 0, 0, 0, 0x64), 0, BYTES(0));
     request("time 80", 0x71, 0, BYTES(1, 0, 0, 0, 0x80, 0x80), 6, NO_BYTES);
     check("level 100 stays", lamp_is(0, 100, 0));
+}
+
+/* Sends "set lamp 0 to 10" to a fresh node 1. The length cannot separate a
+ * broadcast from a frame for another node, so each case also gives
+ * `addressed` and the level that lamp 0 ends at. */
+static void send_set(const char *name, uint8_t nadr_low, uint8_t nadr_high, size_t response_length,
+                     uint8_t refusal, size_t length, bool addressed, uint8_t level)
+{
+    const uint8_t frame[11] = {nadr_low, nadr_high, 0x71, 0, 0xFF, 0xFF, 1, 0, 0, 0, 10};
+    grelfint_request_answer answer;
+
+    fresh(3, 1);
+    answer = grelfint_handle_request(node, frame, sizeof frame, eeprom, sizeof eeprom,
+                                     external, sizeof external, response, response_length);
+    check(name, answer.refusal == refusal && answer.length == length && answer.addressed == addressed &&
+                    !answer.load && answer.node.lamps[0].level == level);
+}
+
+static void addresses(void)
+{
+    send_set("own address", 1, 0, GRELFINT_RESPONSE, 0, 9, true, 10);
+    send_set("broadcast", 0xFF, 0, GRELFINT_RESPONSE, 0, 0, true, 10);
+    send_set("another node", 2, 0, GRELFINT_RESPONSE, 0, 0, false, 0);
+    send_set("own low byte, other high byte", 1, 1, GRELFINT_RESPONSE, 0, 0, false, 0);
+    send_set("broadcast with its bytes swapped", 0, 0xFF, GRELFINT_RESPONSE, 0, 0, false, 0);
+    send_set("own address, refused", 1, 0, GRELFINT_RESPONSE - 1, 3, 0, false, 0);
+    send_set("broadcast, refused", 0xFF, 0, GRELFINT_RESPONSE - 1, 3, 0, false, 0);
 }
 
 static void ticks(void)
@@ -229,6 +259,7 @@ static void scenes(void)
 int main(void)
 {
     lamps();
+    addresses();
     ticks();
     memories_and_code();
     batches();

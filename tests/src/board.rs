@@ -47,11 +47,11 @@ impl Board {
         )
     }
 
-    /// The whole answer: its bytes, and the load mark.
+    /// The response bytes and the load mark of a frame for this node or for all nodes.
     pub fn frame(&mut self, frame: &[u8]) -> (Vec<u8>, bool) {
         self.response.fill(0xEE);
         let a = self.request(self.node, frame, Lengths::USUAL);
-        assert_eq!(a.refusal, 0);
+        assert_eq!((a.refusal, a.addressed), (0, true));
         assert!(self.response[a.length..].iter().all(|&b| b == 0xEE), "later bytes stay");
         self.node = a.node;
         (self.response[..a.length].to_vec(), a.load)

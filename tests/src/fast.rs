@@ -65,12 +65,12 @@ pub fn handle_request(
 ) -> RequestAnswer {
     let refusal = refusal(&node, frame, eeprom, external, response);
     if refusal != 0 {
-        return RequestAnswer { refusal, length: 0, load: false, node };
+        return RequestAnswer { refusal, length: 0, load: false, addressed: false, node };
     }
     let nadr = u16::from_le_bytes([frame[0], frame[1]]);
     let broadcast = nadr == 0xFF;
     if !broadcast && nadr != node.settings.address {
-        return RequestAnswer { refusal: 0, length: 0, load: false, node };
+        return RequestAnswer { refusal: 0, length: 0, load: false, addressed: false, node };
     }
     let mut memories = Memories { eeprom: eeprom.try_into().unwrap(), external: external.try_into().unwrap() };
     let mut scratch = [0u8; 56];
@@ -81,12 +81,12 @@ pub fn handle_request(
         Err(error) => (error, 0),
     };
     if broadcast {
-        return RequestAnswer { refusal: 0, length: 0, load, node };
+        return RequestAnswer { refusal: 0, length: 0, load, addressed: true, node };
     }
     let s = &node.settings;
     let (a, h) = (s.address.to_le_bytes(), s.hwpid.to_le_bytes());
     response[..8].copy_from_slice(&[a[0], a[1], frame[2], frame[3] | 0x80, h[0], h[1], error, s.dpa_value]);
-    RequestAnswer { refusal: 0, length: 8 + length, load, node }
+    RequestAnswer { refusal: 0, length: 8 + length, load, addressed: true, node }
 }
 
 /// `data` is none for an entry of a batch: nobody reads its answer.

@@ -47,6 +47,7 @@ pub struct RequestAnswer {
     pub refusal: u8,
     pub length: usize,
     pub load: bool,
+    pub addressed: bool,
     pub node: Node,
 }
 

@@ -116,7 +116,7 @@ pub fn handle_request(
     external: &mut [u8],
     response: &mut [u8],
 ) -> RequestAnswer {
-    let nothing_done = |refusal| RequestAnswer { refusal, length: 0, load: false, node };
+    let nothing_done = |refusal| RequestAnswer { refusal, length: 0, load: false, addressed: false, node };
     if !node_rule(&node) {
         return nothing_done(1);
     }
@@ -146,7 +146,7 @@ pub fn handle_request(
         length = bytes.len();
         response[..length].copy_from_slice(&bytes);
     }
-    RequestAnswer { refusal: 0, length, load, node: parts.node }
+    RequestAnswer { refusal: 0, length, load, addressed: true, node: parts.node }
 }
 
 fn response_bytes(s: &Settings, pnum: u8, pcmd: u8, error: u8, data: &[u8]) -> Vec<u8> {

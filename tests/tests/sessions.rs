@@ -91,8 +91,35 @@ struct Seen {
     calls: u64,
     refusals: [u64; 20],
     errors: [u64; 8],
-    no_answer: u64,
     loads: u64,
+    requests: Requests,
+}
+
+/// Requests by what became of them.
+#[derive(Default, Debug, PartialEq)]
+struct Requests {
+    own: u64,
+    broadcast: u64,
+    other_node: u64,
+    refused: u64,
+}
+
+impl Requests {
+    fn count(&mut self, a: &RequestAnswer) {
+        let kind = match (a.refusal, a.addressed, a.length) {
+            (0, true, 8..) => &mut self.own,
+            (0, true, 0) => &mut self.broadcast,
+            (0, false, 0) => &mut self.other_node,
+            (1.., false, 0) => &mut self.refused,
+            _ => panic!("an answer of none of the four kinds: {a:?}"),
+        };
+        *kind += 1;
+    }
+
+    fn assert_every_kind(&self) {
+        let Requests { own, broadcast, other_node, refused } = *self;
+        assert!([own, broadcast, other_node, refused].iter().all(|&n| n > 0), "a kind never seen: {self:?}");
+    }
 }
 
 /// The same calls on a board of the tested side and on one of the reference.
@@ -174,10 +201,9 @@ impl Session {
             )
         });
         self.seen.loads += b.load as u64;
+        self.seen.requests.count(&b);
         if b.length >= 8 {
             self.seen.errors[self.plain.response[6] as usize] += 1;
-        } else if b.refusal == 0 {
-            self.seen.no_answer += 1;
         }
         b
     }
@@ -454,7 +480,9 @@ impl Session {
             self.expect(sound, || format!("request {i}: entries {errors:?}\n{}", call.inputs(&before)));
             let a = self.take(frame, Lengths::USUAL);
             let taken = if call.address == 255 { a.length == 0 } else { a.length == 8 && self.tested.response[6] == 0 };
-            self.expect(a.refusal == 0 && taken, || format!("request {i}: {a:?}\n{}", call.inputs(&before)));
+            self.expect(a.refusal == 0 && a.addressed && taken, || {
+                format!("request {i}: {a:?}\n{}", call.inputs(&before))
+            });
         }
         let same = self.tested.eeprom == end.eeprom && self.tested.external == end.external;
         self.expect(self.tested.node == end.node && same, || {
@@ -526,8 +554,24 @@ fn random_sessions() {
         let errors = s.seen.errors;
         assert!(errors.iter().all(|&n| n > 0), "an ErrN never seen: {errors:?}");
         assert!(s.seen.loads > 0);
+        s.seen.requests.assert_every_kind();
         assert!(errors[0] * 2 > errors.iter().sum::<u64>(), "valid requests are rare");
     }
+}
+
+/// The node's own address and 0x00FF are addressed, no other of the 65,536 values.
+#[test]
+fn every_nadr() {
+    let mut s = Session::new("every_nadr", LIBRARY);
+    let mut addressed = Vec::new();
+    for nadr in 0..=0xFFFFu16 {
+        let [low, high] = nadr.to_le_bytes();
+        if s.take(&[low, high, 0x71, 0x3E, 0xFF, 0xFF], Lengths::USUAL).addressed {
+            addressed.push(nadr);
+        }
+    }
+    assert_eq!(addressed, [s.plain.node.settings.address, 0x00FF]);
+    assert_eq!(s.seen.requests, Requests { own: 1, broadcast: 1, other_node: 65_534, refused: 0 });
 }
 
 #[test]
@@ -639,4 +683,5 @@ fn fast_agrees() {
         let after = s.tick(s.plain.node);
         s.set_node(after);
     });
+    s.seen.requests.assert_every_kind();
 }

@@ -3,8 +3,8 @@
 //! are not marked P (and, cheaply, those that are), the light standard's step
 //! table and examples (001), the confirmation's figures (003), and the
 //! guide's batch and confirmation examples (000).
-use grelfint_tests::board::Board;
-use grelfint_tests::ffi::{FrcAnswer, Lamp, Node};
+use grelfint_tests::board::{Board, Lengths};
+use grelfint_tests::ffi::{FrcAnswer, Lamp, Node, RequestAnswer};
 use grelfint_tests::reference;
 use grelfint_tests::sides::{Side, LIBRARY, REFERENCE};
 
@@ -25,6 +25,9 @@ on_both_sides! {
     level_100_is_accepted_101_is_not,
     one_bad_entry_changes_no_lamp,
     batch_first_entry_is_not_all,
+    addressed_by_nadr,
+    addressed_despite_an_error,
+    refused_is_not_addressed,
     checksums,
     batches_of_one_byte_and_of_a_short_entry,
     compiled_scene,
@@ -75,6 +78,51 @@ fn batch_first_entry_is_not_all(side: Side) {
     let list = [10, 0x71, 0, 0xFF, 0xFF, 1, 0, 0, 0, 10, 10, 0x71, 1, 0xFF, 0xFF, 2, 0, 0, 0, 20, 0];
     assert_eq!(b.take(2, 5, &list), (0, vec![]));
     assert_eq!(b.lamps(3), [(10, 0), (20, 0), (0, 0)]);
+}
+
+// ---- document 01, "Taking a request": which frames are for this node ----
+/// Sets lamp 0 of a node to 10.
+fn set_frame(nadr: u16, hwpid: u16) -> Vec<u8> {
+    let ([a, b], [c, d]) = (nadr.to_le_bytes(), hwpid.to_le_bytes());
+    vec![a, b, 0x71, 0, c, d, 1, 0, 0, 0, 10]
+}
+
+fn addressed_by_nadr(side: Side) {
+    let other = [2u16, 0x0101, 0x0100, 0, 0xFF00, 0x01FF, 0xFFFF].map(|nadr| (nadr, 0, false, 0));
+    for (nadr, length, addressed, level) in [(1, 9, true, 10), (0x00FF, 0, true, 10)].into_iter().chain(other) {
+        let mut b = Board::started(side, 3, 1);
+        let a = b.request(b.node, &set_frame(nadr, 0xFFFF), Lengths::USUAL);
+        assert_eq!((a.refusal, a.length, a.addressed), (0, length, addressed), "NADR {nadr:04X}");
+        assert_eq!(a.node.lamps[0].level, level, "NADR {nadr:04X}");
+    }
+}
+
+fn addressed_despite_an_error(side: Side) {
+    for (nadr, length) in [(1, 8), (0x00FF, 0)] {
+        let mut b = Board::started(side, 3, 1);
+        let a = b.request(b.node, &set_frame(nadr, 0x1234), Lengths::USUAL); // ErrN 7
+        let want = RequestAnswer { refusal: 0, length, load: false, addressed: true, node: b.node };
+        assert_eq!(a, want, "NADR {nadr:04X}");
+    }
+}
+
+fn refused_is_not_addressed(side: Side) {
+    let usual = Lengths::USUAL;
+    for nadr in [1, 0x00FF] {
+        let mut b = Board::started(side, 3, 1);
+        let mut broken = b.node;
+        broken.settings.step = 3;
+        for (refusal, node, frame_length, lent) in [
+            (1, broken, 11, usual),
+            (2, b.node, 5, usual),
+            (3, b.node, 11, Lengths { response: 63, ..usual }),
+            (4, b.node, 11, Lengths { eeprom: 191, ..usual }),
+        ] {
+            let a = b.request(node, &set_frame(nadr, 0xFFFF)[..frame_length], lent);
+            let want = RequestAnswer { refusal, length: 0, load: false, addressed: false, node };
+            assert_eq!(a, want, "NADR {nadr:04X}");
+        }
+    }
 }
 
 // ---- document 01, marked P: run as well ----
