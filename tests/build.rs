@@ -1,5 +1,5 @@
 //! Links ../target/staticlib/libgrelfint.a. `-bundle` keeps the archive out
-//! of this package's own rlib, so that `cargo build --lib` works without it.
+//! of this package's rlib, so that `cargo build --lib` works without it.
 use std::path::Path;
 
 fn main() {

@@ -1,12 +1,12 @@
-/* The worked examples of document 01 from C, against include/grelfint.h. From
- * the repository's root:
+/* Document 01's worked examples in C, with include/grelfint.h. From the
+ * repository's root:
  *
  *   rt staticlib grelfint && mkdir -p target/tests
  *   gcc -std=c11 -Wall -Wextra -Werror -Iinclude tests/c/examples.c \
  *       target/staticlib/libgrelfint.a -o target/tests/examples
  *   target/tests/examples
  *
- * Prints what fails, then `N passed` (or `N passed, M failed`, status 1). */
+ * Prints each failure, then `N passed` (or `N passed, M failed`, exit status 1). */
 #include <stdio.h>
 #include <string.h>
 
@@ -25,7 +25,7 @@ static void check(const char *name, bool holds)
     }
 }
 
-/* Layout: the fields lie where the library expects them. */
+/* The fields are at the offsets that the library uses. */
 _Static_assert(sizeof(grelfint_settings) == 8, "settings");
 _Static_assert(sizeof(grelfint_lamp) == 4, "lamp");
 _Static_assert(sizeof(grelfint_node) == 8 + 32 * 4 + 48, "node");
@@ -245,7 +245,7 @@ static void scenes(void)
                                     sizeof external, response, GRELFINT_RESPONSE);
     node = taken.node;
     check("taken", taken.refusal == 0 && taken.length == 8 && response[6] == 0);
-    check("as the steps", lamp_is(0, 10, 0) && lamp_is(1, 0, 0) && lamp_is(2, 100, 120));
+    check("same as the steps", lamp_is(0, 10, 0) && lamp_is(1, 0, 0) && lamp_is(2, 100, 120));
     answer = grelfint_compile(book, sizeof book, 0, 255, 0x2471, out, sizeof out);
     check("broadcast", answer.refusal == 0 && out[2] == 0xFF && out[3] == 0 && out[6] == 0x71 && out[7] == 0x24);
     answer = grelfint_compile_default(bad, sizeof bad, 0, 1, out, sizeof out);

@@ -1,5 +1,5 @@
-//! A node with its memories and its response buffer on one side, and books
-//! of steps.
+//! A node with its memories and response buffer, run on one of the sides, and
+//! books built from steps.
 use crate::ffi::{Node, RequestAnswer, Settings};
 use crate::reference::{EEPROM_SIZE, EXTERNAL_SIZE};
 use crate::sides::Side;
@@ -13,7 +13,7 @@ pub struct Board {
     pub response: Vec<u8>,
 }
 
-/// How much of each buffer a call is lent.
+/// How many bytes of each buffer are passed to a call.
 #[derive(Clone, Copy, Debug)]
 pub struct Lengths {
     pub eeprom: usize,
@@ -26,7 +26,7 @@ impl Lengths {
 }
 
 impl Board {
-    /// A started node 1 of the profile 0x2471, its memories zeros.
+    /// A fresh node with address 1 and HWPID 0x2471, and memories of zeros.
     pub fn started(side: Side, lamp_count: u8, step: u8) -> Board {
         let settings = Settings { address: 1, hwpid: 0x2471, dpa_value: 7, lamp_count, step };
         let a = (side.start)(settings);
@@ -36,7 +36,7 @@ impl Board {
         Board { side, node: a.node, eeprom, external, response: vec![0xEE; 64] }
     }
 
-    /// The call itself; the board's own node stays as it is.
+    /// The call itself; the board's node is not updated.
     pub fn request(&mut self, node: Node, frame: &[u8], lent: Lengths) -> RequestAnswer {
         (self.side.handle_request)(
             node,
@@ -52,12 +52,12 @@ impl Board {
         self.response.fill(0xEE);
         let a = self.request(self.node, frame, Lengths::USUAL);
         assert_eq!((a.refusal, a.addressed), (0, true));
-        assert!(self.response[a.length..].iter().all(|&b| b == 0xEE), "later bytes stay");
+        assert!(self.response[a.length..].iter().all(|&b| b == 0xEE), "a byte after the response changed");
         self.node = a.node;
         (self.response[..a.length].to_vec(), a.load)
     }
 
-    /// ErrN and data of a request to this node under the wildcard profile.
+    /// ErrN and data of a request to this node with HWPID 0xFFFF.
     pub fn take(&mut self, pnum: u8, pcmd: u8, pdata: &[u8]) -> (u8, Vec<u8>) {
         let mut frame = vec![1, 0, pnum, pcmd, 0xFF, 0xFF];
         frame.extend_from_slice(pdata);
@@ -72,7 +72,7 @@ impl Board {
     }
 }
 
-/// A well-formed book of these scenes.
+/// A well-formed book with these scenes.
 pub fn book_of(scenes: &[Vec<[u8; 4]>]) -> Vec<u8> {
     let mut book = vec![scenes.len() as u8];
     let mut at = 1 + 3 * scenes.len();

@@ -1,5 +1,5 @@
-//! Document 01's rules written for speed and without allocation: the other
-//! side of the benchmark. `sessions.rs` compares it with the plain reference.
+//! Document 01's rules implemented for speed and without allocation, as the
+//! benchmark's baseline. `sessions.rs` compares it with the plain reference.
 use super::ffi::{CompileAnswer, Lamp, Node, NodeAnswer, RequestAnswer};
 
 fn sound(node: &Node) -> bool {
@@ -89,7 +89,7 @@ pub fn handle_request(
     RequestAnswer { refusal: 0, length: 8 + length, load, addressed: true, node }
 }
 
-/// `data` is none for an entry of a batch: nobody reads its answer.
+/// `data` is none for an entry of a batch, whose answer is not sent.
 #[inline]
 fn one(
     node: &mut Node,
@@ -179,7 +179,7 @@ fn actual(level: u8, step: u8) -> u8 {
     }
 }
 
-/// Whether these bytes are that many good entries.
+/// Whether the bytes are exactly `count` valid entries.
 #[inline]
 fn entries_good(entries: &[u8], count: usize) -> bool {
     let mut i = 0;
@@ -316,7 +316,7 @@ fn good(s: &[u8]) -> bool {
     }
 }
 
-/// The steps of a scene, or the refusal (6 or 7).
+/// The bytes of a scene's steps, or the refusal (6 or 7).
 #[inline]
 fn steps_of(book: &[u8], scene: usize) -> Result<&[u8], u8> {
     let Some(&n) = book.first() else { return Err(6) };
@@ -345,13 +345,13 @@ fn steps_of(book: &[u8], scene: usize) -> Result<&[u8], u8> {
     Ok(&book[body])
 }
 
-/// Writes the entry of as many first steps as join; answers its bytes and
-/// the bytes of those steps.
+/// Writes the entry that joins as many of the first steps as the rule allows.
+/// Returns the entry's length and the number of step bytes consumed.
 #[inline]
 fn first_entry(steps: &[u8], h: [u8; 2], e: &mut [u8; 64]) -> (usize, usize) {
     let kind = steps[0];
     let lamps = kind <= 2;
-    let mut size = if lamps { 4 } else { 1 }; // PData of the entry
+    let mut size = if lamps { 4 } else { 1 }; // bytes of the entry's PData
     e[5] = if lamps { 0 } else { steps[1] };
     e[6..9].fill(0);
     let mut taken = 0;
@@ -386,18 +386,18 @@ fn first_entry(steps: &[u8], h: [u8; 2], e: &mut [u8; 64]) -> (usize, usize) {
     (5 + size, taken)
 }
 
-/// Requests one behind the other, and the length of each.
+/// The requests, one after the other, and the length of each.
 struct Requests {
     bytes: [u8; 2048],
     used: usize,
     lengths: [u8; 64],
     count: usize,
-    /// Bytes of the last one's list.
+    /// Bytes in the last request's list so far.
     list: usize,
 }
 
 impl Requests {
-    /// An entry goes behind the last one, or opens a new request.
+    /// Appends an entry to the last request, or opens a new one if it does not fit.
     #[inline]
     fn add(&mut self, entry: &[u8], header: &[u8; 6]) {
         if self.count == 0 || self.list + entry.len() + 1 > 56 {
@@ -412,7 +412,7 @@ impl Requests {
         self.list += entry.len();
     }
 
-    /// The zero and the length of the last request, if there is one.
+    /// Writes the closing zero and the length of the last request, if there is one.
     #[inline]
     fn close(&mut self) {
         if self.count != 0 {
@@ -423,8 +423,8 @@ impl Requests {
     }
 }
 
-/// One pass over the steps: the requests are made in a buffer of their own
-/// and copied behind their lengths.
+/// One pass over the steps: the output starts with the lengths, which are not
+/// known before, so the requests are first built in a scratch buffer.
 #[inline(never)]
 pub fn compile(book: &[u8], scene: usize, address: u16, hwpid: u16, out: &mut [u8]) -> CompileAnswer {
     let refused = |refusal, step| CompileAnswer { refusal, step, length: 0 };

@@ -1,5 +1,5 @@
-//! The C interface of libgrelfint.a as include/grelfint.h declares it, and
-//! safe wrappers over it. A slice is a pointer and a length.
+//! The C interface of libgrelfint.a as declared in include/grelfint.h, with
+//! safe wrappers. A slice is passed as a pointer and a length.
 
 #[repr(C)]
 #[derive(Clone, Copy, Debug, PartialEq, Eq, Default)]
@@ -161,8 +161,8 @@ mod raw {
     }
 }
 
-// SAFETY, for each wrapper: the slices are live for the call, mutable ones
-// are not shared, and their true lengths are passed.
+// SAFETY, for each wrapper: every slice outlives the call, mutable ones have
+// no alias, and the lengths passed are those of the slices.
 
 pub fn start(settings: Settings) -> NodeAnswer {
     unsafe { raw::grelfint_start(settings) }

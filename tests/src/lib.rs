@@ -1,7 +1,7 @@
-//! What the tests share: the C interface, the plain reference written from
-//! document 01 and the decided open points, the same rules written for speed
-//! (benchmark), these three as sides of a test, a board to run them on, and
-//! random inputs.
+//! Shared by the tests: the C interface; the plain reference, written from
+//! document 01 and the decided open points; a fast implementation of the same
+//! rules for the benchmark; a common interface to these three; a board to run
+//! them on; and random inputs.
 pub mod board;
 pub mod fast;
 pub mod ffi;

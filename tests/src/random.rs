@@ -1,19 +1,19 @@
-//! Random nodes, boards, frames and books: mostly valid, at the borders
-//! often, and each kind of fault now and then.
+//! Random nodes, boards, frames and books: mostly valid, often at a limit, and
+//! occasionally with each kind of fault.
 use crate::board::{book_of, Board, Lengths};
 use crate::ffi::{Lamp, Node, Settings};
 use crate::reference::{self, EEPROM_SIZE, EXTERNAL_SIZE};
 use crate::rng::Rng;
 use crate::sides::Side;
 
-/// Bytes behind each part that no call is lent.
+/// Bytes at the end of each buffer that are never passed to a call.
 pub const GUARD: usize = 64;
-/// How much longer than its memory a lent part may be.
+/// How much longer than the memory a slice passed for it may be.
 pub const EXCESS: usize = 64;
-/// The most that a call is lent of the response buffer.
+/// The longest response buffer passed to a call.
 const RESPONSE: usize = 300;
 
-/// A board of random bytes with guard bytes behind each part.
+/// A board of random bytes, with guard bytes after each buffer.
 pub fn board(g: &mut Rng, side: Side, node: Node) -> Board {
     let mut eeprom = vec![0; EEPROM_SIZE + EXCESS + GUARD];
     let mut external = vec![0; EXTERNAL_SIZE + EXCESS + GUARD];
@@ -58,7 +58,8 @@ pub fn node(g: &mut Rng) -> Node {
     node
 }
 
-/// One fault, or several, in a sound node (sometimes none, at the borders).
+/// A sound node with one or two fields changed, usually to an invalid value; the
+/// changes include the nearest valid values, so the node may stay sound.
 pub fn broken(g: &mut Rng, mut node: Node) -> Node {
     for _ in 0..g.within(1, 2) {
         let lamp = g.below(32);
@@ -166,7 +167,7 @@ fn memory_pdata(g: &mut Rng, pnum: u8, reading: bool, limit: usize) -> Vec<u8> {
     pdata
 }
 
-/// A small change somewhere in the bytes.
+/// Makes a small change somewhere in the bytes.
 fn change(g: &mut Rng, bytes: &mut Vec<u8>) {
     match g.below(6) {
         0 => {
@@ -186,7 +187,7 @@ fn change(g: &mut Rng, bytes: &mut Vec<u8>) {
     }
 }
 
-/// A request that may also stand in a batch: PNUM, PCMD, PData.
+/// PNUM, PCMD and PData of a request that is also allowed inside a batch.
 fn plain_request(g: &mut Rng, node: &Node, limit: usize) -> (u8, u8, Vec<u8>) {
     let (pnum, pcmd, mut pdata) = match g.below(100) {
         0..=49 => (0x71, g.below(3) as u8, lamp_pdata(g, node.settings.lamp_count, limit)),
@@ -252,13 +253,13 @@ fn batch_pdata(g: &mut Rng, node: &Node) -> Vec<u8> {
 fn spoil_list(g: &mut Rng, list: &mut Vec<u8>) {
     match g.below(6) {
         0 => {
-            list.pop(); // no zero
+            list.pop(); // the closing zero is missing
         }
         1 => list.push(0),
         2 => list.push(g.byte()),
         3 => {
             let last = list.len() - 1;
-            list[last] = g.within(1, 60) as u8; // cannot be taken apart
+            list[last] = g.within(1, 60) as u8; // an entry that cannot be read
         }
         4 => list[0] = g.within(0, 60) as u8,
         _ => change(g, list),
@@ -319,7 +320,7 @@ pub fn frame(g: &mut Rng, node: &Node, external: &[u8]) -> Vec<u8> {
     frame
 }
 
-/// What a call is lent: now and then, or `often`, of a length it refuses.
+/// Buffer lengths for a call; occasionally, or `often`, lengths that it refuses.
 pub fn lengths(g: &mut Rng, often: bool) -> Lengths {
     let odd = |g: &mut Rng| if often { g.chance(1, 3) } else { g.chance(1, 60) };
     let eeprom = if odd(g) { g.pick(&[0, 1, 191, 193, 256, 48]) } else { EEPROM_SIZE };
@@ -335,11 +336,11 @@ pub fn lengths(g: &mut Rng, often: bool) -> Lengths {
 }
 
 // ---- books ----
-/// `runs` in 200 follow the step before, so that entries also grow to their limit.
+/// `runs` in 200 steps continue the step before, so that some entries reach their size limit.
 fn step(g: &mut Rng, before: Option<[u8; 4]>, bad: usize, runs: usize, timed: usize) -> [u8; 4] {
     let time = |g: &mut Rng| if !g.chance(timed, 100) { 0 } else { g.within(1, 127) as u8 | g.pick(&[0, 0x80]) };
     let mut step = match before {
-        // one that may join
+        // a step that may join the entry before
         Some(b) if g.chance(runs, 200) => match b[0] {
             0..=2 => {
                 let t = b[1] as usize + if g.chance(runs, 200) { 1 } else { g.within(0, 4) };
@@ -370,7 +371,7 @@ fn step(g: &mut Rng, before: Option<[u8; 4]>, bad: usize, runs: usize, timed: us
     step
 }
 
-/// A scene of which one step in `bad` may be bad (0: none).
+/// A random scene; about one step in `bad` may be bad (0: none).
 fn scene(g: &mut Rng, bad: usize) -> Vec<[u8; 4]> {
     let length = match g.below(6) {
         0 => 0,

@@ -1,5 +1,5 @@
-//! Document 01, "Exact rules and what to build", written again in the
-//! plainest way: no cleverness, no speed. Each part names its section.
+//! Document 01, "Exact rules and what to build", implemented as plainly as
+//! possible, without regard to speed. Headings name the document's sections.
 use super::ffi::{
     CompileAnswer, FrcAnswer, Lamp, LengthAnswer, Node, NodeAnswer, RequestAnswer, SendAnswer, Settings, SlotAnswer,
 };
@@ -91,7 +91,7 @@ pub fn tick_in_place(node: &mut Node) -> u8 {
 }
 
 // ---- Taking a request ----
-/// The node record and both memories that the node gets.
+/// The node record and the two memories passed with it.
 pub struct Parts<'a> {
     pub node: Node,
     pub eeprom: &'a mut [u8],
@@ -106,7 +106,7 @@ pub struct Request<'a> {
     pub pdata: &'a [u8],
 }
 
-/// Data of the answer and the load mark, or ErrN.
+/// The answer's data and the load mark, or ErrN.
 type DataOrError = Result<(Vec<u8>, bool), u8>;
 
 pub fn handle_request(
@@ -178,12 +178,12 @@ fn do_entry(parts: &mut Parts, entry: &Request) -> DataOrError {
         return Err(HWPID);
     }
     if entry.pnum == 0x02 {
-        return Err(PNUM); // the papers decide only that it is an error
+        return Err(PNUM); // document 01 only requires some error
     }
     do_peripheral(parts, entry)
 }
 
-/// Memories and lights, which a request and an entry of a batch may name.
+/// Memories and lights: allowed in a request and in an entry of a batch.
 fn do_peripheral(parts: &mut Parts, request: &Request) -> DataOrError {
     let Request { pnum, pcmd, pdata, .. } = *request;
     match pnum {
@@ -283,7 +283,7 @@ pub fn view_status(eeprom: &[u8], external: &[u8], pnum: u8, start: usize, lengt
 }
 
 // ---- Lights ----
-/// Seconds of a time byte; none for one that is an error.
+/// Seconds given by a time byte; none for an invalid one.
 fn seconds_of(time: u8) -> Option<u16> {
     match time {
         0x00 | 0x80 => None,
@@ -292,8 +292,8 @@ fn seconds_of(time: u8) -> Option<u16> {
     }
 }
 
-/// One selected lamp: its index, the low seven bits of the power byte, and
-/// the seconds if there is a time byte.
+/// One selected lamp: its index, the low seven bits of its power byte, and the
+/// seconds if there is a time byte.
 struct Entry {
     lamp: usize,
     power: u8,
@@ -367,9 +367,9 @@ fn read_batch(list: &[u8]) -> Option<Vec<Request<'_>>> {
     let mut entries = Vec::new();
     let mut at = 0;
     loop {
-        let length = *list.get(at)? as usize; // none: the zero is missing
+        let length = *list.get(at)? as usize; // none: the closing zero is missing
         if length == 0 {
-            // the zero is the last byte
+            // the closing zero must be the last byte
             return if at + 1 == list.len() { Some(entries) } else { None };
         }
         if length < 5 || at + length > list.len() {
@@ -381,7 +381,7 @@ fn read_batch(list: &[u8]) -> Option<Vec<Request<'_>>> {
     }
 }
 
-/// The ErrN of each entry, which no answer shows, or that of the batch.
+/// The ErrN of each entry, which is never sent, or the ErrN of the batch.
 pub fn do_batch(parts: &mut Parts, pdata: &[u8]) -> Result<Vec<u8>, u8> {
     if pdata.is_empty() {
         return Err(DATA_LEN);
@@ -523,7 +523,7 @@ pub fn earliest_send(
 // ---- Scenes ----
 pub type Step = [u8; 4]; // kind, target, value, time
 
-/// The scenes of a well-formed book, none of an ill-formed one.
+/// The scenes of a book; none if it is malformed.
 pub fn read_book(book: &[u8]) -> Option<Vec<Vec<Step>>> {
     let count = *book.first()? as usize;
     if count > 16 || book.len() < 1 + 3 * count {
@@ -557,7 +557,8 @@ pub fn step_is_good(step: Step) -> bool {
     }
 }
 
-/// The step machine, with arithmetic of its own.
+/// The step machine. It shares no arithmetic with `lights`, because the two are
+/// compared.
 pub fn do_step(parts: &mut Parts, step: Step) {
     if !step_is_good(step) {
         return;
@@ -591,7 +592,7 @@ fn do_lamp_step(lamp: &mut Lamp, kind: u8, value: u8, time: u8) {
     };
 }
 
-/// The entries that the joining rule makes: kind and the steps of each.
+/// Groups the steps into entries by the joining rule.
 fn join(steps: &[Step]) -> Vec<Vec<Step>> {
     let mut entries: Vec<Vec<Step>> = Vec::new();
     for &step in steps {
@@ -647,7 +648,7 @@ fn entry_bytes(steps: &[Step], hwpid: u16) -> Vec<u8> {
     bytes
 }
 
-/// The requests of a scene of good steps.
+/// The requests of a scene, all of whose steps are good.
 pub fn requests(steps: &[Step], address: u16, hwpid: u16) -> Vec<Vec<u8>> {
     let mut lists: Vec<Vec<u8>> = Vec::new();
     for entry in join(steps) {

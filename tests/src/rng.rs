@@ -1,16 +1,16 @@
-//! A xorshift generator: small, and the same sequence from the same seed.
+//! A xorshift generator: small, and a seed always gives the same sequence.
 /// Fixed, so that a run can be repeated.
 const DEFAULT_SEED: u64 = 20_261_115;
 
-/// A number from the environment.
+/// A number from the environment, or the default if it is not set.
 pub fn number(name: &str, default: u64) -> u64 {
     match std::env::var(name) {
-        Ok(text) => text.trim().parse().unwrap_or_else(|_| panic!("{name} is no number: {text}")),
+        Ok(text) => text.trim().parse().unwrap_or_else(|_| panic!("{name} is not a number: {text}")),
         Err(_) => default,
     }
 }
 
-/// The seed of a test, which it prints.
+/// The seed of a test; prints it, so that a failure can be repeated.
 pub fn seed(test: &str) -> u64 {
     let seed = number("GRELFINT_SEED", DEFAULT_SEED);
     println!("{test}: seed {seed} (GRELFINT_SEED)");
@@ -42,12 +42,12 @@ impl Rng {
         ((self.next() >> 32) as usize) % n
     }
 
-    /// A number from a to b, both included.
+    /// A number from a to b, inclusive.
     pub fn within(&mut self, a: usize, b: usize) -> usize {
         a + self.below(b - a + 1)
     }
 
-    /// True `of` times in `outof`.
+    /// True with a probability of `of` in `outof`.
     pub fn chance(&mut self, of: usize, outof: usize) -> bool {
         self.below(outof) < of
     }

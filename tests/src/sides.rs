@@ -1,5 +1,5 @@
-//! The calls of include/grelfint.h as the library, the plain reference and
-//! the fast one answer them, so that a test is written once for each of them.
+//! One type for the calls of include/grelfint.h, filled by the library, the
+//! plain reference and the fast implementation, so that a test is written once.
 use crate::ffi::*;
 use crate::{fast, ffi, reference};
 
@@ -41,7 +41,7 @@ macro_rules! side_of {
 pub const LIBRARY: Side = side_of!(ffi, "library");
 pub const REFERENCE: Side = side_of!(reference, "reference");
 
-/// Calls that the fast one lacks are the reference's.
+/// Calls without a fast implementation are the reference's.
 pub const FAST: Side = Side {
     name: "fast",
     tick: |node| fast::tick(node),

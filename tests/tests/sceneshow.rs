@@ -1,5 +1,5 @@
-//! Runs ../target/bin/sceneshow from outside and compares what it prints
-//! with the reference. `SCENESHOW` names another binary.
+//! Runs ../target/bin/sceneshow as a process and compares its output with the
+//! reference. `SCENESHOW` selects another binary.
 use grelfint_tests::board::book_of;
 use grelfint_tests::reference;
 use grelfint_tests::rng::{seed, Rng};
@@ -15,7 +15,7 @@ fn program() -> PathBuf {
     }
 }
 
-/// Feeds the book in pieces of `piece` bytes with a pause between them.
+/// Writes the book to standard input in pieces of `piece` bytes, with a pause after each.
 fn run(book: &[u8], piece: usize, pause: Duration) -> String {
     let path = program();
     let mut child = Command::new(&path)
@@ -28,7 +28,7 @@ fn run(book: &[u8], piece: usize, pause: Duration) -> String {
     let bytes = book.to_vec();
     let writer = std::thread::spawn(move || {
         for part in bytes.chunks(piece) {
-            // a program that has seen too much may close the pipe
+            // the program may exit before it has read an overlong book
             if stdin.write_all(part).and_then(|_| stdin.flush()).is_err() {
                 return;
             }
@@ -57,7 +57,7 @@ fn check(name: &str, book: &[u8]) {
 const EXAMPLE: [u8; 12] = [1, 4, 0, 2, 0, 0, 0x0A, 0, 0, 2, 0x64, 2];
 const PRINTED: &str = "lamp level actual left\n0 10 10 0\n1 0 0 0\n2 100 100 120\n";
 
-/// The longest whole book: 16 scenes of 64 steps.
+/// The longest valid book: 16 scenes of 64 steps.
 fn longest() -> Vec<u8> {
     let steps: Vec<[u8; 4]> = (0..64u8)
         .map(|i| [i % 3, i % 5, (i as u16 * 7 % 101) as u8, if i % 4 == 0 { 0x80 | i | 1 } else { 0 }])
@@ -74,7 +74,7 @@ fn the_papers_book() {
 }
 
 #[test]
-fn whole_books() {
+fn valid_books() {
     check("no steps", &[1, 4, 0, 0]);
     check("two scenes", &book_of(&[vec![[0, 1, 50, 0], [1, 1, 60, 3], [2, 0, 9, 0]], vec![[9, 9, 9, 9]]]));
     check("memories", &book_of(&[vec![[3, 47, 255, 0], [4, 191, 255, 0], [0, 2, 1, 0xFF]]]));
@@ -102,7 +102,7 @@ fn damaged_books() {
     }
     let mut longer = EXAMPLE.to_vec();
     longer.push(0);
-    check("a byte behind", &longer);
+    check("a byte after the end", &longer);
     check("17 scenes", &book_of(&vec![vec![[0, 0, 1, 0]]; 17]));
     check("65 steps", &book_of(&[vec![[0, 0, 1, 0]; 65]]));
     check("bad kind", &book_of(&[vec![[0, 0, 1, 0], [5, 0, 1, 0]]]));

@@ -1,8 +1,8 @@
-//! Random sessions through the C interface against the plain reference.
-//! The seed is printed; `GRELFINT_SEED` sets another, `GRELFINT_CALLS` the
-//! number of calls of the main test. A failing case prints all its inputs.
-//! After every call the answer and every lent part are compared whole, the
-//! guard bytes behind it included, also of parts that are only read.
+//! Random calls through the C interface, compared with the plain reference.
+//! Each test prints its seed; `GRELFINT_SEED` sets another, and `GRELFINT_CALLS`
+//! the number of calls in `random_sessions`. A failure prints all inputs.
+//! After every call the whole answer and every whole buffer are compared, with
+//! the guard bytes after it, including buffers that are only read.
 use grelfint_tests::board::{Board, Lengths};
 use grelfint_tests::ffi::{CompileAnswer, Lamp, Node, RequestAnswer, Settings};
 use grelfint_tests::random::{self, EXCESS, GUARD};
@@ -11,19 +11,19 @@ use grelfint_tests::rng::{number, seed, Rng};
 use grelfint_tests::sides::{Side, FAST, LIBRARY, REFERENCE};
 use std::hint::black_box;
 
-/// Stands before and behind a lent record.
+/// Placed before and after a record that a call writes.
 const GUARD_NODE: Node = Node {
     settings: Settings { address: 0xA5A5, hwpid: 0xA5A5, dpa_value: 0xA5, lamp_count: 0xA5, step: 0xA5 },
     lamps: [Lamp { level: 0xA5, seconds: 0xA5A5 }; 32],
     ram: [0xA5; 48],
 };
 
-// ---- what a failing case prints ----
+// ---- text of a failure ----
 fn hex(bytes: &[u8]) -> String {
     bytes.iter().map(|b| format!("{b:02X} ")).collect::<String>().trim_end().to_string()
 }
 
-/// Rows of 32 bytes; those that repeat the row before are left out.
+/// Rows of 32 bytes, without those that repeat the row before.
 fn rows(bytes: &[u8]) -> String {
     let mut text = String::new();
     let mut before: &[u8] = &[];
@@ -46,12 +46,12 @@ fn memories(b: &Board) -> String {
     )
 }
 
-/// Empty if the parts, of one length, are equal.
+/// Empty if the buffers are equal; they have the same length.
 fn difference(name: &str, tested: &[u8], plain: &[u8]) -> String {
     if tested == plain {
         return String::new();
     }
-    let i = tested.iter().zip(plain).position(|(x, y)| x != y).expect("one length");
+    let i = tested.iter().zip(plain).position(|(x, y)| x != y).expect("same length");
     format!("{name} differs at byte {i}: {:02X}, expected {:02X}\n", tested[i], plain[i])
 }
 
@@ -61,7 +61,7 @@ fn differences(tested: &Board, plain: &Board) -> String {
         + &difference("response buffer", &tested.response, &plain.response)
 }
 
-/// A part that is only read, with guard bytes behind it.
+/// A buffer that a call only reads, with guard bytes after it.
 struct Input {
     bytes: Vec<u8>,
     kept: Vec<u8>,
@@ -79,13 +79,13 @@ impl Input {
         &self.bytes[..self.length]
     }
 
-    /// The compiler may take a part lent for reading as unchanged; the test may not.
+    /// The optimizer may assume that a shared slice is unchanged; `black_box` keeps the comparison.
     fn difference(&self, name: &str) -> String {
         difference(name, black_box(&self.bytes), &self.kept)
     }
 }
 
-/// What the calls have answered, so that a generator that misses cases is noticed.
+/// Counts of what the calls answered, to detect a generator that misses cases.
 #[derive(Default, Debug)]
 struct Seen {
     calls: u64,
@@ -122,7 +122,7 @@ impl Requests {
     }
 }
 
-/// The same calls on a board of the tested side and on one of the reference.
+/// Runs the same calls on a board of the tested side and on one of the reference.
 struct Session {
     test: &'static str,
     seed: u64,
@@ -142,14 +142,14 @@ impl Session {
         Session { test, seed, g, seen: Seen::default(), tested, plain }
     }
 
-    /// Another random node on other memories.
+    /// Starts over with another random node and other memories.
     fn new_boards(&mut self) {
         let node = random::node(&mut self.g);
         self.tested = random::board(&mut self.g, self.tested.side, node);
         self.plain = Board { side: REFERENCE, ..self.tested.clone() };
     }
 
-    /// So many calls on each of so many boards.
+    /// Makes `calls` calls on each of `boards` new boards.
     fn run(&mut self, boards: usize, calls: usize, call: fn(&mut Session)) {
         for _ in 0..boards {
             self.new_boards();
@@ -173,7 +173,7 @@ impl Session {
         self.seen.refusals[refusal as usize] += 1;
     }
 
-    /// Ends the test if `good` is false.
+    /// Fails the test if `good` is false.
     fn expect(&self, good: bool, fault: impl FnOnce() -> String) {
         if !good {
             let Session { test, seed, seen, tested, .. } = self;
@@ -181,7 +181,7 @@ impl Session {
         }
     }
 
-    /// One request by a node that need not be the boards' own.
+    /// One request to `node`, which may differ from the boards' node.
     fn request(&mut self, node: Node, frame: &[u8], lent: Lengths) -> RequestAnswer {
         let before = self.plain.clone();
         let sent = Input::new(frame);
@@ -208,7 +208,7 @@ impl Session {
         b
     }
 
-    /// One request by the boards' own node, which goes on as it is left.
+    /// One request to the boards' node, which is then updated.
     fn take(&mut self, frame: &[u8], lent: Lengths) -> RequestAnswer {
         let answer = self.request(self.plain.node, frame, lent);
         self.set_node(answer.node);
@@ -354,7 +354,7 @@ struct SceneCall {
     book: Vec<u8>,
     scene: usize,
     address: u16,
-    /// 0xFFFF where it is left out.
+    /// 0xFFFF if `left_out`.
     hwpid: u16,
     left_out: bool,
     room: usize,
@@ -388,7 +388,7 @@ impl SceneCall {
         SceneCall { book, scene, address, hwpid, left_out, room, out }
     }
 
-    /// The answer of a side that reads the book from `book`, and the output buffer after it.
+    /// A side's answer and the output buffer after the call. The book is passed separately, so that it may be guarded.
     fn compile(&self, side: Side, book: &[u8]) -> (CompileAnswer, Vec<u8>) {
         let mut out = self.out.clone();
         let room = &mut out[..self.room];
@@ -405,7 +405,7 @@ impl SceneCall {
             && (self.hwpid == 0xFFFF || self.hwpid == node.settings.hwpid)
     }
 
-    /// The board after the steps, done singly.
+    /// The board after the step machine has done the scene's steps.
     fn stepped(&self, before: &Board) -> Board {
         let mut end = before.clone();
         let mut parts = parts(&mut end);
@@ -434,7 +434,7 @@ fn parts(b: &mut Board) -> r::Parts<'_> {
     r::Parts { node: b.node, eeprom: &mut b.eeprom[..EEPROM_SIZE], external: &mut b.external[..EXTERNAL_SIZE] }
 }
 
-/// The requests in a compiled scene, and how many bytes it has.
+/// The requests in a compiled scene, and the scene's total length.
 fn requests_in(out: &[u8]) -> (Vec<&[u8]>, usize) {
     let count = out[0] as usize;
     let mut at = 1 + count;
@@ -447,7 +447,7 @@ fn requests_in(out: &[u8]) -> (Vec<&[u8]>, usize) {
 }
 
 impl Session {
-    /// A scene is compiled on all sides and, if it is for the node, taken.
+    /// Compiles a scene on all sides and, if it is for the boards' node, sends it the requests.
     fn scene(&mut self) {
         let call = SceneCall::random(&mut self.g, &self.plain.node);
         let lent = Input::new(&call.book);
@@ -468,7 +468,7 @@ impl Session {
         }
     }
 
-    /// No request and no entry is refused, and the end is the step machine's.
+    /// No request and no entry is refused, and the node and memories end as the step machine leaves them.
     fn take_scene(&mut self, call: &SceneCall, out: &[u8], length: usize) {
         let before = self.plain.clone();
         let end = call.stepped(&before);
@@ -487,7 +487,7 @@ impl Session {
         let same = self.tested.eeprom == end.eeprom && self.tested.external == end.external;
         self.expect(self.tested.node == end.node && same, || {
             format!(
-                "the step machine ends elsewhere\nlibrary  {:?}\nexpected {:?}\nEEPROM   {}\nexpected {}\n{}",
+                "the step machine ends in another state\nlibrary  {:?}\nexpected {:?}\nEEPROM   {}\nexpected {}\n{}",
                 self.tested.node,
                 end.node,
                 hex(&self.tested.eeprom),
@@ -497,7 +497,7 @@ impl Session {
         });
     }
 
-    /// A frame of any length over parts of any lengths, `often` of wrong ones.
+    /// A random frame and random buffer lengths; occasionally, or `often`, lengths that are refused.
     fn random_request(&mut self, node: Node, often: bool) {
         let mut frame = self.random_frame();
         let g = &mut self.g;
@@ -615,8 +615,8 @@ fn every_length() {
     }
 }
 
-/// Every power byte with every time byte, set, raised and lowered, from
-/// several levels and steps.
+/// Every power byte with every time byte, for set, raise and lower, at random
+/// levels and steps.
 #[test]
 fn every_power_and_time() {
     let mut s = Session::new("every_power_and_time", LIBRARY);
@@ -673,8 +673,8 @@ fn random_scenes() {
     println!("random_scenes: {:?}", s.seen);
 }
 
-/// The benchmark's other side obeys the same rules; compiling is compared in
-/// each scene.
+/// The benchmark's baseline follows the same rules. Its compiler is compared in
+/// `Session::scene`.
 #[test]
 fn fast_agrees() {
     let mut s = Session::new("fast_agrees", FAST);

@@ -1,21 +1,21 @@
-//! Figures that stand in the documents, on the library through its C
-//! interface and on the plain reference: document 01's worked examples that
-//! are not marked P (and, cheaply, those that are), the light standard's step
-//! table and examples (001), the confirmation's figures (003), and the
-//! guide's batch and confirmation examples (000).
+//! Examples from the documents, run on the library through its C interface and
+//! on the plain reference: document 01's worked examples (those marked P are
+//! also proved, but cheap to run), the light standard's step table and examples
+//! (001), the confirmation's timing (003), and the guide's batch and
+//! confirmation examples (000).
 use grelfint_tests::board::{Board, Lengths};
 use grelfint_tests::ffi::{FrcAnswer, Lamp, Node, RequestAnswer};
 use grelfint_tests::reference;
 use grelfint_tests::sides::{Side, LIBRARY, REFERENCE};
 
-/// A test of each figure on either side.
+/// Makes each example a test of the library and a test of the reference.
 macro_rules! on_both_sides {
-    ($($figure:ident,)*) => {
+    ($($example:ident,)*) => {
         mod on_library {
-            $(#[test] fn $figure() { super::$figure(super::LIBRARY) })*
+            $(#[test] fn $example() { super::$example(super::LIBRARY) })*
         }
         mod on_reference {
-            $(#[test] fn $figure() { super::$figure(super::REFERENCE) })*
+            $(#[test] fn $example() { super::$example(super::REFERENCE) })*
         }
     };
 }
@@ -42,7 +42,7 @@ on_both_sides! {
     guide_pulse_batch,
 }
 
-// ---- document 01: worked examples, and the rules next to them ----
+// ---- document 01: worked examples, and related rules ----
 fn external_read_at_the_end(side: Side) {
     let mut b = Board::started(side, 3, 1);
     b.external[0x3FFF] = 0x5C;
@@ -61,7 +61,7 @@ fn level_100_is_accepted_101_is_not(side: Side) {
 }
 
 fn one_bad_entry_changes_no_lamp(side: Side) {
-    // nine lamps raised, the eighth power byte bad: none goes up
+    // raise nine lamps with an invalid eighth power byte: no lamp changes
     let mut b = Board::started(side, 9, 1);
     let good = [0xFF, 1, 0, 0, 10, 10, 10, 10, 10, 10, 10, 10, 10];
     let mut bad = good;
@@ -73,7 +73,7 @@ fn one_bad_entry_changes_no_lamp(side: Side) {
 }
 
 fn batch_first_entry_is_not_all(side: Side) {
-    // document 01, Strength: a set on lamp 0 and then a raise on lamp 1.
+    // document 01, "Strength of the contracts": a set on lamp 0, then a raise on lamp 1
     let mut b = Board::started(side, 3, 1);
     let list = [10, 0x71, 0, 0xFF, 0xFF, 1, 0, 0, 0, 10, 10, 0x71, 1, 0xFF, 0xFF, 2, 0, 0, 0, 20, 0];
     assert_eq!(b.take(2, 5, &list), (0, vec![]));
@@ -125,7 +125,7 @@ fn refused_is_not_addressed(side: Side) {
     }
 }
 
-// ---- document 01, marked P: run as well ----
+// ---- document 01, marked P ----
 #[test]
 fn checksums_of_the_reference() {
     let sums = [
@@ -141,19 +141,19 @@ fn checksums_of_the_reference() {
 }
 
 fn checksums(side: Side) {
-    // flags 0: 64s from 1; flags 2: 20s from 3. 64 zeros 0x4001, 20 zeros 0x3C03.
+    // flags 0: blocks of 64, start value 1; flags 2: blocks of 20, start value 3
     let mut b = Board::started(side, 3, 1);
     assert_eq!(b.take(2, 0x0A, &[0, 0, 0, 64, 0, 0x01, 0x40]), (0, vec![1]));
     assert_eq!(b.take(2, 0x0A, &[0, 0, 0, 64, 0, 0x00, 0x40]), (0, vec![0]));
     assert_eq!(b.take(2, 0x0A, &[2, 0, 0, 20, 0, 0x03, 0x3C]), (0, vec![1]));
-    // the load mark: only with bit 0 and a match
+    // the load mark needs flag bit 0 and a match
     let (_, load) = b.frame(&[1, 0, 2, 0x0A, 0xFF, 0xFF, 1, 0, 0, 64, 0, 0x01, 0x40]);
     assert!(load);
     let (_, load) = b.frame(&[1, 0, 2, 0x0A, 0xFF, 0xFF, 1, 0, 0, 64, 0, 0x02, 0x40]);
     assert!(!load);
     let (bytes, load) = b.frame(&[0xFF, 0, 2, 0x0A, 0xFF, 0xFF, 1, 0, 0, 64, 0, 0x01, 0x40]);
     assert!(load && bytes.is_empty());
-    // from 1, FE and then 63 FF bytes: 0xFFFF after FE, each FF keeps a sum of FF
+    // FE from start value 1 gives 0xFFFF; adding FF to a sum of FF leaves it at FF
     b.external[..64].fill(0xFF);
     b.external[0] = 0xFE;
     assert_eq!(b.take(2, 0x0A, &[0, 0, 0, 64, 0, 0xFF, 0xFF]), (0, vec![1]));
@@ -208,7 +208,7 @@ fn light_standard_step_table(side: Side) {
     for (pcmd, value, requested, actual, previous) in table {
         assert_eq!(b.take(0x71, pcmd, &[1, 0, 0, 0, value]), (0, vec![previous]));
         assert_eq!(b.node.lamps[0].level, requested);
-        // the actual level: what a kept level reports as before
+        // a request that keeps the level reports the actual one
         assert_eq!(b.take(0x71, 0, &[1, 0, 0, 0, 127]), (0, vec![actual]));
         assert_eq!(b.node.lamps[0].level, requested);
     }
@@ -281,7 +281,7 @@ fn guide_confirmation_example(side: Side) {
     assert_eq!((a.refusal, a.length), (0, 11));
     assert_eq!(out[..11], [0x0A, 0, 7, 1, 0xFF, 0xFF, 0xFF, 7, 6, 4, 6]);
     assert!(out[11..].iter().all(|&b| b == 0xEE));
-    // at broadcast the response hops are 0
+    // broadcast: the response hops are 0
     let a = (side.confirm)(&[0xFF, 0, 7, 1, 0xFF, 0xFF], 7, 6, 6, true, &mut out);
     assert_eq!((a.refusal, a.length), (0, 11));
     assert_eq!(out[..11], [0xFF, 0, 7, 1, 0xFF, 0xFF, 0xFF, 7, 6, 8, 0]);
@@ -296,22 +296,22 @@ fn timeslot_table(side: Side) {
 }
 
 fn uart_example_of_the_confirmation(side: Side) {
-    // 003: 5 bytes out at 40 ms, 20 ms waiting, the answer at 40, 50 or 60 ms
+    // 003: a request of 5 bytes in slots of 40 ms, a delay of 20 ms, a response in slots of 40, 50 or 60 ms
     for (q, r) in [(2u8, 3u8), (0, 0), (5, 9), (255, 255)] {
         for (answer, slot) in [(16, 40), (20, 50), (41, 60)] {
             let want = (q as u32 + 1) * 40 + 20 + (r as u32 + 1) * slot;
             assert_eq!((side.earliest_send)(q, 5, 20, r, answer, false, false).milliseconds, want);
         }
     }
-    // document 01: 340 ms; a broadcast leaves the last term out but tests it
+    // document 01: 340 ms; a broadcast omits the last term but still tests its length
     assert_eq!((side.earliest_send)(2, 5, 20, 3, 20, false, false).milliseconds, 340);
     assert_eq!((side.earliest_send)(2, 5, 20, 3, 20, false, true).milliseconds, 140);
     assert_eq!((side.earliest_send)(2, 5, 20, 3, 57, false, true).refusal, 5);
 }
 
 // ---- the guide's batch (000, 3.4.11) ----
-/// The guide's list: LEDs and IO are no peripherals of this node, so every
-/// entry is an error of its own, and the batch itself succeeds.
+/// The guide's list. This node has no LEDs or IO, so every entry is an error,
+/// and the batch itself succeeds.
 const GUIDE_BATCH: [u8; 29] = [
     5, 6, 1, 0x34, 0x12, //
     5, 7, 1, 0x78, 0x56, //
@@ -328,18 +328,18 @@ fn guide_batch_example(side: Side) {
     frame.extend_from_slice(&GUIDE_BATCH);
     assert_eq!(b.frame(&frame), (vec![], false)); // broadcast: no answer
     assert_eq!(b.node, before);
-    // addressed: the general response to a writing request, no error
+    // own address: the general response to a writing request, no error
     assert_eq!(b.take(2, 5, &GUIDE_BATCH), (0, vec![]));
     assert_eq!(b.node, before);
-    // without its end, or with a byte behind it: nothing runs
+    // without the closing zero, or with a byte after it: nothing runs
     assert_eq!(b.take(2, 5, &GUIDE_BATCH[..28]), (6, vec![]));
     let mut longer = GUIDE_BATCH.to_vec();
     longer.push(0);
     assert_eq!(b.take(2, 5, &longer), (6, vec![]));
 }
 
-/// The same shape with this node's lamps: on for profile 0x1234, on for
-/// profile 0x5678, a time for all, off again for one of them.
+/// The same structure with this node's lamps: on for HWPID 0x1234, on for HWPID
+/// 0x5678, a time for all, off again for 0x1234.
 fn guide_batch_selects_by_profile(side: Side) {
     for (hwpid, want) in [(0x1234u16, [(0u8, 0u16), (0, 0), (30, 60)]), (0x5678, [(0, 0), (70, 0), (30, 60)])] {
         let mut b = Board::started(side, 3, 1);

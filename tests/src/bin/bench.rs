@@ -1,7 +1,7 @@
 //! Benchmark, not part of the gate: `cargo run --release --offline`.
-//! The library against the same rules written for speed without allocation
-//! (src/fast.rs), alternating in one run; the figure is the median over the
-//! rounds of the ratio library / fast. `BENCH_ROUNDS` sets the rounds.
+//! Measures the library against a fast implementation of the same rules
+//! (src/fast.rs), alternating within one run. The result is the median over all
+//! rounds of the ratio library / fast. `BENCH_ROUNDS` sets the number of rounds.
 use grelfint_tests::board::{Board, Lengths};
 use grelfint_tests::ffi::Node;
 use grelfint_tests::reference;
@@ -21,7 +21,7 @@ fn board(side: Side) -> Board {
     b
 }
 
-/// Nanoseconds a call.
+/// Nanoseconds per call.
 fn time(calls: u32, mut call: impl FnMut()) -> f64 {
     let began = Instant::now();
     for _ in 0..calls {
@@ -66,7 +66,7 @@ fn median(mut v: Vec<f64>) -> f64 {
 
 /// `run(side, calls)`: 0 is the library, 1 the fast side.
 fn compare(name: &str, rounds: usize, mut run: impl FnMut(usize, u32) -> f64) {
-    // calls for about 10 ms a side
+    // enough calls for about 10 ms per side
     let once = run(1, 50).max(1.0);
     let calls = (10_000_000.0 / once).clamp(20.0, 1_000_000.0) as u32;
     run(0, calls / 4 + 1);
@@ -103,7 +103,7 @@ fn lamp_frame(pcmd: u8, lamps: u32, timed: usize) -> Vec<u8> {
     frame
 }
 
-/// Five lamp entries of eleven bytes and the zero: 56 bytes of PData.
+/// Five lamp entries of eleven bytes and the closing zero: 56 bytes of PData.
 fn full_batch() -> Vec<u8> {
     let mut frame = vec![1, 0, 2, 5, 0xFF, 0xFF];
     for i in 0..5u8 {
@@ -128,7 +128,7 @@ fn scene_of_64() -> Vec<u8> {
     book
 }
 
-/// A code check of all external memory: 256 blocks of 64, length 0x4000.
+/// A code check of all external memory: 256 blocks of 64 bytes, length 0x4000.
 fn code_check(external: &[u8]) -> Vec<u8> {
     let sum = reference::checksum(1, external).to_le_bytes();
     vec![1, 0, 2, 0x0A, 0xFF, 0xFF, 0, 0, 0, 0x00, 0x40, sum[0], sum[1]]
@@ -156,11 +156,9 @@ fn compare_compile(name: &str, rounds: usize, book: &[u8]) {
 fn main() {
     let rounds = std::env::var("BENCH_ROUNDS").ok().and_then(|v| v.parse().ok()).unwrap_or(15);
     println!("median of {rounds} rounds, library and fast side alternating; ratio = library / fast");
-    println!("each side has buffers of its own: EEPROM 192, external memory 16,384, response 64, output 4,096 bytes;");
-    println!(
-        "each call gets the same node of 32 lit lamps by value; for the tick in place, it is copied into one lent"
-    );
-    println!("record before each call on both sides, and the fast side stores there what its tick by value hands back");
+    println!("each side has separate buffers: EEPROM 192, external memory 16,384, response 64, output 4,096 bytes;");
+    println!("each call gets the same node with 32 lit lamps by value; for the tick in place, both sides copy it into");
+    println!("one record before each call, and the fast side stores the result of its by-value tick there");
     compare_request("set of 9 lamps", rounds, &lamp_frame(0, 9, 4));
     compare_request("raise of 9 lamps", rounds, &lamp_frame(1, 9, 4));
     compare_request("set of 32 lamps", rounds, &lamp_frame(0, 32, 16));
