@@ -21,7 +21,7 @@ pub struct Rng(u64);
 
 impl Rng {
     pub fn new(seed: u64) -> Rng {
-        let mut r = Rng((seed ^ 0x9E37_79B9_7F4A_7C15) | 1);
+        let mut r = Rng((seed ^ 0x9E37_79B9_7F4A_7C15).max(1)); // from 0 it would only give 0
         for _ in 0..8 {
             r.next();
         }
