@@ -95,7 +95,7 @@ struct Seen {
     requests: Requests,
 }
 
-/// Requests by what became of them.
+/// Requests by outcome.
 #[derive(Default, Debug, PartialEq)]
 struct Requests {
     own: u64,
