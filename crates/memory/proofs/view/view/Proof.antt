@@ -1,7 +1,7 @@
 use borrow.Author.Tests.{eq-eqb, ne-eqb}
 use native.Mathlib.Omega.{arith}
-use mathlib.Core.Path.{_≡_, sym, _∙_}
-use Rattle.memory.specs.View.{viewStatus, viewPart}
+use mathlib.Core.Path.{_≡_, refl, sym, _∙_}
+use Rattle.memory.specs.View.{viewStatus, viewPart, viewPlace}
 use Rattle.memory.proofs.Blocks.{counted}
 use Rattle.memory.proofs.Views.{Viewed, viewed}
 use borrow.Author.Needs.{needs}
@@ -12,10 +12,10 @@ use Rattle.memory.proofs.view.view.Lts as lts
 use Rattle.memory.proofs.view.view_status.Reads as view-status-reads
 
 -- past the first test the view is not refused
-zero : (c : tie.Else1) → let a = c .before .before .before .before .args in viewStatus (a .eeprom .now) (a .external .now) (a .pnum) (a .start) (a .length) ≡ 0
+zero : (c : tie.Else1) → let a = c .before .before .before .before .args in viewStatus (a .eeprom .now) (a .external .now) (a .pnum) (a .start) (a .count) ≡ 0
 zero c = sym (c .before .view-status .ensures) ∙ c .if1 .left
 
-known : (c : tie.Else1) → let a = c .before .before .before .before .args in Viewed (a .eeprom .now) (a .external .now) (a .pnum) (a .start) (a .length)
+known : (c : tie.Else1) → let a = c .before .before .before .before .args in Viewed (a .eeprom .now) (a .external .now) (a .pnum) (a .start) (a .count)
 known c = viewed _ _ _ _ _ (zero c)
 
 view-status-requires : tie.Need-view-status-requires
@@ -31,8 +31,8 @@ part-result-end : tie.Need-part-result-end
 part-result-end c = search needs
 
 returns : tie.Need-returns
-unfolding viewPart
-returns c = simp (ne-eqb _ _ (λ q. c .before .if1 .taken (c .before .before .view-status .ensures ∙ q)))
+unfolding viewPart viewPlace
+returns c = simp (ne-eqb _ _ (λ q. c .before .if1 .taken (c .before .before .view-status .ensures ∙ q))) (refl, refl)
 
 add-end : tie.Need-add-end
 add-end c = omega (arith, known c .fits)
@@ -47,8 +47,8 @@ part-result-end-2 : tie.Need-part-result-end-2
 part-result-end-2 c = known (c .before) .eeprom (c .if2 .taken)
 
 returns-2 : tie.Need-returns-2
-unfolding viewPart
-returns-2 c = simp (counted, zero (c .before .before), eq-eqb _ _ (c .before .if2 .taken))
+unfolding viewPart viewPlace
+returns-2 c = simp (counted, zero (c .before .before), eq-eqb _ _ (c .before .if2 .taken)) (refl, refl)
 
 sub-result-3 : tie.Need-sub-result-3
 sub-result-3 c = search needs
@@ -60,8 +60,8 @@ part-result-end-3 : tie.Need-part-result-end-3
 part-result-end-3 c = known (c .before) .external (c .if2 .left)
 
 returns-3 : tie.Need-returns-3
-unfolding viewPart
-returns-3 c = simp (counted, zero (c .before .before), ne-eqb _ _ (c .before .if2 .left))
+unfolding viewPart viewPlace
+returns-3 c = simp (counted, zero (c .before .before), ne-eqb _ _ (c .before .if2 .left)) (refl, refl)
 
 pub view-spec : {M : Type 1} → statement M
 view-spec =
