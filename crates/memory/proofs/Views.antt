@@ -6,13 +6,14 @@ use Prim.Native.Nat.{ℕ, _+_, _≤_}
 use native.Mathlib.Omega.{arith}
 use lib.Dec.{eqb}
 use lib.ListN.{length}
+use denote.Ref.{RefT, now}
 use borrow.Author.Tests.{eqb-true, eqb-false, eq-eqb, ne-eqb}
 use Rattle.dpa.specs.Lists.{part}
 use Rattle.dpa.proofs.Bool.{first-taken, by-test}
 use Rattle.memory.specs.declared.block.Memory.{Memory}
 use Rattle.memory.specs.declared.block.Memory.the-variants.{Eeprom, External}
 use Rattle.memory.specs.Block.{memoryPnum, sizeOf, longestOf}
-use Rattle.memory.specs.View.{namesMemory, blockRefusal, viewStatus, viewPart}
+use Rattle.memory.specs.View.{namesMemory, blockRefusal, viewStatus, viewPart, placeIn, viewPlace}
 use Rattle.memory.proofs.Blocks.{block-fits, part-length}
 
 -- memories of their sizes: 10 unless the PNUM names one, then its block rule
@@ -70,3 +71,18 @@ module _ (e x : List ℕ) (p start n : ℕ) where
       by-test (eqb p (memoryPnum Eeprom))
       (λ b. let q : p ≡ memoryPnum Eeprom = eqb-true p (memoryPnum Eeprom) b in rw (view-eeprom z q) (part-length e start n (v .eeprom q)))
       (λ b. let q : p ≡ memoryPnum Eeprom → ⊥ = eqb-false p (memoryPnum Eeprom) b in rw (view-external z q) (part-length x start n (v .external q)))
+
+module _ (e x : RefT (List ℕ)) (p start n : ℕ) where
+  -- the empty part of a refused view lies at EEPROM's first byte
+  pub place-refused : (viewStatus (now e) (now x) p start n ≡ 0 → ⊥) → viewPlace e x p start n ≡ placeIn e 0
+  unfolding viewPlace
+  place-refused h = simp (ne-eqb (viewStatus (now e) (now x) p start n) 0 h)
+
+  -- every other part, empty or not, lies in the memory that the PNUM names
+  pub place-eeprom : viewStatus (now e) (now x) p start n ≡ 0 → p ≡ memoryPnum Eeprom → viewPlace e x p start n ≡ placeIn e start
+  unfolding viewPlace
+  place-eeprom z q = simp (z, eq-eqb p (memoryPnum Eeprom) q)
+
+  pub place-external : viewStatus (now e) (now x) p start n ≡ 0 → (p ≡ memoryPnum Eeprom → ⊥) → viewPlace e x p start n ≡ placeIn x start
+  unfolding viewPlace
+  place-external z q = simp (z, ne-eqb p (memoryPnum Eeprom) q)
