@@ -49,8 +49,8 @@ part-result-end-2 c = known (c .before) .eeprom (c .if2 .taken)
 
 returns-2 : tie.Need-returns-2
 returns-2 c =
-    let z = zero (c .before .before) in
-    (rw counted (sym (view-eeprom _ _ _ _ _ z (c .before .if2 .taken))), sym (place-eeprom _ _ _ _ _ z (c .before .if2 .taken)))
+    let t = c .before in
+    (rw counted (sym (view-eeprom _ _ _ _ _ (zero (t .before)) (t .if2 .taken))), sym (place-eeprom _ _ _ _ _ (zero (t .before)) (t .if2 .taken)))
 
 sub-result-3 : tie.Need-sub-result-3
 sub-result-3 c = search needs
@@ -63,8 +63,8 @@ part-result-end-3 c = known (c .before) .external (c .if2 .left)
 
 returns-3 : tie.Need-returns-3
 returns-3 c =
-    let z = zero (c .before .before) in
-    (rw counted (sym (view-external _ _ _ _ _ z (c .before .if2 .left))), sym (place-external _ _ _ _ _ z (c .before .if2 .left)))
+    let l = c .before in
+    (rw counted (sym (view-external _ _ _ _ _ (zero (l .before)) (l .if2 .left))), sym (place-external _ _ _ _ _ (zero (l .before)) (l .if2 .left)))
 
 pub view-spec : {M : Type 1} → statement M
 view-spec =
