@@ -73,7 +73,7 @@ module _ (e x : List ℕ) (p start n : ℕ) where
       (λ b. let q : p ≡ memoryPnum Eeprom → ⊥ = eqb-false p (memoryPnum Eeprom) b in rw (view-external z q) (part-length x start n (v .external q)))
 
 module _ (e x : RefT (List ℕ)) (p start n : ℕ) where
-  -- the empty part of a refused view lies at EEPROM's first byte
+  -- the empty part of a refused view lies at EEPROM's start
   pub place-refused : (viewStatus (now e) (now x) p start n ≡ 0 → ⊥) → viewPlace e x p start n ≡ placeIn e 0
   unfolding viewPlace
   place-refused h = simp (ne-eqb (viewStatus (now e) (now x) p start n) 0 h)

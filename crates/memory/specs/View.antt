@@ -36,11 +36,11 @@ viewPart eeprom external pnum start n =
     (cond (eqb pnum (memoryPnum Memory.Eeprom)) (part eeprom start n) (part external start n))
     []
 
--- a place in lent bytes: the block of memory that they lie in, and an offset there
+-- a place in lent bytes: the allocation that they lie in, and an offset there
 abbrev pub placeIn : RefT (List ℕ) → ℕ → ℕ × ℕ
 placeIn bytes start = (ptr bytes .0, start + ptr bytes .1)
 
--- where the part starts: in the memory that the view names, also where it has no bytes; a refused view's, at EEPROM's first byte
+-- where the part starts: in the memory that the view names, also if the part has no bytes; where the view is refused, at EEPROM's start
 unfoldable pub viewPlace : RefT (List ℕ) → RefT (List ℕ) → ℕ → ℕ → ℕ → ℕ × ℕ
 viewPlace eeprom external pnum start n =
     cond (eqb (viewStatus (now eeprom) (now external) pnum start n) 0)
