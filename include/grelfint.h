@@ -141,7 +141,7 @@ grelfint_request_answer grelfint_handle_request(
 uint8_t grelfint_view_status(
     const uint8_t *eeprom, size_t eeprom_length,
     const uint8_t *external, size_t external_length,
-    uint8_t pnum, size_t start, size_t length);
+    uint8_t pnum, size_t start, size_t count);
 
 /* The two-bit FRC answer. Command 0x10 asks whether the lamp is on, 0x11
  * whether its alarm is set. User data: 0x71, lamp index (low five bits).

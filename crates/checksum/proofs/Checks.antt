@@ -13,7 +13,7 @@ use Rattle.dpa.proofs.Lists.{set-first}
 use Rattle.checksum.specs.declared.sums.Sums.{Sums}
 use Rattle.checksum.specs.Sums.{sums, start, checksum}
 use Rattle.checksum.specs.declared.check.Image.{Image}
-use Rattle.checksum.specs.Check.{imageOf, unitOf, firstOf, imageError, imageMatches, answered, codeCheck}
+use Rattle.checksum.specs.Check.{externalSize, imageOf, unitOf, firstOf, imageError, imageMatches, answered, codeCheck}
 
 -- the error, by the tests on the way
 module _ (i : Image) (f : i .flags < 4) (n : ℕ) (en : n ≡ i .length) where
@@ -27,22 +27,22 @@ module _ (i : Image) (f : i .flags < 4) (n : ℕ) (en : n ≡ i .length) where
     no-multiple k = simp (lt-leb 4 (i .flags) f, ← en, ne-eqb n 0 h, ← eu, ne-eqb (n % u) 0 k)
 
     module _ (k : n % u ≡ 0) (a : ℕ) (ea : a ≡ i .address) where
-      pub past-end : 16384 < a + n → 4 ≡ imageError i
+      pub past-end : externalSize < a + n → 4 ≡ imageError i
       unfolding imageError
-      past-end b = simp (lt-leb 4 (i .flags) f, ← en, ne-eqb n 0 h, ← eu, eq-eqb (n % u) 0 k, ← ea, lt-ltb 16384 (a + n) b)
+      past-end b = simp (lt-leb 4 (i .flags) f, ← en, ne-eqb n 0 h, ← eu, eq-eqb (n % u) 0 k, ← ea, lt-ltb externalSize (a + n) b)
 
-      pub in-memory : a + n ≤ 16384 → 0 ≡ imageError i
+      pub in-memory : a + n ≤ externalSize → 0 ≡ imageError i
       unfolding imageError
-      in-memory b = simp (lt-leb 4 (i .flags) f, ← en, ne-eqb n 0 h, ← eu, eq-eqb (n % u) 0 k, ← ea, le-ltb 16384 (a + n) b)
+      in-memory b = simp (lt-leb 4 (i .flags) f, ← en, ne-eqb n 0 h, ← eu, eq-eqb (n % u) 0 k, ← ea, le-ltb externalSize (a + n) b)
 
 -- an image without an error lies in external memory
-pub image-fits : (i : Image) → imageError i ≡ 0 → i .address + i .length ≤ 16384
+pub image-fits : (i : Image) → imageError i ≡ 0 → i .address + i .length ≤ externalSize
 unfolding imageError
 image-fits i e =
     let a = second-taken (leb 4 (i .flags)) 1 _ 0 (λ q. omega arith) e in
     let b = second-taken (eqb (i .length) 0) 6 _ 0 (λ q. omega arith) (a .1) in
     let d = first-taken (eqb (i .length % unitOf (i .flags)) 0) _ 6 0 (λ q. omega arith) (b .1) in
-    let g = second-taken (ltb 16384 (i .address + i .length)) 4 0 0 (λ q. omega arith) (d .1) in
+    let g = second-taken (ltb externalSize (i .address + i .length)) 4 0 0 (λ q. omega arith) (d .1) in
     ltb-false _ _ (g .0)
 
 -- the word that was computed, held against the one that was sent

@@ -10,6 +10,10 @@ use Rattle.dpa.specs.Served.{Served, served, refused}
 use Rattle.checksum.specs.declared.check.Image.{Image}
 use Rattle.checksum.specs.Sums.{sums, start, checksum}
 
+-- bytes of external memory
+abbrev pub externalSize : ℕ
+externalSize = 16384
+
 -- flags, address, length, checksum
 abbrev pub imageOf : List ℕ → Image
 imageOf pdata = record { flags = getD pdata 0 0; address = wordAt pdata 1; length = wordAt pdata 3; sum = wordAt pdata 5 }
@@ -21,13 +25,13 @@ unitOf flags = cond (eqb (flags / 2 % 2) 0) 64 20
 unfoldable pub firstOf : ℕ → ℕ
 firstOf flags = cond (eqb (flags / 2 % 2) 0) 1 3
 
--- a flag from bit 2 up is set: 1; no bytes or no multiple: 6; the end past 16,384: 4
+-- a flag from bit 2 up is set: 1; no bytes or no multiple: 6; the end past external memory: 4
 unfoldable pub imageError : Image → ℕ
 imageError i =
     cond (leb 4 (i .flags)) 1
     (cond (eqb (i .length) 0) 6
     (cond (eqb (i .length % unitOf (i .flags)) 0)
-    (cond (ltb 16384 (i .address + i .length)) 4
+    (cond (ltb externalSize (i .address + i .length)) 4
     0)
     6))
 

@@ -6,9 +6,13 @@ use lib.Dec.{ltb}
 use Rattle.dpa.specs.Number.{word}
 use Rattle.checksum.specs.declared.sums.Sums.{Sums}
 
+-- the largest byte
+abbrev pub byteMax : ℕ
+byteMax = 255
+
 -- a byte sum, and where it passed 255 one is added: a + b less 256, plus 1
 unfoldable pub around : ℕ → ℕ → ℕ
-around a b = cond (ltb 255 (a + b)) (a + b - 256 + 1) (a + b)
+around a b = cond (ltb byteMax (a + b)) (a + b - 256 + 1) (a + b)
 
 -- for a byte: low plus byte, then high plus low
 unfoldable pub addByte : Sums → ℕ → Sums

@@ -7,10 +7,10 @@ ghost use Prim.Native.Nat.{_≤_};
 ghost use lib.ListN.{length};
 ghost use Rattle.dpa.specs.Frame.{pdataMax};
 ghost use Rattle.dpa.specs.Served.{laid, layOut};
-ghost use Rattle.checksum.specs.Check.{unitOf, firstOf, imageOf, imageError, imageMatches, codeCheck};
+ghost use Rattle.checksum.specs.Check.{externalSize, unitOf, firstOf, imageOf, imageError, imageMatches, codeCheck};
 
 // Bytes of external memory.
-const EXTERNAL: usize = 16384;
+const EXTERNAL_SIZE: usize = 16384;
 
 // What a code check tells of its answer, and whether the image is to be loaded.
 pub struct Checked {
@@ -74,7 +74,7 @@ fn image_error(image: Image) -> u8
     if count % unit_of(image.flags) != 0 {
         return dpa::error::DATA;
     }
-    if EXTERNAL < wide_word(image.address) + count {
+    if EXTERNAL_SIZE < wide_word(image.address) + count {
         return dpa::error::ADDR;
     }
     0
@@ -82,7 +82,7 @@ fn image_error(image: Image) -> u8
 
 // Whether the image has the checksum that came with it.
 fn image_matches(external: &[u8], image: Image) -> bool
-    requires { ⌜ (length (now external) ≡ 16384) × (imageError image ≡ 0) ⌝ }
+    requires { ⌜ (length (now external) ≡ externalSize) × (imageError image ≡ 0) ⌝ }
     ensures { λ r. ⌜ r ≡ imageMatches (now (external .entry)) image ⌝ }
 {
     let address = wide_word(image.address);
@@ -97,7 +97,7 @@ fn image_matches(external: &[u8], image: Image) -> bool
 
 // The request. Its answer is one byte at the front of out; an error writes nothing.
 pub fn code_check(external: &[u8], pdata: &[u8], out: &mut [u8]) -> Checked
-    requires { ⌜ (length (now external) ≡ 16384) × (pdataMax ≤ length (now out)) ⌝ }
+    requires { ⌜ (length (now external) ≡ externalSize) × (pdataMax ≤ length (now out)) ⌝ }
     ensures { λ r. ⌜ laid (r .load) (r .error) (r .length) (now (out .exit))
         ≡ layOut (codeCheck (now (external .entry)) (now (pdata .entry))) (now (out .entry)) ⌝ }
 {

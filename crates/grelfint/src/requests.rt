@@ -28,9 +28,9 @@ pub extern "C" fn grelfint_view_status(
     external: &[u8],
     pnum: u8,
     start: usize,
-    length: usize,
+    count: usize,
 ) -> u8
-    ensures { λ r. ⌜ r ≡ viewStatus (now (eeprom .entry)) (now (external .entry)) pnum start length ⌝ }
+    ensures { λ r. ⌜ r ≡ viewStatus (now (eeprom .entry)) (now (external .entry)) pnum start count ⌝ }
 {
-    view_status(eeprom, external, pnum, start, length)
+    view_status(eeprom, external, pnum, start, count)
 }

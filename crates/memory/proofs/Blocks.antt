@@ -34,8 +34,8 @@ module _ (size longest start n tooLong outside : ℕ) where
   unfolding blockFault
   fits-block f = simp (le-ltb longest n (f .short), lt-leb size start (f .starts), le-ltb size (start + n) (f .ends))
 
--- no longest block is over 55
-pub longest-max : (m : Memory) → longestOf m ≤ 55
+-- no longest block is over EEPROM's
+pub longest-max : (m : Memory) → longestOf m ≤ longestOf Eeprom
 longest-max Memory.Eeprom = omega arith
 longest-max Memory.Ram = omega arith
 longest-max Memory.External = omega arith

@@ -7,6 +7,7 @@ use native.Mathlib.Omega.{arith}
 use lib.Dec.{eqb, leb}
 use lib.ListN.{length, take, drop, getD, length-take, length-drop}
 use borrow.Author.Tests.{eqb-true, leb-false, eq-eqb, ne-eqb, lt-leb}
+use Rattle.dpa.specs.Frame.{pdataMax}
 use Rattle.dpa.specs.Lists.{part}
 use Rattle.dpa.specs.Served.{Harmless, Served, served, refused, laid, layOut}
 use Rattle.dpa.proofs.Bool.{by-cond, first-taken, second-taken}
@@ -59,7 +60,7 @@ module _ (m : Memory) (p : List ℕ) where
     write-refused out e q h = simp (← q, ne-eqb e 0 h)
 
     module _ (w a n : ℕ) (size : length mem ≡ sizeOf m) (z : readError m p ≡ 0) (ew : w ≡ addressBytes m) (ea : a ≡ addressOf w p) (en : n ≡ getD p w 0) where
-      pub read-place : (a + n ≤ length mem) × (n ≤ 55)
+      pub read-place : (a + n ≤ length mem) × (n ≤ longestOf Eeprom)
       read-place =
           let f = read-fits z .1 in
           let s : a ≡ startOf m p = ea ∙ ap (λ (k : ℕ). addressOf k p) ew in
@@ -144,7 +145,7 @@ module _ (m : Memory) (p mem : List ℕ) where
         (λ e. omega arith)
 
     -- so that it fits a response
-    pub request-max : length (memoryRequest m pcmd p mem .bytes) ≤ 56
+    pub request-max : length (memoryRequest m pcmd p mem .bytes) ≤ pdataMax
     request-max = omega (arith, request-longest, longest-max m)
 
 -- a write at an address of one byte

@@ -14,7 +14,7 @@ pub enum Memory {
 
 // The memory's bytes.
 pub fn size_of(memory: Memory) -> usize
-    ensures { λ r. ⌜ (r ≡ sizeOf memory) × (r ≤ 16384) ⌝ }
+    ensures { λ r. ⌜ (r ≡ sizeOf memory) × (r ≤ sizeOf Memory.External) ⌝ }
 {
     match memory {
         Memory::Eeprom => 192,
@@ -25,7 +25,7 @@ pub fn size_of(memory: Memory) -> usize
 
 // The longest block that a request reads or writes.
 pub fn longest_of(memory: Memory) -> usize
-    ensures { λ r. ⌜ (r ≡ longestOf memory) × (r ≤ 55) ⌝ }
+    ensures { λ r. ⌜ (r ≡ longestOf memory) × (r ≤ longestOf Memory.Eeprom) ⌝ }
 {
     match memory {
         Memory::Eeprom => 55,

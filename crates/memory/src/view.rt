@@ -3,18 +3,17 @@ use crate::block::Memory;
 use crate::block::block_fault;
 use crate::block::size_of;
 ghost use mathlib.Core.Path.{_≡_};
-ghost use mathlib.Core.Bool.{_||_};
-ghost use lib.Dec.{eqb};
-ghost use Rattle.memory.specs.View.{blockRefusal, viewStatus, viewPart};
+ghost use denote.Ref.{ptr};
+ghost use Rattle.memory.specs.View.{namesMemory, blockRefusal, viewStatus, viewPart, viewPlace};
 
 // The block rule with the numbers of the view.
-fn block_refusal(memory: Memory, start: usize, length: usize) -> u8
-    ensures { λ r. ⌜ r ≡ blockRefusal memory start length ⌝ }
+fn block_refusal(memory: Memory, start: usize, count: usize) -> u8
+    ensures { λ r. ⌜ r ≡ blockRefusal memory start count ⌝ }
 {
     block_fault(
         memory,
         start,
-        length,
+        count,
         dpa::refusal::BLOCK,
         dpa::refusal::RANGE,
     )
@@ -22,7 +21,7 @@ fn block_refusal(memory: Memory, start: usize, length: usize) -> u8
 
 // Whether the view is of a memory: EEPROM or external.
 fn names_memory(pnum: u8) -> bool
-    ensures { λ r. ⌜ r ≡ (eqb pnum 3 || eqb pnum 4) ⌝ }
+    ensures { λ r. ⌜ r ≡ namesMemory pnum ⌝ }
 {
     if pnum == dpa::pnum::EEPROM {
         return true;
@@ -31,8 +30,8 @@ fn names_memory(pnum: u8) -> bool
 }
 
 // Why the view is refused, or 0.
-pub fn view_status(eeprom: &[u8], external: &[u8], pnum: u8, start: usize, length: usize) -> u8
-    ensures { λ r. ⌜ r ≡ viewStatus (now (eeprom .entry)) (now (external .entry)) pnum start length ⌝ }
+pub fn view_status(eeprom: &[u8], external: &[u8], pnum: u8, start: usize, count: usize) -> u8
+    ensures { λ r. ⌜ r ≡ viewStatus (now (eeprom .entry)) (now (external .entry)) pnum start count ⌝ }
 {
     if eeprom.len() != size_of(Memory::Eeprom) {
         return dpa::refusal::MEMORY;
@@ -44,9 +43,9 @@ pub fn view_status(eeprom: &[u8], external: &[u8], pnum: u8, start: usize, lengt
         return dpa::refusal::VIEW;
     }
     if pnum == dpa::pnum::EEPROM {
-        return block_refusal(Memory::Eeprom, start, length);
+        return block_refusal(Memory::Eeprom, start, count);
     }
-    block_refusal(Memory::External, start, length)
+    block_refusal(Memory::External, start, count)
 }
 
 // The part that the view names; empty where it is refused.
@@ -55,14 +54,15 @@ pub fn view<'a>(
     external: &'a [u8],
     pnum: u8,
     start: usize,
-    length: usize,
+    count: usize,
 ) -> &'a [u8]
-    ensures { λ r. ⌜ now r ≡ viewPart (now (eeprom .entry)) (now (external .entry)) pnum start length ⌝ }
+    ensures { λ r. ⌜ (now r ≡ viewPart (now (eeprom .entry)) (now (external .entry)) pnum start count)
+        × (ptr r ≡ viewPlace (eeprom .entry) (external .entry) pnum start count) ⌝ }
 {
-    if view_status(eeprom, external, pnum, start, length) != dpa::refusal::NONE {
+    if view_status(eeprom, external, pnum, start, count) != dpa::refusal::NONE {
         return &eeprom[0..0];
     }
-    let end = start + length;
+    let end = start + count;
     if pnum == dpa::pnum::EEPROM {
         return &eeprom[start..end];
     }

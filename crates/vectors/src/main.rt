@@ -4,6 +4,7 @@ use dpa::settings::Settings;
 use handler::request::handle_request;
 use libc::STDOUT_FILENO;
 use lights::lamp::Lamp;
+use memory::view::view;
 use memory::view::view_status;
 use node::record::Node;
 use node::start::start;
@@ -21,8 +22,8 @@ fn number(n: u64) {
 }
 
 // The first n bytes of a buffer.
-fn hex(bytes: &[u8; 64], n: usize) {
-    if 64 < n {
+fn hex(bytes: &[u8], n: usize) {
+    if bytes.len() < n {
         return;
     }
     let mut i = 0;
@@ -53,6 +54,29 @@ fn lamps(node: Node) {
     lamp(node.lamps[1]);
     lamp(node.lamps[2]);
     text(b"\n");
+}
+
+// Prints a view's refusal and the bytes of its part.
+fn look<'a>(eeprom: &'a [u8], external: &'a [u8], pnum: u8, start: usize, count: usize) {
+    number(view_status(eeprom, external, pnum, start, count) as u64);
+    let part = view(eeprom, external, pnum, start, count);
+    hex(part, part.len());
+}
+
+// Parts at one place of both memories, the last byte of external memory, and refused views.
+fn views<'a>(eeprom: &'a [u8], external: &'a [u8]) {
+    text(b"view 03 at 190, 2");
+    look(eeprom, external, 3, 190, 2);
+    text(b"view 04 at 190, 2");
+    look(eeprom, external, 4, 190, 2);
+    text(b"view 04 at 3FFF, 1");
+    look(eeprom, external, 4, 0x3FFF, 1);
+    text(b"view 04 at 3FFF, 2");
+    look(eeprom, external, 4, 0x3FFF, 2);
+    text(b"view 03 at 192, 0");
+    look(eeprom, external, 3, 192, 0);
+    text(b"view 05 at 0, 1");
+    look(eeprom, external, 5, 0, 1);
 }
 
 // Set lamps 0 and 2, raise lamps 0 and 1: three lamps, step 1.
@@ -133,9 +157,12 @@ fn main() {
     let started = start(settings);
     let mut eeprom = [0u8; 192];
     let mut external = [0u8; 16384];
-    text(b"view 03 at 192");
-    number(view_status(&eeprom, &external, 3, 192, 0) as u64);
-    text(b"\n");
+    eeprom[190] = 0xE1;
+    eeprom[191] = 0xE2;
+    external[190] = 0xA1;
+    external[191] = 0xA2;
+    external[0x3FFF] = 0xAF;
+    views(&eeprom, &external);
     let lit = lights(started.node, &mut eeprom, &mut external);
     let read = external_end(lit, &mut eeprom, &mut external);
     batch_and_broadcast(read, &mut eeprom, &mut external);

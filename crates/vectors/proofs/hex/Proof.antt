@@ -1,6 +1,7 @@
 use borrow.Author.Needs.{needs}
 use native.Mathlib.Omega.{arith}
 use Prim.Native.Nat.{_-_, _≤_}
+use lib.ListN.{length}
 use Rattle.vectors.proofs.hex.Statement.{statement}
 use Rattle.vectors.proofs.hex.Tie as tie
 use Rattle.vectors.proofs.hex.Reads as reads
@@ -10,7 +11,7 @@ use Rattle.io.proofs.print_hex.Reads as print-hex-reads
 use Rattle.vectors.proofs.text.Reads as text-reads
 
 abbrev Inv-loop : tie.InvT-loop
-Inv-loop bytes n i₀ t4 t5 i = (i ≤ n) × (n ≤ 64)
+Inv-loop bytes n i₀ t4 t5 i = (i ≤ n) × (n ≤ length bytes)
 
 abbrev μ-loop : tie.MeasureT-loop
 μ-loop bytes n i₀ t4 t5 i = n - i
@@ -27,8 +28,8 @@ slice-aggregate-text c = search needs
 text-requires : tie.Need-text-requires Inv-loop μ-loop
 text-requires c κs = search needs
 
-element-copy-out-wide : tie.Need-element-copy-out-wide Inv-loop μ-loop
-element-copy-out-wide c = search needs
+shared-slice-read-wide : tie.Need-shared-slice-read-wide Inv-loop μ-loop
+shared-slice-read-wide c = search needs
 
 wide-requires : tie.Need-wide-requires Inv-loop μ-loop
 wide-requires c κs = search needs
@@ -64,7 +65,7 @@ hex-spec =
     loop-holds
     slice-aggregate-text
     text-requires
-    element-copy-out-wide
+    shared-slice-read-wide
     wide-requires
     print-hex-requires
     add-i

@@ -1,9 +1,8 @@
-use borrow.Author.Tests.{eq-eqb, ne-eqb}
 use native.Mathlib.Omega.{arith}
 use mathlib.Core.Path.{_≡_, sym, _∙_}
-use Rattle.memory.specs.View.{viewStatus, viewPart}
+use Rattle.memory.specs.View.{viewStatus}
 use Rattle.memory.proofs.Blocks.{counted}
-use Rattle.memory.proofs.Views.{Viewed, viewed}
+use Rattle.memory.proofs.Views.{Viewed, viewed, view-refused, view-eeprom, view-external, place-refused, place-eeprom, place-external}
 use borrow.Author.Needs.{needs}
 use Rattle.memory.proofs.view.view.Statement.{statement}
 use Rattle.memory.proofs.view.view.Tie as tie
@@ -11,11 +10,14 @@ use Rattle.memory.proofs.view.view.Reads as reads
 use Rattle.memory.proofs.view.view.Lts as lts
 use Rattle.memory.proofs.view.view_status.Reads as view-status-reads
 
--- past the first test the view is not refused
-zero : (c : tie.Else1) → let a = c .before .before .before .before .args in viewStatus (a .eeprom .now) (a .external .now) (a .pnum) (a .start) (a .length) ≡ 0
+-- the first test finds the refused views, and past it the view is not
+refused : (c : tie.Then1) → let a = c .before .before .before .before .args in viewStatus (a .eeprom .now) (a .external .now) (a .pnum) (a .start) (a .count) ≡ 0 → ⊥
+refused c q = c .if1 .taken (c .before .view-status .ensures ∙ q)
+
+zero : (c : tie.Else1) → let a = c .before .before .before .before .args in viewStatus (a .eeprom .now) (a .external .now) (a .pnum) (a .start) (a .count) ≡ 0
 zero c = sym (c .before .view-status .ensures) ∙ c .if1 .left
 
-known : (c : tie.Else1) → let a = c .before .before .before .before .args in Viewed (a .eeprom .now) (a .external .now) (a .pnum) (a .start) (a .length)
+known : (c : tie.Else1) → let a = c .before .before .before .before .args in Viewed (a .eeprom .now) (a .external .now) (a .pnum) (a .start) (a .count)
 known c = viewed _ _ _ _ _ (zero c)
 
 view-status-requires : tie.Need-view-status-requires
@@ -31,8 +33,7 @@ part-result-end : tie.Need-part-result-end
 part-result-end c = search needs
 
 returns : tie.Need-returns
-unfolding viewPart
-returns c = simp (ne-eqb _ _ (λ q. c .before .if1 .taken (c .before .before .view-status .ensures ∙ q)))
+returns c = (sym (view-refused _ _ _ _ _ (refused (c .before))), sym (place-refused _ _ _ _ _ (refused (c .before))))
 
 add-end : tie.Need-add-end
 add-end c = omega (arith, known c .fits)
@@ -47,8 +48,9 @@ part-result-end-2 : tie.Need-part-result-end-2
 part-result-end-2 c = known (c .before) .eeprom (c .if2 .taken)
 
 returns-2 : tie.Need-returns-2
-unfolding viewPart
-returns-2 c = simp (counted, zero (c .before .before), eq-eqb _ _ (c .before .if2 .taken))
+returns-2 c =
+    let t = c .before in
+    (rw counted (sym (view-eeprom _ _ _ _ _ (zero (t .before)) (t .if2 .taken))), sym (place-eeprom _ _ _ _ _ (zero (t .before)) (t .if2 .taken)))
 
 sub-result-3 : tie.Need-sub-result-3
 sub-result-3 c = search needs
@@ -60,8 +62,9 @@ part-result-end-3 : tie.Need-part-result-end-3
 part-result-end-3 c = known (c .before) .external (c .if2 .left)
 
 returns-3 : tie.Need-returns-3
-unfolding viewPart
-returns-3 c = simp (counted, zero (c .before .before), ne-eqb _ _ (c .before .if2 .left))
+returns-3 c =
+    let l = c .before in
+    (rw counted (sym (view-external _ _ _ _ _ (zero (l .before)) (l .if2 .left))), sym (place-external _ _ _ _ _ (zero (l .before)) (l .if2 .left)))
 
 pub view-spec : {M : Type 1} → statement M
 view-spec =

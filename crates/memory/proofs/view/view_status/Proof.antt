@@ -1,10 +1,11 @@
 use borrow.Author.Tests.{eq-eqb, ne-eqb, not-true, not-false}
 use mathlib.Core.Path.{_≡_, _∙_, sym}
-use mathlib.Core.Bool.{Bool, true, cond, _||_}
+use mathlib.Core.Bool.{true, cond}
 use lib.Dec.{eqb}
 use lib.ListN.{length}
 use Rattle.memory.specs.declared.block.Memory.the-variants.{Eeprom, External}
-use Rattle.memory.specs.View.{blockRefusal, viewStatus}
+use Rattle.memory.specs.Block.{memoryPnum, sizeOf}
+use Rattle.memory.specs.View.{namesMemory, blockRefusal, viewStatus}
 use Rattle.memory.proofs.Views.{status-sized}
 use borrow.Author.Needs.{needs}
 use Rattle.memory.proofs.view.view_status.Statement.{statement}
@@ -15,7 +16,7 @@ use Rattle.memory.proofs.block.size_of.Reads as size-of-reads
 use Rattle.memory.proofs.view.block_refusal.Reads as block-refusal-reads
 use Rattle.memory.proofs.view.names_memory.Reads as names-memory-reads
 
-eeprom-size : (c : tie.Else1) → length (c .before .before .before .before .args .eeprom .now) ≡ 192
+eeprom-size : (c : tie.Else1) → length (c .before .before .before .before .args .eeprom .now) ≡ sizeOf Eeprom
 eeprom-size c = c .if1 .left ∙ c .before .size-of .ensures .0
 
 size-of-requires : tie.Need-size-of-requires
@@ -34,14 +35,14 @@ returns-2 c = simp (eq-eqb _ _ (eeprom-size (c .before .before)), ne-eqb _ _ (λ
 
 -- past the tests of both sizes
 sized : (c : tie.Else2) → let a = c .before .before .before .before .before .before .args in
-    viewStatus (a .eeprom .now) (a .external .now) (a .pnum) (a .start) (a .length)
-    ≡ cond (eqb (a .pnum) 3 || eqb (a .pnum) 4) (cond (eqb (a .pnum) 3) (blockRefusal Eeprom (a .start) (a .length)) (blockRefusal External (a .start) (a .length))) 10
+    viewStatus (a .eeprom .now) (a .external .now) (a .pnum) (a .start) (a .count)
+    ≡ cond (namesMemory (a .pnum)) (cond (eqb (a .pnum) (memoryPnum Eeprom)) (blockRefusal Eeprom (a .start) (a .count)) (blockRefusal External (a .start) (a .count))) 10
 sized c =
     let a = c .before .before .before .before .before .before .args in
-    status-sized (a .eeprom .now) (a .external .now) (a .pnum) (a .start) (a .length) (eeprom-size (c .before .before)) (c .if2 .left ∙ c .before .size-of2 .ensures .0)
+    status-sized (a .eeprom .now) (a .external .now) (a .pnum) (a .start) (a .count) (eeprom-size (c .before .before)) (c .if2 .left ∙ c .before .size-of2 .ensures .0)
 
 -- and past that of the PNUM
-named : (c : tie.Else3) → let a = c .before .before .before .before .before .before .before .before .args in (eqb (a .pnum) 3 || eqb (a .pnum) 4) ≡ true
+named : (c : tie.Else3) → let a = c .before .before .before .before .before .before .before .before .args in namesMemory (a .pnum) ≡ true
 named c = sym (c .before .names-memory .ensures) ∙ not-false _ (c .if3 .left)
 
 names-memory-requires : tie.Need-names-memory-requires
