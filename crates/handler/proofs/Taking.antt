@@ -9,7 +9,6 @@ use lib.ListN.{length, take, drop}
 use borrow.Rule.Slice.PartMut.{midOf, putMid}
 use borrow.Author.Tests.{eq-eqb, ne-eqb, eqb-true, ltb-false}
 use Rattle.dpa.specs.declared.frame.Frame.{Frame}
-use Rattle.dpa.specs.declared.settings.Settings.{Settings}
 use Rattle.dpa.specs.Lists.{over}
 use Rattle.dpa.specs.Frame.{headerOf, frameFits, responseHeader}
 use Rattle.dpa.proofs.Bool.{first-taken, second-taken}
@@ -17,6 +16,7 @@ use Rattle.dpa.proofs.Headers.{fits-sizes}
 use Rattle.dpa.proofs.Lists.{to-end, rear-lent, rear-back, header-over}
 use Rattle.batch.specs.Batch.{Item, item}
 use Rattle.node.specs.declared.record.Node.{Node}
+use Rattle.node.specs.declared.record.ReadOnly.{ReadOnly}
 use Rattle.handler.specs.declared.os.Carried.{Carried}
 use Rattle.handler.specs.declared.answer.RequestAnswer.{RequestAnswer}
 use Rattle.node.specs.Node.{nodeOk}
@@ -74,22 +74,22 @@ pub called-as : {r t : RequestAnswer} {e x o : List ℕ} → r ≡ t → called 
 called-as {r} {t} {e} {x} {o} q = ap (λ (u : RequestAnswer). called u e x o) q
 
 -- the response: data in the lent rear part of the buffer, then the header in front
-pub own-answer : (o m : List ℕ) → 8 ≤ length o → (s : Settings) (i : Item) (a : Outcome) {c : Carried} {r e x w : List ℕ}
-    → delivered s c r e x m ≡ deliver a (midOf 8 (length o - 8) o)
-    → w ≡ responseHeader s (i .pnum) (i .pcmd) (c .error) ++ drop 8 (putMid 8 (length o - 8) o m)
-    → calledInParts s (record { length = 8 + c .length; load = c .load; lamps = c .lamps }) r e x w ≡ respond s i a o
-own-answer o m h s i a {c} {r} {e} {x} {w} q u =
-    ap (calledInParts s (record { length = 8 + c .length; load = c .load; lamps = c .lamps }) r e x)
-    (u ∙ ap (λ (l : List ℕ). responseHeader s (i .pnum) (i .pcmd) (c .error) ++ l) (rear-back 8 o m h))
+pub own-answer : (o m : List ℕ) → 8 ≤ length o → (k : ReadOnly) (i : Item) (a : Outcome) {c : Carried} {r e x w : List ℕ}
+    → delivered k c r e x m ≡ deliver a (midOf 8 (length o - 8) o)
+    → w ≡ responseHeader (k .settings) (i .pnum) (i .pcmd) (c .error) ++ drop 8 (putMid 8 (length o - 8) o m)
+    → calledInParts k (record { length = 8 + c .length; load = c .load; lamps = c .lamps }) r e x w ≡ respond (k .settings) i a o
+own-answer o m h k i a {c} {r} {e} {x} {w} q u =
+    ap (calledInParts k (record { length = 8 + c .length; load = c .load; lamps = c .lamps }) r e x)
+    (u ∙ ap (λ (l : List ℕ). responseHeader (k .settings) (i .pnum) (i .pcmd) (c .error) ++ l) (rear-back 8 o m h))
     ∙ ap headed q
     ∙ ap answered (rear-lent 8 o)
     ∙ ap (λ (l : List ℕ). record { after = a .after; refusal = 0; length = 8 + length (a .bytes); load = a .load; response = l })
-    (sym (header-over (responseHeader s (i .pnum) (i .pcmd) (a .error)) (a .bytes) o))
+    (sym (header-over (responseHeader (k .settings) (i .pnum) (i .pcmd) (a .error)) (a .bytes) o))
   where
     headed : Delivered → Called
     headed l =
-        record { after = l .after; refusal = 0; length = 8 + l .length; load = l .load; response = responseHeader s (i .pnum) (i .pcmd) (l .error) ++ l .out }
+        record { after = l .after; refusal = 0; length = 8 + l .length; load = l .load; response = responseHeader (k .settings) (i .pnum) (i .pcmd) (l .error) ++ l .out }
 
     answered : List ℕ → Called
     answered l =
-        record { after = a .after; refusal = 0; length = 8 + length (a .bytes); load = a .load; response = responseHeader s (i .pnum) (i .pcmd) (a .error) ++ over (a .bytes) l }
+        record { after = a .after; refusal = 0; length = 8 + length (a .bytes); load = a .load; response = responseHeader (k .settings) (i .pnum) (i .pcmd) (a .error) ++ over (a .bytes) l }

@@ -18,10 +18,11 @@ use Rattle.lights.specs.Lights.{lightsRequest}
 use Rattle.checksum.specs.Check.{codeCheck}
 use Rattle.batch.specs.Batch.{Item, item, reading, listError, runItems, errorsOf}
 use Rattle.node.specs.declared.record.Node.{Node}
+use Rattle.node.specs.declared.record.ReadOnly.{ReadOnly}
 use Rattle.handler.specs.declared.os.Carried.{Carried}
 use Rattle.handler.specs.declared.answer.RequestAnswer.{RequestAnswer}
 use Rattle.handler.specs.declared.answer.Taken.{Taken}
-use Rattle.node.specs.Node.{nodeOk, withLamps, withRam}
+use Rattle.node.specs.Node.{nodeOk, nodeFromParts, withLamps, withRam}
 
 -- the node with both memories
 pub record State : Type 0 where
@@ -179,9 +180,9 @@ requestOf f st o =
 
 -- ---- how the code shows it
 
--- the state of a node in parts: settings, lamps, RAM
-abbrev pub held : Settings → List Lamp → List ℕ → List ℕ → List ℕ → State
-held s ls r e x = state (record { settings = s; lamps = ls; ram = r }) e x
+-- the state of a node in parts: what is only read, lamps, RAM
+abbrev pub held : ReadOnly → List Lamp → List ℕ → List ℕ → List ℕ → State
+held k ls r e x = state (nodeFromParts k ls r) e x
 
 -- what carrying out leaves: the state, ErrN, the data's length, the load mark and the lent buffer
 pub record Delivered : Type 0 where
@@ -191,9 +192,9 @@ pub record Delivered : Type 0 where
   pub load : Bool
   pub out : List ℕ
 
-abbrev pub delivered : Settings → Carried → List ℕ → List ℕ → List ℕ → List ℕ → Delivered
-delivered s c r e x o =
-    record { after = held s (c .lamps) r e x; error = c .error; length = c .length; load = c .load; out = o }
+abbrev pub delivered : ReadOnly → Carried → List ℕ → List ℕ → List ℕ → List ℕ → Delivered
+delivered k c r e x o =
+    record { after = held k (c .lamps) r e x; error = c .error; length = c .length; load = c .load; out = o }
 
 abbrev pub deliver : Outcome → List ℕ → Delivered
 deliver a o =
@@ -205,6 +206,6 @@ called r e x o =
     record { after = state (r .node) e x; refusal = r .refusal; length = r .length; load = r .load; response = o }
 
 -- the same of a call that was not refused, of a node in parts
-abbrev pub calledInParts : Settings → Taken → List ℕ → List ℕ → List ℕ → List ℕ → Called
-calledInParts s t r e x o =
-    record { after = held s (t .lamps) r e x; refusal = 0; length = t .length; load = t .load; response = o }
+abbrev pub calledInParts : ReadOnly → Taken → List ℕ → List ℕ → List ℕ → List ℕ → Called
+calledInParts k t r e x o =
+    record { after = held k (t .lamps) r e x; refusal = 0; length = t .length; load = t .load; response = o }

@@ -1,10 +1,12 @@
 // What a call tells of a request.
 use dpa::refusal;
-use dpa::settings::Settings;
 use lights::lamp::Lamp;
 use node::record::Node;
+use node::record::ReadOnly;
+use node::record::node_from_parts;
 ghost use mathlib.Core.Path.{_≡_};
 ghost use mathlib.Core.Bool.{false};
+ghost use Rattle.node.specs.Node.{nodeFromParts};
 
 // The refusal, the response's length, the load mark, and the node afterwards.
 #[repr(C)]
@@ -34,16 +36,12 @@ pub fn unanswered(node: Node, refusal: u8) -> RequestAnswer
     }
 }
 
-// The node put together again.
-pub fn answered(settings: Settings, done: Taken, ram: [u8; 48]) -> RequestAnswer
-    ensures { λ r. ⌜ r ≡ record { refusal = 0; length = done .length; load = done .load; node = record { settings = settings; lamps = done .lamps; ram = ram } } ⌝ }
+// Carried out: not refused, and the node put together again.
+pub fn answered(fixed: ReadOnly, done: Taken, ram: [u8; 48]) -> RequestAnswer
+    ensures { λ r. ⌜ r ≡ record { refusal = 0; length = done .length; load = done .load; node = nodeFromParts fixed (done .lamps) ram } ⌝ }
 {
     let lamps = done.lamps;
-    let node = Node {
-        settings,
-        lamps,
-        ram,
-    };
+    let node = node_from_parts(fixed, lamps, ram);
     RequestAnswer {
         refusal: refusal::NONE,
         length: done.length,

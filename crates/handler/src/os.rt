@@ -5,8 +5,8 @@ use batch::list::list_error;
 use batch::list::read_list;
 use checksum::check::code_check;
 use dpa::error;
-use dpa::settings::Settings;
 use lights::lamp::Lamp;
+use node::record::ReadOnly;
 ghost use mathlib.Core.Path.{_≡_};
 ghost use mathlib.Core.Bool.{false};
 ghost use mathlib.Core.List.{List};
@@ -41,16 +41,16 @@ pub fn without_data(lamps: [Lamp; 32], error: u8) -> Carried
 
 // A list that cannot be read runs nothing.
 fn run_batch(
-    settings: Settings,
+    fixed: ReadOnly,
     lamps: [Lamp; 32],
     pdata: &[u8],
     ram: &mut [u8],
     eeprom: &mut [u8],
     external: &mut [u8],
 ) -> Carried
-    requires { ⌜ StateRule (held settings lamps (now ram) (now eeprom) (now external)) ⌝ }
-    ensures { λ r. ⌜ ((o : List ℕ) → delivered settings r (now (ram .exit)) (now (eeprom .exit)) (now (external .exit)) o
-        ≡ deliver (batchOf (now (pdata .entry)) (held settings lamps (now (ram .entry)) (now (eeprom .entry)) (now (external .entry)))) o) ⌝ }
+    requires { ⌜ StateRule (held fixed lamps (now ram) (now eeprom) (now external)) ⌝ }
+    ensures { λ r. ⌜ ((o : List ℕ) → delivered fixed r (now (ram .exit)) (now (eeprom .exit)) (now (external .exit)) o
+        ≡ deliver (batchOf (now (pdata .entry)) (held fixed lamps (now (ram .entry)) (now (eeprom .entry)) (now (external .entry)))) o) ⌝ }
 {
     if pdata.len() == 0 {
         return without_data(lamps, error::DATA_LEN);
@@ -59,12 +59,12 @@ fn run_batch(
     let Listed::Sound = listed else {
         return without_data(lamps, list_error(listed));
     };
-    let after = run_list(settings, lamps, pdata, ram, eeprom, external);
+    let after = run_list(fixed, lamps, pdata, ram, eeprom, external);
     without_data(after, error::NONE)
 }
 
 pub fn os(
-    settings: Settings,
+    fixed: ReadOnly,
     lamps: [Lamp; 32],
     pcmd: u8,
     pdata: &[u8],
@@ -73,12 +73,12 @@ pub fn os(
     external: &mut [u8],
     out: &mut [u8],
 ) -> Carried
-    requires { ⌜ StateRule (held settings lamps (now ram) (now eeprom) (now external)) × (pdataMax ≤ length (now out)) ⌝ }
-    ensures { λ r. ⌜ delivered settings r (now (ram .exit)) (now (eeprom .exit)) (now (external .exit)) (now (out .exit))
-        ≡ deliver (osOf pcmd (now (pdata .entry)) (held settings lamps (now (ram .entry)) (now (eeprom .entry)) (now (external .entry)))) (now (out .entry)) ⌝ }
+    requires { ⌜ StateRule (held fixed lamps (now ram) (now eeprom) (now external)) × (pdataMax ≤ length (now out)) ⌝ }
+    ensures { λ r. ⌜ delivered fixed r (now (ram .exit)) (now (eeprom .exit)) (now (external .exit)) (now (out .exit))
+        ≡ deliver (osOf pcmd (now (pdata .entry)) (held fixed lamps (now (ram .entry)) (now (eeprom .entry)) (now (external .entry)))) (now (out .entry)) ⌝ }
 {
     if pcmd == BATCH {
-        return run_batch(settings, lamps, pdata, ram, eeprom, external);
+        return run_batch(fixed, lamps, pdata, ram, eeprom, external);
     }
     if pcmd == CODE_CHECK {
         let checked = code_check(external, pdata, out);

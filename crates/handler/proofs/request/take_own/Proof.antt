@@ -15,7 +15,7 @@ use Rattle.handler.proofs.request.carry_out.Reads as carry-out-reads
 -- the state that the function is given
 abbrev given : tie.Start → State
 given c =
-    held (c .args .settings) (c .args .lamps) (c .args .ram .now) (c .args .eeprom .now) (c .args .external .now)
+    held (c .args .fixed) (c .args .lamps) (c .args .ram .now) (c .args .eeprom .now) (c .args .external .now)
 
 -- and the request
 abbrev asked : tie.Start → Item
@@ -58,7 +58,7 @@ same-length-4 c = search needs
 returns : tie.Need-returns
 returns c =
     let s = c .before .before .before .before .before .before .before .before .before .before .before .before .before .before .before .before .before .before .before .before .before .before .before in
-    own-answer (s .args .response .now) (c .before .before .before .before .before .before .before .before .before .before .before .before .before .carry-out .last .1 .1 .1 .1 .1 .1 .1 .0) (omega (arith, s .pre .1)) (s .args .settings)
+    own-answer (s .args .response .now) (c .before .before .before .before .before .before .before .before .before .before .before .before .before .carry-out .last .1 .1 .1 .1 .1 .1 .1 .0) (omega (arith, s .pre .1)) (s .args .fixed)
     (asked s) (carryOut (asked s) (given s)) (c .before .before .before .before .before .before .before .before .before .before .before .before .before .carry-out .ensures) (c .before .before .before .write-header .ensures)
 
 pub take-own-spec : {M : Type 1} → statement M
