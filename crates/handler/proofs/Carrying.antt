@@ -11,7 +11,7 @@ use Rattle.batch.specs.Batch.{Item, reading, listError}
 use Rattle.batch.specs.declared.list.Listed.the-variants.{Sound, Broken}
 use Rattle.node.specs.declared.record.ReadOnly.{ReadOnly}
 use Rattle.handler.specs.declared.os.Carried.{Carried}
-use Rattle.handler.specs.Request.{State, perform, forNode, plain, ran, batchOf, codeCheckOf, osOf, carryOut, delivered, deliver}
+use Rattle.handler.specs.Request.{State, perform, forNode, noReport, plain, ran, batchOf, codeCheckOf, osOf, carryOut, delivered, deliver}
 
 module _ (d : List ℕ) (st : State) where
   pub batch-empty : length d ≡ 0 → batchOf d st ≡ plain (refused st 5)
@@ -61,13 +61,13 @@ delivered-as {k} {c} {d} {r} {e} {x} {o} q = ap (λ (t : Carried). delivered k t
 
 -- a peripheral's answer
 pub delivered-plain : {st : State} {e n : ℕ} {out : List ℕ} (a : Served State) (o : List ℕ) → laid st e n out ≡ layOut a o
-    → record { after = st; error = e; length = n; load = false; out = out } ≡ deliver (plain a) o
+    → record { after = st; error = e; length = n; report = noReport; out = out } ≡ deliver (plain a) o
 delivered-plain a o q =
-    ap (λ (l : Laid State). record { after = l .after; error = l .error; length = l .length; load = false; out = l .out }) q
+    ap (λ (l : Laid State). record { after = l .after; error = l .error; length = l .length; report = noReport; out = l .out }) q
 
 -- the code check's answer
 pub delivered-check : (st : State) (d : List ℕ) {b : Bool} {e n : ℕ} {out : List ℕ} (o : List ℕ) → laid b e n out ≡ layOut (codeCheck (st .external) d) o
-    → record { after = st; error = e; length = n; load = b; out = out } ≡ deliver (codeCheckOf d st) o
+    → record { after = st; error = e; length = n; report = record { load = b }; out = out } ≡ deliver (codeCheckOf d st) o
 unfolding codeCheckOf
 delivered-check st d o q =
-    ap (λ (l : Laid Bool). record { after = st; error = l .error; length = l .length; load = l .after; out = l .out }) q
+    ap (λ (l : Laid Bool). record { after = st; error = l .error; length = l .length; report = record { load = l .after }; out = l .out }) q

@@ -1,7 +1,7 @@
 -- Taking a frame: whose it is, the response, and the refusals.
 use mathlib.Core.Path.{_≡_, ap, sym, _∙_}
 use mathlib.Core.List.{List, _++_}
-use mathlib.Core.Bool.{true, false}
+use mathlib.Core.Bool.{true}
 use Prim.Native.Nat.{ℕ, _+_, _-_, _≤_}
 use native.Mathlib.Omega.{arith}
 use lib.Dec.{ltb, eqb}
@@ -39,14 +39,14 @@ module _ (f : List ℕ) (st : State) (o : List ℕ) where
     unfolding takenOf
     taken-own e = rw (ne-eqb (headerOf f .nadr) 255 n, eq-eqb (headerOf f .nadr) (st .node .settings .address) e)
 
-    pub taken-other : (headerOf f .nadr ≡ st .node .settings .address → ⊥) → takenOf f st o ≡ silent st 0 false o
+    pub taken-other : (headerOf f .nadr ≡ st .node .settings .address → ⊥) → takenOf f st o ≡ silent st 0 o
     unfolding takenOf
     taken-other e = rw (ne-eqb (headerOf f .nadr) 255 n, ne-eqb (headerOf f .nadr) (st .node .settings .address) e)
 
-  pub call-refused : {k : ℕ} → k ≡ refusalOf f st o → (k ≡ 0 → ⊥) → silent st k false o ≡ requestOf f st o
+  pub call-refused : {k : ℕ} → k ≡ refusalOf f st o → (k ≡ 0 → ⊥) → silent st k o ≡ requestOf f st o
   unfolding requestOf
   call-refused e n =
-      rw (ne-eqb (refusalOf f st o) 0 (λ z. n (e ∙ z))) (ap (λ (r : ℕ). silent st r false o) e)
+      rw (ne-eqb (refusalOf f st o) 0 (λ z. n (e ∙ z))) (ap (λ (r : ℕ). silent st r o) e)
 
   pub call-taken : refusalOf f st o ≡ 0 → requestOf f st o ≡ takenOf f st o
   unfolding requestOf
@@ -77,19 +77,19 @@ called-as {r} {t} {e} {x} {o} q = ap (λ (u : RequestAnswer). called u e x o) q
 pub own-answer : (o m : List ℕ) → 8 ≤ length o → (k : ReadOnly) (i : Item) (a : Outcome) {c : Carried} {r e x w : List ℕ}
     → delivered k c r e x m ≡ deliver a (midOf 8 (length o - 8) o)
     → w ≡ responseHeader (k .settings) (i .pnum) (i .pcmd) (c .error) ++ drop 8 (putMid 8 (length o - 8) o m)
-    → calledInParts k (record { length = 8 + c .length; load = c .load; lamps = c .lamps }) r e x w ≡ respond (k .settings) i a o
+    → calledInParts k (record { length = 8 + c .length; report = c .report; lamps = c .lamps }) r e x w ≡ respond (k .settings) i a o
 own-answer o m h k i a {c} {r} {e} {x} {w} q u =
-    ap (calledInParts k (record { length = 8 + c .length; load = c .load; lamps = c .lamps }) r e x)
+    ap (calledInParts k (record { length = 8 + c .length; report = c .report; lamps = c .lamps }) r e x)
     (u ∙ ap (λ (l : List ℕ). responseHeader (k .settings) (i .pnum) (i .pcmd) (c .error) ++ l) (rear-back 8 o m h))
     ∙ ap headed q
     ∙ ap answered (rear-lent 8 o)
-    ∙ ap (λ (l : List ℕ). record { after = a .after; refusal = 0; length = 8 + length (a .bytes); load = a .load; response = l })
+    ∙ ap (λ (l : List ℕ). record { after = a .after; refusal = 0; length = 8 + length (a .bytes); report = a .report; response = l })
     (sym (header-over (responseHeader (k .settings) (i .pnum) (i .pcmd) (a .error)) (a .bytes) o))
   where
     headed : Delivered → Called
     headed l =
-        record { after = l .after; refusal = 0; length = 8 + l .length; load = l .load; response = responseHeader (k .settings) (i .pnum) (i .pcmd) (l .error) ++ l .out }
+        record { after = l .after; refusal = 0; length = 8 + l .length; report = l .report; response = responseHeader (k .settings) (i .pnum) (i .pcmd) (l .error) ++ l .out }
 
     answered : List ℕ → Called
     answered l =
-        record { after = a .after; refusal = 0; length = 8 + length (a .bytes); load = a .load; response = responseHeader (k .settings) (i .pnum) (i .pcmd) (a .error) ++ over (a .bytes) l }
+        record { after = a .after; refusal = 0; length = 8 + length (a .bytes); report = a .report; response = responseHeader (k .settings) (i .pnum) (i .pcmd) (a .error) ++ over (a .bytes) l }

@@ -1,12 +1,12 @@
-// What a call tells of a request.
+// What a call reports of a request.
 use dpa::refusal;
 use lights::lamp::Lamp;
 use node::record::Node;
 use node::record::ReadOnly;
 use node::record::node_from_parts;
 ghost use mathlib.Core.Path.{_≡_};
-ghost use mathlib.Core.Bool.{false};
 ghost use Rattle.node.specs.Node.{nodeFromParts};
+ghost use Rattle.handler.specs.Request.{noReport, answerOf};
 
 // The refusal, the response's length, the load mark, and the node afterwards.
 #[repr(C)]
@@ -17,35 +17,46 @@ pub struct RequestAnswer {
     pub node: Node,
 }
 
-// The load mark, the response's length, and the lamps afterwards.
-pub struct Taken {
+// What is reported of a request beside its answer: the load mark.
+pub struct Report {
     pub load: bool,
+}
+
+impl Report {
+    pub const NONE: Report = Report { load: false };
+}
+
+// The report, the response's length, and the lamps afterwards.
+pub struct Taken {
+    pub report: Report,
     pub length: usize,
     pub lamps: [Lamp; 32],
 }
 
-// Nothing done: not this node's, or refused.
-pub fn unanswered(node: Node, refusal: u8) -> RequestAnswer
-    ensures { λ r. ⌜ r ≡ record { refusal = refusal; length = 0; load = false; node = node } ⌝ }
+// The call's answer has the report's fields among its own.
+fn answer_of(refusal: u8, length: usize, report: Report, node: Node) -> RequestAnswer
+    ensures { λ r. ⌜ r ≡ answerOf refusal length report node ⌝ }
 {
     RequestAnswer {
         refusal,
-        length: 0,
-        load: false,
+        length,
+        load: report.load,
         node,
     }
 }
 
+// Nothing done: not this node's, or refused.
+pub fn unanswered(node: Node, refusal: u8) -> RequestAnswer
+    ensures { λ r. ⌜ r ≡ answerOf refusal 0 noReport node ⌝ }
+{
+    answer_of(refusal, 0, Report::NONE, node)
+}
+
 // Carried out: not refused, and the node put together again.
 pub fn answered(fixed: ReadOnly, done: Taken, ram: [u8; 48]) -> RequestAnswer
-    ensures { λ r. ⌜ r ≡ record { refusal = 0; length = done .length; load = done .load; node = nodeFromParts fixed (done .lamps) ram } ⌝ }
+    ensures { λ r. ⌜ r ≡ answerOf 0 (done .length) (done .report) (nodeFromParts fixed (done .lamps) ram) ⌝ }
 {
     let lamps = done.lamps;
     let node = node_from_parts(fixed, lamps, ram);
-    RequestAnswer {
-        refusal: refusal::NONE,
-        length: done.length,
-        load: done.load,
-        node,
-    }
+    answer_of(refusal::NONE, done.length, done.report, node)
 }

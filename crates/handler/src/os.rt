@@ -1,4 +1,5 @@
 // OS 02: batch and code check.
+use crate::answer::Report;
 use crate::entries::run_list;
 use batch::list::Listed;
 use batch::list::list_error;
@@ -8,32 +9,31 @@ use dpa::error;
 use lights::lamp::Lamp;
 use node::record::ReadOnly;
 ghost use mathlib.Core.Path.{_≡_};
-ghost use mathlib.Core.Bool.{false};
 ghost use mathlib.Core.List.{List};
 ghost use Prim.Native.Nat.{ℕ, _≤_};
 ghost use lib.ListN.{length};
 ghost use Rattle.dpa.specs.Frame.{pdataMax};
-ghost use Rattle.handler.specs.Request.{held, StateRule, delivered, deliver, batchOf, osOf};
+ghost use Rattle.handler.specs.Request.{noReport, held, StateRule, delivered, deliver, batchOf, osOf};
 
 pub const BATCH: u8 = 5;
 
 pub const CODE_CHECK: u8 = 0x0A;
 
-// ErrN, the load mark, the length of the answer's data, and the lamps after a request.
+// ErrN, the report, the length of the answer's data, and the lamps after a request.
 pub struct Carried {
     pub error: u8,
-    pub load: bool,
+    pub report: Report,
     pub length: usize,
     pub lamps: [Lamp; 32],
 }
 
 // A request that answers no data.
 pub fn without_data(lamps: [Lamp; 32], error: u8) -> Carried
-    ensures { λ r. ⌜ r ≡ record { error = error; load = false; length = 0; lamps = lamps } ⌝ }
+    ensures { λ r. ⌜ r ≡ record { error = error; report = noReport; length = 0; lamps = lamps } ⌝ }
 {
     Carried {
         error,
-        load: false,
+        report: Report::NONE,
         length: 0,
         lamps,
     }
@@ -82,9 +82,10 @@ pub fn os(
     }
     if pcmd == CODE_CHECK {
         let checked = code_check(external, pdata, out);
+        let report = Report { load: checked.load };
         return Carried {
             error: checked.error,
-            load: checked.load,
+            report,
             length: checked.length,
             lamps,
         };

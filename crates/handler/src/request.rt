@@ -1,4 +1,5 @@
 // Taking a request: from the frame to the response buffer.
+use crate::answer::Report;
 use crate::answer::RequestAnswer;
 use crate::answer::Taken;
 use crate::answer::answered;
@@ -22,22 +23,21 @@ use node::record::ReadOnly;
 use node::record::node_ok;
 use node::record::read_only;
 ghost use mathlib.Core.Path.{_≡_};
-ghost use mathlib.Core.Bool.{false};
 ghost use mathlib.Core.List.{List};
 ghost use Prim.Native.Nat.{ℕ, _≤_};
 ghost use lib.ListN.{length};
 ghost use Rattle.dpa.specs.Frame.{headerSize, pdataMax, longestResponse};
 ghost use Rattle.batch.specs.Batch.{item};
-ghost use Rattle.handler.specs.Request.{state, held, StateRule, delivered, deliver, carryOut, called, calledInParts, broadcast, respond, takenOf, requestRefusal, requestOf};
+ghost use Rattle.handler.specs.Request.{state, noReport, held, StateRule, delivered, deliver, carryOut, called, calledInParts, broadcast, respond, takenOf, requestRefusal, requestOf};
 
-// A request to a peripheral sets no load mark.
+// A request to a peripheral has nothing to report.
 fn of_peripheral(reply: LampsReply) -> Carried
-    ensures { λ r. ⌜ r ≡ record { error = reply .error; load = false; length = reply .length; lamps = reply .lamps } ⌝ }
+    ensures { λ r. ⌜ r ≡ record { error = reply .error; report = noReport; length = reply .length; lamps = reply .lamps } ⌝ }
 {
     let lamps = reply.lamps;
     Carried {
         error: reply.error,
-        load: false,
+        report: Report::NONE,
         length: reply.length,
         lamps,
     }
@@ -106,9 +106,10 @@ fn take_broadcast(
         external,
         &mut scratch,
     );
+    let report = done.report;
     let after = done.lamps;
     Taken {
-        load: done.load,
+        report,
         length: 0,
         lamps: after,
     }
@@ -148,11 +149,12 @@ fn take_own(
         header.pcmd,
         done.error,
     );
-    let length = done.length;
+    let report = done.report;
+    let length = Frame::RESPONSE_HEADER + done.length;
     let after = done.lamps;
     Taken {
-        load: done.load,
-        length: Frame::RESPONSE_HEADER + length,
+        report,
+        length,
         lamps: after,
     }
 }
