@@ -1,7 +1,7 @@
 -- Taking a frame: whose it is, the response, and the refusals.
 use mathlib.Core.Path.{_≡_, ap, sym, _∙_}
 use mathlib.Core.List.{List, _++_}
-use mathlib.Core.Bool.{true}
+use mathlib.Core.Bool.{true, _&&_, _||_}
 use Prim.Native.Nat.{ℕ, _+_, _-_, _≤_}
 use native.Mathlib.Omega.{arith}
 use lib.Dec.{ltb, eqb}
@@ -10,8 +10,8 @@ use borrow.Rule.Slice.PartMut.{midOf, putMid}
 use borrow.Author.Tests.{eq-eqb, ne-eqb, eqb-true, ltb-false}
 use Rattle.dpa.specs.declared.frame.Frame.{Frame}
 use Rattle.dpa.specs.Lists.{over}
-use Rattle.dpa.specs.Frame.{headerOf, frameFits, responseHeader}
-use Rattle.dpa.proofs.Bool.{first-taken, second-taken}
+use Rattle.dpa.specs.Frame.{broadcastNadr, headerOf, frameFits, responseHeader}
+use Rattle.dpa.proofs.Bool.{by-cond, first-taken, second-taken}
 use Rattle.dpa.proofs.Headers.{fits-sizes}
 use Rattle.dpa.proofs.Lists.{to-end, rear-lent, rear-back, header-over}
 use Rattle.batch.specs.Batch.{Item, item}
@@ -52,6 +52,19 @@ module _ (f : List ℕ) (st : State) (o : List ℕ) where
   unfolding requestOf
   call-taken e = rw (eq-eqb (refusalOf f st o) 0 e)
 
+-- a call answers "addressed" exactly where it is not refused and NADR is the broadcast's or the node's
+pub addressed-exact : (f : List ℕ) (st : State) (o : List ℕ)
+    → requestOf f st o .addressed
+    ≡ (eqb (requestOf f st o .refusal) 0 && (eqb (headerOf f .nadr) broadcastNadr || eqb (headerOf f .nadr) (st .node .settings .address)))
+unfolding requestOf takenOf
+addressed-exact f st o =
+    let all = eqb (headerOf f .nadr) broadcastNadr in
+    let own = eqb (headerOf f .nadr) (st .node .settings .address) in
+    let Exact : Called → Type 0 = λ a. a .addressed ≡ (eqb (a .refusal) 0 && (all || own)) in
+    by-cond Exact (eqb (refusalOf f st o) 0) _ _
+    (λ _. by-cond Exact all _ _ (λ e. rw e) (λ e. by-cond Exact own _ _ (λ q. rw (e, q)) (λ q. rw (e, q))))
+    (λ e. rw e)
+
 -- what is known where no refusal was given
 module _ (n : Node) (f e x r : ℕ) (z : requestRefusal n f e x r ≡ 0) where
   pub refusal-none : (nodeOk n ≡ true) × (6 ≤ f) × (64 ≤ r) × (e ≡ 192) × (x ≡ 16384)
@@ -83,13 +96,13 @@ own-answer o m h k i a {c} {r} {e} {x} {w} q u =
     (u ∙ ap (λ (l : List ℕ). responseHeader (k .settings) (i .pnum) (i .pcmd) (c .error) ++ l) (rear-back 8 o m h))
     ∙ ap headed q
     ∙ ap answered (rear-lent 8 o)
-    ∙ ap (λ (l : List ℕ). record { after = a .after; refusal = 0; length = 8 + length (a .bytes); report = a .report; response = l })
+    ∙ ap (λ (l : List ℕ). record { after = a .after; refusal = 0; length = 8 + length (a .bytes); report = a .report; addressed = true; response = l })
     (sym (header-over (responseHeader (k .settings) (i .pnum) (i .pcmd) (a .error)) (a .bytes) o))
   where
     headed : Delivered → Called
     headed l =
-        record { after = l .after; refusal = 0; length = 8 + l .length; report = l .report; response = responseHeader (k .settings) (i .pnum) (i .pcmd) (l .error) ++ l .out }
+        record { after = l .after; refusal = 0; length = 8 + l .length; report = l .report; addressed = true; response = responseHeader (k .settings) (i .pnum) (i .pcmd) (l .error) ++ l .out }
 
     answered : List ℕ → Called
     answered l =
-        record { after = a .after; refusal = 0; length = 8 + length (a .bytes); report = a .report; response = responseHeader (k .settings) (i .pnum) (i .pcmd) (a .error) ++ over (a .bytes) l }
+        record { after = a .after; refusal = 0; length = 8 + length (a .bytes); report = a .report; addressed = true; response = responseHeader (k .settings) (i .pnum) (i .pcmd) (a .error) ++ over (a .bytes) l }

@@ -128,21 +128,23 @@ carryOut i st =
 abbrev pub itemOf : List ℕ → Item
 itemOf f = item (headerOf f .pnum) (headerOf f .pcmd) (headerOf f .hwpid) (pdataOf f)
 
--- What a call leaves: the state, the refusal, the response's length, the report, and the response buffer.
+-- What a call leaves: the state, the refusal, the response's length, the report, whether the request was for this node
+-- or for all, and the response buffer.
 pub record Called : Type 0 where
   pub after : State
   pub refusal : ℕ
   pub length : ℕ
   pub report : Report
+  pub addressed : Bool
   pub response : List ℕ
 
 -- nothing is done and nothing answered: the response buffer stays
 abbrev pub silent : State → ℕ → List ℕ → Called
-silent st refusal o = record { after = st; refusal = refusal; length = 0; report = noReport; response = o }
+silent st refusal o = record { after = st; refusal = refusal; length = 0; report = noReport; addressed = false; response = o }
 
 -- a broadcast is carried out and never answered
 abbrev pub broadcast : Outcome → List ℕ → Called
-broadcast a o = record { after = a .after; refusal = 0; length = 0; report = a .report; response = o }
+broadcast a o = record { after = a .after; refusal = 0; length = 0; report = a .report; addressed = true; response = o }
 
 -- a response: header and data, later bytes as they were
 abbrev pub respond : Settings → Item → Outcome → List ℕ → Called
@@ -152,6 +154,7 @@ respond s i a o =
       refusal = 0;
       length = responseHeaderSize + length (a .bytes);
       report = a .report;
+      addressed = true;
       response = over (responseHeader s (i .pnum) (i .pcmd) (a .error) ++ a .bytes) o;
     }
 
@@ -206,8 +209,8 @@ deliver a o =
     record { after = a .after; error = a .error; length = length (a .bytes); report = a .report; out = over (a .bytes) o }
 
 -- the call's answer has the report's fields among its own; the report taken out of it again
-abbrev pub answerOf : ℕ → ℕ → Report → Node → RequestAnswer
-answerOf refusal length m n = record { refusal = refusal; length = length; load = m .load; node = n }
+abbrev pub answerOf : ℕ → ℕ → Report → Bool → Node → RequestAnswer
+answerOf refusal length m b n = record { refusal = refusal; length = length; load = m .load; addressed = b; node = n }
 
 abbrev pub reportOf : RequestAnswer → Report
 reportOf r = record { load = r .load }
@@ -215,9 +218,9 @@ reportOf r = record { load = r .load }
 -- a call by its answer, both memories and the response buffer
 abbrev pub called : RequestAnswer → List ℕ → List ℕ → List ℕ → Called
 called r e x o =
-    record { after = state (r .node) e x; refusal = r .refusal; length = r .length; report = reportOf r; response = o }
+    record { after = state (r .node) e x; refusal = r .refusal; length = r .length; report = reportOf r; addressed = r .addressed; response = o }
 
 -- the same of a call that was not refused, of a node in parts
 abbrev pub calledInParts : ReadOnly → Taken → List ℕ → List ℕ → List ℕ → List ℕ → Called
 calledInParts k t r e x o =
-    record { after = held k (t .lamps) r e x; refusal = 0; length = t .length; report = t .report; response = o }
+    record { after = held k (t .lamps) r e x; refusal = 0; length = t .length; report = t .report; addressed = true; response = o }

@@ -5,15 +5,17 @@ use node::record::Node;
 use node::record::ReadOnly;
 use node::record::node_from_parts;
 ghost use mathlib.Core.Path.{_≡_};
+ghost use mathlib.Core.Bool.{true, false};
 ghost use Rattle.node.specs.Node.{nodeFromParts};
 ghost use Rattle.handler.specs.Request.{noReport, answerOf};
 
-// The refusal, the response's length, the load mark, and the node afterwards.
+// The refusal, the response's length, the load mark, whether the request was for this node or for all, and the node afterwards.
 #[repr(C)]
 pub struct RequestAnswer {
     pub refusal: u8,
     pub length: usize,
     pub load: bool,
+    pub addressed: bool,
     pub node: Node,
 }
 
@@ -34,29 +36,36 @@ pub struct Taken {
 }
 
 // The call's answer has the report's fields among its own.
-fn answer_of(refusal: u8, length: usize, report: Report, node: Node) -> RequestAnswer
-    ensures { λ r. ⌜ r ≡ answerOf refusal length report node ⌝ }
+fn answer_of(
+    refusal: u8,
+    length: usize,
+    report: Report,
+    addressed: bool,
+    node: Node,
+) -> RequestAnswer
+    ensures { λ r. ⌜ r ≡ answerOf refusal length report addressed node ⌝ }
 {
     RequestAnswer {
         refusal,
         length,
         load: report.load,
+        addressed,
         node,
     }
 }
 
 // Nothing done: not this node's, or refused.
 pub fn unanswered(node: Node, refusal: u8) -> RequestAnswer
-    ensures { λ r. ⌜ r ≡ answerOf refusal 0 noReport node ⌝ }
+    ensures { λ r. ⌜ r ≡ answerOf refusal 0 noReport false node ⌝ }
 {
-    answer_of(refusal, 0, Report::NONE, node)
+    answer_of(refusal, 0, Report::NONE, false, node)
 }
 
 // Carried out: not refused, and the node put together again.
 pub fn answered(fixed: ReadOnly, done: Taken, ram: [u8; 48]) -> RequestAnswer
-    ensures { λ r. ⌜ r ≡ answerOf 0 (done .length) (done .report) (nodeFromParts fixed (done .lamps) ram) ⌝ }
+    ensures { λ r. ⌜ r ≡ answerOf 0 (done .length) (done .report) true (nodeFromParts fixed (done .lamps) ram) ⌝ }
 {
     let lamps = done.lamps;
     let node = node_from_parts(fixed, lamps, ram);
-    answer_of(refusal::NONE, done.length, done.report, node)
+    answer_of(refusal::NONE, done.length, done.report, true, node)
 }

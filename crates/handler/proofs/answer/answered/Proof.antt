@@ -1,5 +1,6 @@
 use borrow.Author.Needs.{needs}
 use mathlib.Core.Path.{ap, _∙_}
+use mathlib.Core.Bool.{true}
 use Rattle.handler.specs.Request.{answerOf}
 use Rattle.handler.proofs.answer.answered.Statement.{statement}
 use Rattle.handler.proofs.answer.answered.Tie as tie
@@ -17,7 +18,7 @@ answer-of-requires c κs = search needs
 returns : tie.Need-returns
 returns c =
     let d = c .before .before .before .args .done in
-    c .answer-of .ensures ∙ ap (answerOf 0 (d .length) (d .report)) (c .before .node-from-parts .ensures)
+    c .answer-of .ensures ∙ ap (answerOf 0 (d .length) (d .report) true) (c .before .node-from-parts .ensures)
 
 pub answered-spec : {M : Type 1} → statement M
 answered-spec = tie.close (tie.spec node-from-parts-requires answer-of-requires returns)
