@@ -2,7 +2,7 @@
 use mathlib.Core.Path.{_≡_, refl, sym, ap, subst, _∙_}
 use mathlib.Core.List.{List}
 use mathlib.Core.Bool.{Bool, true, false, cond}
-use Prim.Native.Nat.{ℕ, _-_, _≤_, _<_}
+use Prim.Native.Nat.{ℕ, _≤_, _<_}
 use native.Mathlib.Omega.{arith}
 use borrow.Author.Tests.{lt-ltb, le-ltb, eq-eqb, ne-eqb, ltb-false, ltb-true, eqb-true, eqb-false}
 use lib.ListN.{length, getD}
@@ -11,7 +11,7 @@ use Rattle.dpa.specs.Number.{wordAt}
 use Rattle.dpa.proofs.Bool.{and-left, and-right, by-cond}
 use Rattle.batch.specs.declared.entry.Next.{Next}
 use Rattle.batch.specs.declared.entry.Next.the-variants.{Entry, Fault}
-use Rattle.batch.specs.Batch.{closing, shortLength, overEnd, zeroMissing, afterZero, nextOf, Blame, short, over, unclosed, trailing}
+use Rattle.batch.specs.Batch.{closing, shortReason, overReason, unclosedReason, trailingReason, nextOf, Blame, short, over, unclosed, trailing}
 
 module _ (s : List ℕ) where
   -- one byte closes a list where it is zero
@@ -26,7 +26,7 @@ module _ (s : List ℕ) where
   pub closing-zero : closing s ≡ true → (length s ≡ 1) × (getD s 0 0 ≡ 0)
   closing-zero e = (eqb-true _ _ (and-left _ _ e), eqb-true _ _ (and-right (eqb (length s) 1) _ e))
 
-  -- more bytes do not close it
+  -- none or several bytes do not close it
   pub more-open : (length s ≡ 1 → ⊥) → closing s ≡ false
   more-open h = rw (ne-eqb (length s) 1 h) refl
 
@@ -36,21 +36,21 @@ module _ (s : List ℕ) where
 
 -- the cases of `nextOf`
 
-pub next-none : (s : List ℕ) → length s ≡ 0 → nextOf s ≡ Fault zeroMissing 0
+pub next-none : (s : List ℕ) → length s ≡ 0 → nextOf s ≡ Fault unclosedReason 0
 unfolding nextOf
 next-none s h = simp (eq-eqb (length s) 0 h)
 
 module _ (s : List ℕ) (h : 0 < length s) where
-  pub next-trailing : getD s 0 0 ≡ 0 → nextOf s ≡ Fault afterZero 1
+  pub next-trailing : getD s 0 0 ≡ 0 → nextOf s ≡ Fault trailingReason 1
   unfolding nextOf
   next-trailing z = simp (ne-eqb (length s) 0 (omega arith), eq-eqb (getD s 0 0) 0 z)
 
-  pub next-short : 0 < getD s 0 0 → getD s 0 0 < 5 → nextOf s ≡ Fault shortLength 0
+  pub next-short : 0 < getD s 0 0 → getD s 0 0 < 5 → nextOf s ≡ Fault shortReason 0
   unfolding nextOf
   next-short p z =
       simp (ne-eqb (length s) 0 (omega arith), ne-eqb (getD s 0 0) 0 (omega arith), lt-ltb (getD s 0 0) 5 z)
 
-  pub next-over : 5 ≤ getD s 0 0 → length s < getD s 0 0 → nextOf s ≡ Fault overEnd 0
+  pub next-over : 5 ≤ getD s 0 0 → length s < getD s 0 0 → nextOf s ≡ Fault overReason 0
   unfolding nextOf
   next-over p z =
       simp (ne-eqb (length s) 0 (omega arith), ne-eqb (getD s 0 0) 0 (omega arith), le-ltb (getD s 0 0) 5 p, lt-ltb (length s) (getD s 0 0) z)

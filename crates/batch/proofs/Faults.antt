@@ -5,9 +5,11 @@ use Prim.Native.Nat.{ℕ, _+_, _-_, _≤_}
 use native.Mathlib.Omega.{arith}
 use lib.ListN.{length, drop, length-drop}
 use lib.Seq.{getD-drop}
+use Rattle.batch.specs.declared.entry.Next.{Next}
+use Rattle.batch.specs.declared.entry.Next.the-variants.{Entry, Fault}
 use Rattle.batch.specs.declared.list.Listed.{Listed}
 use Rattle.batch.specs.declared.list.Listed.the-variants.{Sound, Broken}
-use Rattle.batch.specs.Batch.{Reading, further, reading, listError, Blame, short, over, unclosed, trailing}
+use Rattle.batch.specs.Batch.{nextError, Reading, further, faultOf, reading, listError, Blame, short, over, unclosed, trailing}
 use Rattle.batch.proofs.Entries.{next-facts, entry-sized}
 use Rattle.batch.proofs.Lists.{by-reading}
 
@@ -63,6 +65,12 @@ broken-error e = rw e refl
 pub sound-error : {x : Listed} → x ≡ Sound → listError x ≡ 0
 sound-error e = rw e refl
 
+-- a list that what stands first breaks has its ErrN
+pub fault-error : (n : Next) → listError (faultOf n) ≡ nextError n
+fault-error (Entry l p c h) = refl
+fault-error (Fault r a) = refl
+
+-- only a sound list answers 0
 pub error-sound : (x : Listed) → listError x ≡ 0 → x ≡ Sound
 error-sound Sound e = refl
 error-sound (Broken r a) e = absurd (omega arith)

@@ -9,11 +9,10 @@ use lib.Seq.{take-add, take-append-seam, drop-at, drop-drop, length-take-le}
 use Rattle.dpa.specs.Lists.{Bytes, part}
 use Rattle.dpa.specs.Number.{low, high}
 use Rattle.dpa.proofs.Numbers.{word-split, low-word, high-word, word-max}
-use Rattle.batch.specs.declared.entry.Next.{Next}
-use Rattle.batch.specs.declared.entry.Next.the-variants.{Entry, Fault}
+use Rattle.batch.specs.declared.entry.Next.the-variants.{Entry}
 use Rattle.batch.specs.declared.list.Listed.{Listed}
 use Rattle.batch.specs.declared.list.Listed.the-variants.{Sound, Broken}
-use Rattle.batch.specs.Batch.{Item, item, entryBytes, entriesBytes, listBytes, Sendable, All, closing, nextOf, Reading, lenOf, further, andRest, reading}
+use Rattle.batch.specs.Batch.{Item, item, entryBytes, entriesBytes, listBytes, Sendable, All, nextOf, Reading, further, andRest, reading}
 use Rattle.batch.proofs.Bytes.{bytes-none, bytes-cons, bytes-append, bytes-take, bytes-drop}
 use Rattle.batch.proofs.Entries.{Means, zero-closes, closing-zero, next-is, next-facts}
 use Rattle.batch.proofs.Lists.{reading-closed, reading-entry, reading-fault, by-reading}
@@ -26,7 +25,7 @@ module _ (i : Item) where
   unfolding entryBytes
   entry-length = omega arith
 
-  -- an entry's bytes stand first as that entry, whatever follows
+  -- an entry's bytes stand first as that entry, with any bytes after them
   pub entry-first : (t : List ℕ) → nextOf (entryBytes i ++ t) ≡ Entry (5 + length (i .pdata)) (i .pnum) (i .pcmd) (i .hwpid)
   unfolding entryBytes
   entry-first t =
@@ -52,7 +51,7 @@ further-add : (m n : ℕ) (x : Listed) → further m (further n x) ≡ further (
 further-add m n Sound = refl
 further-add m n (Broken r a) = ap (Broken r) (omega arith)
 
--- entries are read, then what follows them; a fault there keeps its reason and is told at its own place
+-- entries are read, then what follows them; a fault there keeps its reason and its place
 pub entries-reading : (is : List Item) (t : List ℕ)
     → reading (entriesBytes is ++ t) ≡ record { items = is ++ (reading t) .items; listed = further (length (entriesBytes is)) ((reading t) .listed) }
 unfolding entriesBytes

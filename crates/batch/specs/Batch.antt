@@ -54,32 +54,32 @@ closing s = eqb (length s) 1 && eqb (getD s 0 0) 0
 -- the reasons of a fault
 
 -- a length of 1 to 4
-abbrev pub shortLength : ℕ
-shortLength = 1
+abbrev pub shortReason : ℕ
+shortReason = 1
 
 -- a length over the list's end
-abbrev pub overEnd : ℕ
-overEnd = 2
+abbrev pub overReason : ℕ
+overReason = 2
 
 -- no closing zero
-abbrev pub zeroMissing : ℕ
-zeroMissing = 3
+abbrev pub unclosedReason : ℕ
+unclosedReason = 3
 
 -- bytes after the zero
-abbrev pub afterZero : ℕ
-afterZero = 4
+abbrev pub trailingReason : ℕ
+trailingReason = 4
 
 -- What stands first in the remaining bytes, where they are not the closing zero alone: an entry, or the reason why none
 -- can be taken apart and a place, counted from the first of these bytes.
 unfoldable pub nextOf : List ℕ → Next
 nextOf s =
-    cond (eqb (length s) 0) (Fault zeroMissing 0)
-    (cond (eqb (getD s 0 0) 0) (Fault afterZero 1)
-    (cond (ltb (getD s 0 0) 5) (Fault shortLength 0)
-    (cond (ltb (length s) (getD s 0 0)) (Fault overEnd 0)
+    cond (eqb (length s) 0) (Fault unclosedReason 0)
+    (cond (eqb (getD s 0 0) 0) (Fault trailingReason 1)
+    (cond (ltb (getD s 0 0) 5) (Fault shortReason 0)
+    (cond (ltb (length s) (getD s 0 0)) (Fault overReason 0)
     (Entry (getD s 0 0) (getD s 1 0) (getD s 2 0) (wordAt s 3)))))
 
--- the ErrN of what stands first
+-- the ErrN of each case: an entry can be taken apart, a fault cannot
 abbrev pub nextError : Next → ℕ
 nextError (Entry l p c h) = 0
 nextError (Fault r a) = 6
@@ -119,7 +119,7 @@ andRest (Fault k a) s r = stopped (faultOf (Fault k a))
 
 -- s read from its byte k on: the zero ends it; else an entry is read, its bytes are passed over, then the rest is read
 unfoldable pub readFrom : List ℕ → ℕ → Reading
-readFrom [] k = stopped (Broken zeroMissing 0)
+readFrom [] k = stopped (Broken unclosedReason 0)
 readFrom (b ∷ s) (suc k) = readFrom s k
 readFrom (b ∷ s) zero =
     cond (closing (b ∷ s)) (stopped Sound)
@@ -135,10 +135,10 @@ listError (Broken r a) = nextError (Fault r a)
 
 -- what a reason and a place say of a list
 pub data Blame (s : List ℕ) (r a : ℕ) : Type 0 where
-  short : r ≡ shortLength → a < length s → 0 < getD s a 0 → getD s a 0 < 5 → Blame s r a
-  over : r ≡ overEnd → a < length s → 5 ≤ getD s a 0 → length s < a + getD s a 0 → Blame s r a
-  unclosed : r ≡ zeroMissing → a ≡ length s → Blame s r a
-  trailing : r ≡ afterZero → 0 < a → a < length s → getD s (a - 1) 0 ≡ 0 → Blame s r a
+  short : r ≡ shortReason → a < length s → 0 < getD s a 0 → getD s a 0 < 5 → Blame s r a
+  over : r ≡ overReason → a < length s → 5 ≤ getD s a 0 → length s < a + getD s a 0 → Blame s r a
+  unclosed : r ≡ unclosedReason → a ≡ length s → Blame s r a
+  trailing : r ≡ trailingReason → 0 < a → a < length s → getD s (a - 1) 0 ≡ 0 → Blame s r a
 
 -- entries in order, each with the state that the one before left; f is what an entry does
 unfoldable pub runItems : {S : Type 0} → (Item → S → S) → List Item → S → S
