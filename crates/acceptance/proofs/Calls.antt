@@ -16,7 +16,7 @@ use Rattle.dpa.proofs.Bool.{both}
 use Rattle.dpa.proofs.Headers.{read-written}
 use Rattle.dpa.proofs.Ranges.{settings-facts}
 use Rattle.batch.specs.Batch.{Item, item, All}
-use Rattle.handler.specs.Request.{State, StateRule, itemOf, Outcome, carryOut, Called, broadcast, respond, requestRefusal, refusalOf, requestOf}
+use Rattle.handler.specs.Request.{State, StateRule, itemOf, noReport, Outcome, carryOut, Called, broadcast, respond, requestRefusal, refusalOf, requestOf}
 use Rattle.node.proofs.Nodes.{node-settings}
 use Rattle.handler.proofs.Taking.{taken-broadcast, taken-own, call-taken}
 use Rattle.handler.proofs.Soundness.{carry-sound}
@@ -52,7 +52,7 @@ taken-as f st o k z a e (inr all) = rw (eq-eqb a 255 all) (call-taken f st o z �
 left-by : (s : Settings) (i : Item) (end : State) (es o : List ℕ) (b : Bool)
     → let c : Called = cond b (broadcast (finished end es) o) (respond s i (finished end es) o) in
     (c .refusal ≡ 0) × (c .length ≡ cond b 0 8) × (c .response ≡ cond b o (over (responseHeader s (i .pnum) (i .pcmd) 0) o))
-    × (c .load ≡ false) × (c .after ≡ end)
+    × (c .report ≡ noReport) × (c .after ≡ end)
 left-by s i end es o true = (refl, refl, refl, refl, refl)
 left-by s i end es o false = (refl, refl, refl, refl, refl)
 
@@ -93,5 +93,5 @@ module _ (pcmd a h : ℕ) (pdata : List ℕ) (st : State) (o : List ℕ) (k : St
         entries = subst (λ (x : Outcome). All (λ (e : ℕ). e ≡ 0) (x .entries)) (sym request-did) none;
         length = ap (λ (c : Called). c .length) call-as ∙ is .1;
         response = ap (λ (c : Called). c .response) call-as ∙ is .2;
-        load = ap (λ (c : Called). c .load) call-as ∙ is .3;
+        report = ap (λ (c : Called). c .report) call-as ∙ is .3;
       }

@@ -5,7 +5,7 @@
 use Prim.Native.Nat.{ℕ, suc, _≤_, _<_}
 use mathlib.Core.Path.{_≡_}
 use mathlib.Core.Logic.{_⊎_}
-use mathlib.Core.Bool.{true, false, cond}
+use mathlib.Core.Bool.{true, cond}
 use mathlib.Core.List.{List, [], _∷_}
 use lib.ListN.{length}
 use lib.Dec.{eqb}
@@ -13,7 +13,7 @@ use Rattle.dpa.specs.declared.settings.Settings.{Settings}
 use Rattle.dpa.specs.Lists.{over}
 use Rattle.dpa.specs.Frame.{responseHeaderSize, longestResponse, broadcastNadr, anyHwpid, responseHeader}
 use Rattle.batch.specs.Batch.{All}
-use Rattle.handler.specs.Request.{State, StateRule, itemOf, carryOut, requestOf}
+use Rattle.handler.specs.Request.{State, StateRule, itemOf, noReport, carryOut, requestOf}
 use Rattle.book.specs.declared.step.Step.{Step}
 use Rattle.book.specs.Book.{countOf, bookOk, sceneOf}
 use Rattle.book.specs.Step.{stepFault}
@@ -41,7 +41,7 @@ pub record Success (pcmd a : ℕ) (s : Settings) (request : List ℕ) (st : Stat
   -- the answer: eight header bytes and the later bytes as they were, or at broadcast the buffer as it was
   pub length : requestOf request st buffer .length ≡ cond (eqb a broadcastNadr) 0 responseHeaderSize
   pub response : requestOf request st buffer .response ≡ cond (eqb a broadcastNadr) buffer (over (responseHeader s 0x02 pcmd 0) buffer)
-  pub load : requestOf request st buffer .load ≡ false
+  pub report : requestOf request st buffer .report ≡ noReport
 
 -- Requests in order, each call from what the last one left, and the first with the first buffer.
 abbrev pub AllSucceed : ℕ → ℕ → Settings → (ℕ → List ℕ) → List (List ℕ) → State → Type 0
