@@ -38,6 +38,7 @@ named : (p start n : ℕ) (b : Bool) → eqb p (memoryPnum Eeprom) ≡ b
 named p start n true h e = let r = block-ends Eeprom start n e in (omega arith, λ q. r)
 named p start n false h e = (block-ends External start n e, λ q. absurd (eqb-false p (memoryPnum Eeprom) h q))
 
+-- a view that is not refused lies in its memory
 pub viewed : (e x : List ℕ) (p start n : ℕ) → viewStatus e x p start n ≡ 0 → Viewed e x p start n
 unfolding viewStatus
 viewed e x p start n h =
@@ -55,16 +56,17 @@ module _ (e x : List ℕ) (p start n : ℕ) where
   unfolding viewPart
   view-refused h = simp (ne-eqb (viewStatus e x p start n) 0 h)
 
-  -- one that is not is the part of the memory that the PNUM names
+  -- one that is not, with EEPROM's PNUM, is a part of EEPROM
   pub view-eeprom : viewStatus e x p start n ≡ 0 → p ≡ memoryPnum Eeprom → viewPart e x p start n ≡ part e start n
   unfolding viewPart
   view-eeprom z q = simp (z, eq-eqb p (memoryPnum Eeprom) q)
 
+  -- with any other, a part of external memory
   pub view-external : viewStatus e x p start n ≡ 0 → (p ≡ memoryPnum Eeprom → ⊥) → viewPart e x p start n ≡ part x start n
   unfolding viewPart
   view-external z q = simp (z, ne-eqb p (memoryPnum Eeprom) q)
 
-  -- and has the length that was asked for
+  -- it has the length that was asked for
   pub view-length : viewStatus e x p start n ≡ 0 → length (viewPart e x p start n) ≡ n
   view-length z =
       let v = viewed e x p start n z in
@@ -78,11 +80,12 @@ module _ (e x : RefT (List ℕ)) (p start n : ℕ) where
   unfolding viewPlace
   place-refused h = simp (ne-eqb (viewStatus (now e) (now x) p start n) 0 h)
 
-  -- every other part, empty or not, lies in the memory that the PNUM names
+  -- that of any other view, empty or not, lies in the memory that the PNUM names: in EEPROM
   pub place-eeprom : viewStatus (now e) (now x) p start n ≡ 0 → p ≡ memoryPnum Eeprom → viewPlace e x p start n ≡ placeIn e start
   unfolding viewPlace
   place-eeprom z q = simp (z, eq-eqb p (memoryPnum Eeprom) q)
 
+  -- or in external memory
   pub place-external : viewStatus (now e) (now x) p start n ≡ 0 → (p ≡ memoryPnum Eeprom → ⊥) → viewPlace e x p start n ≡ placeIn x start
   unfolding viewPlace
   place-external z q = simp (z, ne-eqb p (memoryPnum Eeprom) q)

@@ -48,7 +48,7 @@ pub fn view_status(eeprom: &[u8], external: &[u8], pnum: u8, start: usize, count
     block_refusal(Memory::External, start, count)
 }
 
-// The part that the view names; empty where it is refused.
+// The part that the view names; where it is refused, an empty part at EEPROM's start.
 pub fn view<'a>(
     eeprom: &'a [u8],
     external: &'a [u8],
