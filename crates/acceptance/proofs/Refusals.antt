@@ -1,4 +1,4 @@
--- What the compile call refuses: its answer in each case, and that each number stands for its fault alone.
+-- What the compile call refuses: its answer in each case, and that each number is given for its fault alone.
 use mathlib.Core.Path.{_≡_, refl, sym, ap, subst, _∙_}
 use mathlib.Core.Logic.{_⊎_, inl, inr, _↔_}
 use mathlib.Core.Bool.{true, false, not, or-true}
@@ -25,7 +25,7 @@ use Rattle.acceptance.specs.SceneTheorem.{Addressable, NoFault, SceneRul
 
 -- ---- the faults by their tests
 
--- the call's test of an address
+-- the call's test of an address accepts just these
 pub addressable : (a : ℕ) → Addressable a ↔ (addressOk a ≡ true)
 unfolding addressOk
 addressable a = (to, from)
@@ -39,19 +39,20 @@ addressable a = (to, from)
         by-test (eqb a broadcastNadr) (λ e. inr (eqb-true a broadcastNadr e))
         (λ n. let r : nodeAddress a ≡ true = rw n at t in inl (leb-true 1 a (and-left _ _ r), leb-true a lastAddress (and-right (leb 1 a) _ r)))
 
--- the call's test of the steps
+-- steps without a fault are good by the call's test
 pub no-fault-good : (ss : List Step) → All NoFault ss → All Good ss
 no-fault-good ss = all-weaken NoFault Good (λ s e. eq-eqb (stepFault s) 0 e) ss
 
+-- and the other way round
 pub good-no-fault : (ss : List Step) → All Good ss → All NoFault ss
 good-no-fault ss = all-weaken Good NoFault (λ s g. eqb-true (stepFault s) 0 g) ss
 
--- which gives the number of the first bad one
-told-first : (i : ℕ) (ss : List Step) (j : ℕ) → badFrom i ss ≡ some j → (i ≤ j) × FirstBad ss (j - i)
-told-first i [] j e = absurd (let z : _≡_ {A = ℕ} 0 1 = cc in omega arith)
-told-first i (s ∷ ss) j e =
+-- the number that the test of the steps finds is the first bad one's, counted from i
+found-first : (i : ℕ) (ss : List Step) (j : ℕ) → badFrom i ss ≡ some j → (i ≤ j) × FirstBad ss (j - i)
+found-first i [] j e = absurd (let z : _≡_ {A = ℕ} 0 1 = cc in omega arith)
+found-first i (s ∷ ss) j e =
     by-test (goodStep s)
-    (λ g. let f = told-first (suc i) ss j (rw g at e) in (
+    (λ g. let f = found-first (suc i) ss j (rw g at e) in (
       omega (arith, f .0),
       record {
         earlier = s ∷ f .1 .earlier;
@@ -77,29 +78,34 @@ told-first i (s ∷ ss) j e =
       },
     ))
 
-first-told : (i : ℕ) (earlier : List Step) (bad : Step) (later : List Step) → All NoFault earlier → ¬ NoFault bad
+-- and the first bad one's number is found
+first-found : (i : ℕ) (earlier : List Step) (bad : Step) (later : List Step) → All NoFault earlier → ¬ NoFault bad
     → badFrom i (earlier ++ (bad ∷ later)) ≡ some (i + length earlier)
-first-told i [] bad later a f = rw (ne-eqb (stepFault bad) 0 f) (ap some (let z : i ≡ i + 0 = omega arith in z))
-first-told i (s ∷ ss) bad later a f =
+first-found i [] bad later a f = rw (ne-eqb (stepFault bad) 0 f) (ap some (let z : i ≡ i + 0 = omega arith in z))
+first-found i (s ∷ ss) bad later a f =
     rw (eq-eqb (stepFault s) 0 (a .0))
-    (first-told (suc i) ss bad later (a .1) f ∙ ap some (let z : suc i + length ss ≡ i + suc (length ss) = omega arith in z))
+    (first-found (suc i) ss bad later (a .1) f ∙ ap some (let z : suc i + length ss ≡ i + suc (length ss) = omega arith in z))
 
+-- the call finds step j exactly where it is the first bad one
 pub first-bad : (ss : List Step) (j : ℕ) → (badFrom 0 ss ≡ some j) ↔ FirstBad ss j
 first-bad ss j = (
-  λ e. subst (FirstBad ss) (let z : j - 0 ≡ j = omega arith in z) (told-first 0 ss j e .1),
-  λ f. ap (badFrom 0) (f .order) ∙ first-told 0 (f .earlier) (f .bad) (f .later) (f .no-fault) (f .fault) ∙ ap some (let z : 0 + length (f .earlier) ≡ j = omega (arith, f .number) in z),
+  λ e. subst (FirstBad ss) (let z : j - 0 ≡ j = omega arith in z) (found-first 0 ss j e .1),
+  λ f. ap (badFrom 0) (f .order) ∙ first-found 0 (f .earlier) (f .bad) (f .later) (f .no-fault) (f .fault) ∙ ap some (let z : 0 + length (f .earlier) ≡ j = omega (arith, f .number) in z),
 )
 
+-- a scene without a fault, by the call's tests
 pub rule-faultless : (b : List ℕ) (k : ℕ) → SceneRule b k → Faultless b k
 rule-faultless b k r =
     record { book = r .well-formed; number = r .known; steps = no-bad (sceneOf b k) .1 (no-fault-good (sceneOf b k) (r .no-fault)) }
 
 -- ---- a call
 
+-- two numbers that differ
 no : {F X : Type 0} {m n : ℕ} → eqb m n ≡ false → F → m ≡ n → X
 no {m} {n} t f e = absurd (eqb-false m n t e)
 
 module _ (b : List ℕ) (k a h : ℕ) (out : List ℕ) where
+  -- the cases, with what the tests before each have shown
   abbrev IllFormed : Type 0
   IllFormed = Addressable a × (bookOk b ≡ false)
 
@@ -138,10 +144,11 @@ module _ (b : List ℕ) (k a h : ℕ) (out : List ℕ) where
       let w = rule-faultless b k (f .1) in
       rw (addressable a .0 (f .0), w .book, lt-leb (countOf b) k (w .number), w .steps, lt-ltb (length out) outputRoom (f .2))
 
+  -- without a fault the call writes the output
   pub accepted-answer : Accepted → compileOf b k a h out ≡ written (output (compiled a h (sceneOf b k))) out
   accepted-answer f = written-whole b k a h out (addressable a .0 (f .0)) (f .2) (rule-faultless b k (f .1))
 
-  -- one of these applies
+  -- one of the cases applies: what holds of each answer holds of the call's
   module _ (P : CompileResult → Type 0)
       (address : ¬ Addressable a → P (refusedAt 1 0 out))
       (ill-formed : IllFormed → P (refusedAt 6 0 out))

@@ -1,6 +1,7 @@
 -- Condition 3 as one statement, `Condition3` at the end of this file. It has three parts:
 --   refusals  compiling is refused exactly for the faults that document 01 names, each with its number
---   requests  a node that takes a scene's requests in order refuses nothing and ends as the step machine does
+--   requests  a node that takes a scene's requests in order refuses none of them and no entry in them, and ends as the step
+--             machine does
 --   buffer    the same of the requests as they are read back from the output buffer of the compile call
 -- It is proved in proofs/Scenes (`condition-3`); proofs/Instance has a node and a book for which all that is given holds.
 -- Document 01, "Frames", "Scenes" and "Strength of the contracts". Cited here are the meanings that the contracts give the
@@ -69,8 +70,9 @@ pub record Refusals (book : List ℕ) (scene a : ℕ) (out : List ℕ) (r : Comp
 
 -- ---- what a node makes of a scene's requests
 
--- What is given of the node: it is sound, with its memories, whatever these hold; there is a response buffer for each call,
--- by the call's number, with any contents; the scene is compiled for the node's address or 255, its profile or 0xFFFF.
+-- What is given of the node: it is sound and its memories have their sizes, with any lamps, timers and bytes; each call, by
+-- its number, has a response buffer with room and any contents; the scene is compiled for the node's address or 255, with the
+-- node's profile or 0xFFFF.
 pub record Given (st : State) (buffers : ℕ → List ℕ) (a h : ℕ) : Type 0 where
   pub sound : StateRule st
   pub room : (k : ℕ) → longestResponse ≤ length (buffers k)
@@ -113,7 +115,7 @@ SceneTheorem =
     → Given st buffers a h → SceneRule book scene
     → DoneAsSteps 0x05 a buffers (compiled a h (sceneOf book scene)) (sceneOf book scene) st
 
--- The same for the requests in the output buffer of any compile call that is not refused, whatever the buffer held before.
+-- The same for the requests that stand in the output buffer after a compile call that is not refused, with any buffer.
 abbrev pub BufferTheorem : Type 0
 BufferTheorem =
     (st : State) (buffers : ℕ → List ℕ) (book : List ℕ) (scene a h : ℕ) (out : List ℕ)
