@@ -1,14 +1,14 @@
 -- Entries that each do their own steps do all their steps in a batch.
 use mathlib.Core.Path.{_≡_, refl, sym, ap, _∙_}
 use mathlib.Core.List.{List, [], _∷_}
-use mathlib.Core.Bool.{true, false}
+use mathlib.Core.Bool.{true}
 use Prim.Native.Nat.{ℕ}
 use native.Mathlib.Omega.{arith}
 use Rattle.dpa.specs.Served.{served}
 use Rattle.dpa.specs.declared.settings.Settings.{Settings}
 use Rattle.batch.specs.Batch.{listBytes, Reading, All, runItems, errorsOf}
 use Rattle.batch.proofs.RoundTrip.{round-trip, list-some}
-use Rattle.handler.specs.Request.{State, StateRule, forNode, entryOf, entryAfter, entryError, Outcome, outcome, ran, batchOf}
+use Rattle.handler.specs.Request.{State, StateRule, forNode, entryOf, entryAfter, entryError, noReport, Outcome, outcome, ran, batchOf}
 use Rattle.handler.proofs.Soundness.{entry-sound}
 use Rattle.handler.proofs.Carrying.{batch-runs}
 use Rattle.book.specs.declared.step.Step.{Step}
@@ -18,9 +18,9 @@ use Rattle.book.specs.Entry.{joinedItem}
 use Rattle.scene.specs.Compile.{joinedItems}
 use Rattle.book.proofs.Places.{machine-append, machine-stays}
 
--- carried out without an error of its own, data or load mark
+-- carried out without an error of its own or data, with nothing to report
 abbrev pub finished : State → List ℕ → Outcome
-finished end errors = outcome (served end 0 []) errors false
+finished end errors = outcome (served end 0 []) errors noReport
 
 -- the entry of these steps has no error and leaves what they leave
 abbrev pub Performs : ℕ → List Step → State → Type 0

@@ -19,7 +19,7 @@ use Rattle.dpa.proofs.Ranges.{settings-facts}
 use Rattle.memory.specs.declared.block.Memory.the-variants.{Eeprom, External}
 use Rattle.memory.specs.Block.{sizeOf}
 use Rattle.batch.specs.Batch.{Item, item, All}
-use Rattle.handler.specs.Request.{State, StateRule, itemOf, Outcome, carryOut, Called, broadcast, respond, requestRefusal, refusalOf, requestOf}
+use Rattle.handler.specs.Request.{State, StateRule, itemOf, noReport, Outcome, carryOut, Called, broadcast, respond, requestRefusal, refusalOf, requestOf}
 use Rattle.node.proofs.Nodes.{node-settings}
 use Rattle.handler.proofs.Taking.{taken-broadcast, taken-own, call-taken}
 use Rattle.handler.proofs.Soundness.{carry-sound}
@@ -55,9 +55,9 @@ taken-as f st o k z a e (inr all) = rw (eq-eqb a broadcastNadr all) (call-taken 
 left-by : (s : Settings) (i : Item) (end : State) (es o : List ℕ) (b : Bool)
     → let c : Called = cond b (broadcast (finished end es) o) (respond s i (finished end es) o) in
     (c .refusal ≡ 0) × (c .length ≡ cond b 0 responseHeaderSize) × (c .response ≡ cond b o (over (responseHeader s (i .pnum) (i .pcmd) 0) o))
-    × (c .load ≡ false) × (c .after ≡ end)
-left-by s i end es o true = (refl, refl, refl, refl, refl)
-left-by s i end es o false = (refl, refl, refl, refl, refl)
+    × (c .report ≡ noReport) × (c .addressed ≡ true) × (c .after ≡ end)
+left-by s i end es o true = (refl, refl, refl, refl, refl, refl)
+left-by s i end es o false = (refl, refl, refl, refl, refl, refl)
 
 module _ (pcmd a h : ℕ) (pdata : List ℕ) (st : State) (o : List ℕ) (k : StateRule st)
     (short : length (headerBytes (frame a osPnum pcmd h) ++ pdata) ≤ longestFrame) (room : longestResponse ≤ length o)
@@ -80,7 +80,7 @@ module _ (pcmd a h : ℕ) (pdata : List ℕ) (st : State) (o : List ℕ) (k : St
 
   -- the call leaves what carrying out leaves
   pub call-leaves : requestOf request st o .after ≡ end
-  call-leaves = ap (λ (c : Called). c .after) call-as ∙ left-by (st .node .settings) (itemOf request) end es o (eqb a broadcastNadr) .4
+  call-leaves = ap (λ (c : Called). c .after) call-as ∙ left-by (st .node .settings) (itemOf request) end es o (eqb a broadcastNadr) .5
 
   -- which is a sound node with its memories
   pub call-sound : StateRule (requestOf request st o .after)
@@ -96,5 +96,6 @@ module _ (pcmd a h : ℕ) (pdata : List ℕ) (st : State) (o : List ℕ) (k : St
         entries = subst (λ (x : Outcome). All (λ (e : ℕ). e ≡ 0) (x .entries)) (sym request-did) none;
         length = ap (λ (c : Called). c .length) call-as ∙ is .1;
         response = ap (λ (c : Called). c .response) call-as ∙ is .2;
-        load = ap (λ (c : Called). c .load) call-as ∙ is .3;
+        report = ap (λ (c : Called). c .report) call-as ∙ is .3;
+        addressed = ap (λ (c : Called). c .addressed) call-as ∙ is .4;
       }

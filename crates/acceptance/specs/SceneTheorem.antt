@@ -21,7 +21,7 @@ use Rattle.dpa.specs.Frame.{responseHeaderSize, longestResponse, broadcastNadr,
 use Rattle.dpa.specs.Pnum.{osPnum}
 use Rattle.dpa.specs.Settings.{lastAddress}
 use Rattle.batch.specs.Batch.{All}
-use Rattle.handler.specs.Request.{State, StateRule, itemOf, carryOut, requestOf}
+use Rattle.handler.specs.Request.{State, StateRule, itemOf, noReport, carryOut, requestOf}
 use Rattle.book.specs.declared.step.Step.{Step}
 use Rattle.book.specs.Book.{countOf, bookOk, sceneOf}
 use Rattle.book.specs.Step.{stepFault}
@@ -89,7 +89,9 @@ pub record Success (pcmd a : ℕ) (s : Settings) (request : List ℕ) (st : Stat
   -- the answer: eight header bytes and the later bytes as they were, or at broadcast the buffer as it was
   pub length : requestOf request st buffer .length ≡ cond (eqb a broadcastNadr) 0 responseHeaderSize
   pub response : requestOf request st buffer .response ≡ cond (eqb a broadcastNadr) buffer (over (responseHeader s osPnum pcmd 0) buffer)
-  pub load : requestOf request st buffer .load ≡ false
+  -- nothing is reported beside it, and the request counts as one for this node or for all
+  pub report : requestOf request st buffer .report ≡ noReport
+  pub addressed : requestOf request st buffer .addressed ≡ true
 
 -- Requests in order, each call from what the last one left, and the first with the first buffer.
 abbrev pub AllSucceed : ℕ → ℕ → Settings → (ℕ → List ℕ) → List (List ℕ) → State → Type 0

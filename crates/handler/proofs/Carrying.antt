@@ -5,13 +5,13 @@ use mathlib.Core.Bool.{Bool, true, false}
 use Prim.Native.Nat.{ℕ}
 use lib.ListN.{length}
 use borrow.Author.Tests.{eq-eqb, ne-eqb}
-use Rattle.dpa.specs.declared.settings.Settings.{Settings}
 use Rattle.dpa.specs.Served.{Served, Laid, laid, layOut, refused}
 use Rattle.checksum.specs.Check.{codeCheck}
 use Rattle.batch.specs.Batch.{Item, reading, listError}
 use Rattle.batch.specs.declared.list.Listed.the-variants.{Sound, Broken}
+use Rattle.node.specs.declared.record.ReadOnly.{ReadOnly}
 use Rattle.handler.specs.declared.os.Carried.{Carried}
-use Rattle.handler.specs.Request.{State, perform, forNode, plain, ran, batchOf, codeCheckOf, osOf, carryOut, delivered, deliver}
+use Rattle.handler.specs.Request.{State, perform, forNode, noReport, plain, ran, batchOf, codeCheckOf, osOf, carryOut, delivered, deliver}
 
 module _ (d : List ℕ) (st : State) where
   pub batch-empty : length d ≡ 0 → batchOf d st ≡ plain (refused st 5)
@@ -56,18 +56,18 @@ module _ (i : Item) (st : State) where
 
 -- What the code leaves
 
-pub delivered-as : {s : Settings} {c d : Carried} {r e x o : List ℕ} → c ≡ d → delivered s c r e x o ≡ delivered s d r e x o
-delivered-as {s} {c} {d} {r} {e} {x} {o} q = ap (λ (t : Carried). delivered s t r e x o) q
+pub delivered-as : {k : ReadOnly} {c d : Carried} {r e x o : List ℕ} → c ≡ d → delivered k c r e x o ≡ delivered k d r e x o
+delivered-as {k} {c} {d} {r} {e} {x} {o} q = ap (λ (t : Carried). delivered k t r e x o) q
 
 -- a peripheral's answer
 pub delivered-plain : {st : State} {e n : ℕ} {out : List ℕ} (a : Served State) (o : List ℕ) → laid st e n out ≡ layOut a o
-    → record { after = st; error = e; length = n; load = false; out = out } ≡ deliver (plain a) o
+    → record { after = st; error = e; length = n; report = noReport; out = out } ≡ deliver (plain a) o
 delivered-plain a o q =
-    ap (λ (l : Laid State). record { after = l .after; error = l .error; length = l .length; load = false; out = l .out }) q
+    ap (λ (l : Laid State). record { after = l .after; error = l .error; length = l .length; report = noReport; out = l .out }) q
 
 -- the code check's answer
 pub delivered-check : (st : State) (d : List ℕ) {b : Bool} {e n : ℕ} {out : List ℕ} (o : List ℕ) → laid b e n out ≡ layOut (codeCheck (st .external) d) o
-    → record { after = st; error = e; length = n; load = b; out = out } ≡ deliver (codeCheckOf d st) o
+    → record { after = st; error = e; length = n; report = record { load = b }; out = out } ≡ deliver (codeCheckOf d st) o
 unfolding codeCheckOf
 delivered-check st d o q =
-    ap (λ (l : Laid Bool). record { after = st; error = l .error; length = l .length; load = l .after; out = l .out }) q
+    ap (λ (l : Laid Bool). record { after = st; error = l .error; length = l .length; report = record { load = l .after }; out = l .out }) q

@@ -1,7 +1,6 @@
 -- A request whose ErrN is not 0, and a call that is refused, leave the node and both memories as they were.
 use mathlib.Core.Path.{_≡_, refl, ap, sym, _∙_}
 use mathlib.Core.List.{List, []}
-use mathlib.Core.Bool.{false}
 use Prim.Native.Nat.{ℕ}
 use lib.Dec.{eqb}
 use lib.ListN.{length}
@@ -16,7 +15,7 @@ use Rattle.checksum.specs.Check.{codeCheck}
 use Rattle.checksum.proofs.Checks.{check-harmless}
 use Rattle.batch.specs.Batch.{Item, reading, listError}
 use Rattle.node.specs.Node.{withLamps, withRam}
-use Rattle.handler.specs.Request.{State, nodeIs, eepromIs, externalIs, perform, forNode, entryOf, Outcome, plain, batchOf, codeCheckOf, osOf, carryOut, itemOf, Called, takenOf, silent, refusalOf, requestOf}
+use Rattle.handler.specs.Request.{State, nodeIs, eepromIs, externalIs, perform, forNode, entryOf, noReport, Outcome, plain, batchOf, codeCheckOf, osOf, carryOut, itemOf, Called, takenOf, silent, refusalOf, requestOf}
 use Rattle.handler.proofs.Taking.{call-refused}
 
 -- seen on a larger state, a harmless request is harmless
@@ -48,7 +47,7 @@ batch-unread d st n =
     by-cond (λ (a : Outcome). (a .after ≡ st) × (a .entries ≡ [])) (eqb (length d) 0) _ _ (λ _. (refl, refl))
     (λ _. rw (ne-eqb (listError (reading d .listed)) 0 n) (refl, refl))
 
--- an outcome with an error: nothing changed, no data, no entry run, no load mark
+-- an outcome with an error: nothing changed, no data, no entry run, nothing to report
 abbrev Clean : State → Outcome → Type 0
 Clean st a = (a .error ≡ 0 → ⊥) → a ≡ plain (refused st (a .error))
 
@@ -62,7 +61,7 @@ check-clean : (d : List ℕ) (st : State) → Clean st (codeCheckOf d st)
 unfolding codeCheckOf
 check-clean d st n =
     let h = check-harmless (st .external) d n in
-    λ j. record { after = st; error = codeCheck (st .external) d .error; bytes = h .1 j; entries = []; load = h .0 j }
+    λ j. record { after = st; error = codeCheck (st .external) d .error; bytes = h .1 j; entries = []; report = record { load = h .0 j } }
 
 os-clean : (pcmd : ℕ) (d : List ℕ) (st : State) → Clean st (osOf pcmd d st)
 unfolding osOf
@@ -73,9 +72,9 @@ os-clean pcmd d st =
 perform-clean : (pnum pcmd : ℕ) (d : List ℕ) (st : State) → Clean st (plain (perform pnum pcmd d st))
 perform-clean pnum pcmd d st n =
     let h = perform-harmless pnum pcmd d st n in
-    λ j. record { after = h .0 j; error = perform pnum pcmd d st .error; bytes = h .1 j; entries = []; load = false }
+    λ j. record { after = h .0 j; error = perform pnum pcmd d st .error; bytes = h .1 j; entries = []; report = noReport }
 
--- a request with an error changes nothing, has no data, ran no entry and sets no load mark
+-- a request with an error changes nothing, has no data, ran no entry and has nothing to report
 pub carry-harmless : (i : Item) (st : State) → (carryOut i st .error ≡ 0 → ⊥) → carryOut i st ≡ plain (refused st (carryOut i st .error))
 unfolding carryOut
 carry-harmless i st =
@@ -95,5 +94,5 @@ error-keeps f st o n =
     (λ _. refl)
 
 -- a refused call hands everything back as it came
-pub refused-keeps : (f : List ℕ) (st : State) (o : List ℕ) → (refusalOf f st o ≡ 0 → ⊥) → requestOf f st o ≡ silent st (refusalOf f st o) false o
+pub refused-keeps : (f : List ℕ) (st : State) (o : List ℕ) → (refusalOf f st o ≡ 0 → ⊥) → requestOf f st o ≡ silent st (refusalOf f st o) o
 refused-keeps f st o n = sym (call-refused f st o refl n)

@@ -3,12 +3,12 @@ use mathlib.Core.Path.{_≡_, ap}
 use mathlib.Core.List.{List}
 use Prim.Native.Nat.{ℕ}
 use borrow.Author.Tests.{ne-eqb}
-use Rattle.dpa.specs.declared.settings.Settings.{Settings}
 use Rattle.dpa.specs.Served.{laid, refused, within}
 use Rattle.memory.specs.declared.block.Memory.the-variants.{Eeprom, Ram, External}
 use Rattle.memory.specs.Request.{memoryRequest}
 use Rattle.lights.specs.declared.request.LampsReply.{LampsReply}
 use Rattle.lights.specs.Lights.{lightsRequest}
+use Rattle.node.specs.declared.record.ReadOnly.{ReadOnly}
 use Rattle.node.specs.Node.{withLamps, withRam}
 use Rattle.handler.specs.Request.{State, held, nodeIs, eepromIs, externalIs, perform}
 
@@ -35,6 +35,6 @@ module _ (pnum pcmd : ℕ) (d : List ℕ) (st : State) where
   perform-unknown a b c e = simp (ne-eqb pnum 3 a, ne-eqb pnum 4 b, ne-eqb pnum 5 c, ne-eqb pnum 0x71 e)
 
 -- what the code leaves
-pub laid-as : {s : Settings} {a b : LampsReply} {r e x o : List ℕ} → a ≡ b
-    → laid (held s (a .lamps) r e x) (a .error) (a .length) o ≡ laid (held s (b .lamps) r e x) (b .error) (b .length) o
-laid-as {s} {a} {b} {r} {e} {x} {o} q = ap (λ (t : LampsReply). laid (held s (t .lamps) r e x) (t .error) (t .length) o) q
+pub laid-as : {k : ReadOnly} {a b : LampsReply} {r e x o : List ℕ} → a ≡ b
+    → laid (held k (a .lamps) r e x) (a .error) (a .length) o ≡ laid (held k (b .lamps) r e x) (b .error) (b .length) o
+laid-as {k} {a} {b} {r} {e} {x} {o} q = ap (λ (t : LampsReply). laid (held k (t .lamps) r e x) (t .error) (t .length) o) q

@@ -1,7 +1,7 @@
 -- Taking a frame: whose it is, the response, and the refusals.
 use mathlib.Core.Path.{_≡_, ap, sym, _∙_}
 use mathlib.Core.List.{List, _++_}
-use mathlib.Core.Bool.{true, false}
+use mathlib.Core.Bool.{true, _&&_, _||_}
 use Prim.Native.Nat.{ℕ, _+_, _-_, _≤_}
 use native.Mathlib.Omega.{arith}
 use lib.Dec.{ltb, eqb}
@@ -9,14 +9,14 @@ use lib.ListN.{length, take, drop}
 use borrow.Rule.Slice.PartMut.{midOf, putMid}
 use borrow.Author.Tests.{eq-eqb, ne-eqb, eqb-true, ltb-false}
 use Rattle.dpa.specs.declared.frame.Frame.{Frame}
-use Rattle.dpa.specs.declared.settings.Settings.{Settings}
 use Rattle.dpa.specs.Lists.{over}
-use Rattle.dpa.specs.Frame.{headerOf, frameFits, responseHeader}
-use Rattle.dpa.proofs.Bool.{first-taken, second-taken}
+use Rattle.dpa.specs.Frame.{broadcastNadr, headerOf, frameFits, responseHeader}
+use Rattle.dpa.proofs.Bool.{by-cond, first-taken, second-taken}
 use Rattle.dpa.proofs.Headers.{fits-sizes}
 use Rattle.dpa.proofs.Lists.{to-end, rear-lent, rear-back, header-over}
 use Rattle.batch.specs.Batch.{Item, item}
 use Rattle.node.specs.declared.record.Node.{Node}
+use Rattle.node.specs.declared.record.ReadOnly.{ReadOnly}
 use Rattle.handler.specs.declared.os.Carried.{Carried}
 use Rattle.handler.specs.declared.answer.RequestAnswer.{RequestAnswer}
 use Rattle.node.specs.Node.{nodeOk}
@@ -39,18 +39,31 @@ module _ (f : List ℕ) (st : State) (o : List ℕ) where
     unfolding takenOf
     taken-own e = rw (ne-eqb (headerOf f .nadr) 255 n, eq-eqb (headerOf f .nadr) (st .node .settings .address) e)
 
-    pub taken-other : (headerOf f .nadr ≡ st .node .settings .address → ⊥) → takenOf f st o ≡ silent st 0 false o
+    pub taken-other : (headerOf f .nadr ≡ st .node .settings .address → ⊥) → takenOf f st o ≡ silent st 0 o
     unfolding takenOf
     taken-other e = rw (ne-eqb (headerOf f .nadr) 255 n, ne-eqb (headerOf f .nadr) (st .node .settings .address) e)
 
-  pub call-refused : {k : ℕ} → k ≡ refusalOf f st o → (k ≡ 0 → ⊥) → silent st k false o ≡ requestOf f st o
+  pub call-refused : {k : ℕ} → k ≡ refusalOf f st o → (k ≡ 0 → ⊥) → silent st k o ≡ requestOf f st o
   unfolding requestOf
   call-refused e n =
-      rw (ne-eqb (refusalOf f st o) 0 (λ z. n (e ∙ z))) (ap (λ (r : ℕ). silent st r false o) e)
+      rw (ne-eqb (refusalOf f st o) 0 (λ z. n (e ∙ z))) (ap (λ (r : ℕ). silent st r o) e)
 
   pub call-taken : refusalOf f st o ≡ 0 → requestOf f st o ≡ takenOf f st o
   unfolding requestOf
   call-taken e = rw (eq-eqb (refusalOf f st o) 0 e)
+
+-- a call answers "addressed" exactly where it is not refused and NADR is the broadcast's or the node's
+pub addressed-exact : (f : List ℕ) (st : State) (o : List ℕ)
+    → requestOf f st o .addressed
+    ≡ (eqb (requestOf f st o .refusal) 0 && (eqb (headerOf f .nadr) broadcastNadr || eqb (headerOf f .nadr) (st .node .settings .address)))
+unfolding requestOf takenOf
+addressed-exact f st o =
+    let all = eqb (headerOf f .nadr) broadcastNadr in
+    let own = eqb (headerOf f .nadr) (st .node .settings .address) in
+    let Exact : Called → Type 0 = λ a. a .addressed ≡ (eqb (a .refusal) 0 && (all || own)) in
+    by-cond Exact (eqb (refusalOf f st o) 0) _ _
+    (λ _. by-cond Exact all _ _ (λ e. rw e) (λ e. by-cond Exact own _ _ (λ q. rw (e, q)) (λ q. rw (e, q))))
+    (λ e. rw e)
 
 -- what is known where no refusal was given
 module _ (n : Node) (f e x r : ℕ) (z : requestRefusal n f e x r ≡ 0) where
@@ -74,22 +87,22 @@ pub called-as : {r t : RequestAnswer} {e x o : List ℕ} → r ≡ t → called 
 called-as {r} {t} {e} {x} {o} q = ap (λ (u : RequestAnswer). called u e x o) q
 
 -- the response: data in the lent rear part of the buffer, then the header in front
-pub own-answer : (o m : List ℕ) → 8 ≤ length o → (s : Settings) (i : Item) (a : Outcome) {c : Carried} {r e x w : List ℕ}
-    → delivered s c r e x m ≡ deliver a (midOf 8 (length o - 8) o)
-    → w ≡ responseHeader s (i .pnum) (i .pcmd) (c .error) ++ drop 8 (putMid 8 (length o - 8) o m)
-    → calledInParts s (record { length = 8 + c .length; load = c .load; lamps = c .lamps }) r e x w ≡ respond s i a o
-own-answer o m h s i a {c} {r} {e} {x} {w} q u =
-    ap (calledInParts s (record { length = 8 + c .length; load = c .load; lamps = c .lamps }) r e x)
-    (u ∙ ap (λ (l : List ℕ). responseHeader s (i .pnum) (i .pcmd) (c .error) ++ l) (rear-back 8 o m h))
+pub own-answer : (o m : List ℕ) → 8 ≤ length o → (k : ReadOnly) (i : Item) (a : Outcome) {c : Carried} {r e x w : List ℕ}
+    → delivered k c r e x m ≡ deliver a (midOf 8 (length o - 8) o)
+    → w ≡ responseHeader (k .settings) (i .pnum) (i .pcmd) (c .error) ++ drop 8 (putMid 8 (length o - 8) o m)
+    → calledInParts k (record { length = 8 + c .length; report = c .report; lamps = c .lamps }) r e x w ≡ respond (k .settings) i a o
+own-answer o m h k i a {c} {r} {e} {x} {w} q u =
+    ap (calledInParts k (record { length = 8 + c .length; report = c .report; lamps = c .lamps }) r e x)
+    (u ∙ ap (λ (l : List ℕ). responseHeader (k .settings) (i .pnum) (i .pcmd) (c .error) ++ l) (rear-back 8 o m h))
     ∙ ap headed q
     ∙ ap answered (rear-lent 8 o)
-    ∙ ap (λ (l : List ℕ). record { after = a .after; refusal = 0; length = 8 + length (a .bytes); load = a .load; response = l })
-    (sym (header-over (responseHeader s (i .pnum) (i .pcmd) (a .error)) (a .bytes) o))
+    ∙ ap (λ (l : List ℕ). record { after = a .after; refusal = 0; length = 8 + length (a .bytes); report = a .report; addressed = true; response = l })
+    (sym (header-over (responseHeader (k .settings) (i .pnum) (i .pcmd) (a .error)) (a .bytes) o))
   where
     headed : Delivered → Called
     headed l =
-        record { after = l .after; refusal = 0; length = 8 + l .length; load = l .load; response = responseHeader s (i .pnum) (i .pcmd) (l .error) ++ l .out }
+        record { after = l .after; refusal = 0; length = 8 + l .length; report = l .report; addressed = true; response = responseHeader (k .settings) (i .pnum) (i .pcmd) (l .error) ++ l .out }
 
     answered : List ℕ → Called
     answered l =
-        record { after = a .after; refusal = 0; length = 8 + length (a .bytes); load = a .load; response = responseHeader s (i .pnum) (i .pcmd) (a .error) ++ over (a .bytes) l }
+        record { after = a .after; refusal = 0; length = 8 + length (a .bytes); report = a .report; addressed = true; response = responseHeader (k .settings) (i .pnum) (i .pcmd) (a .error) ++ over (a .bytes) l }

@@ -18,10 +18,12 @@ use Rattle.lights.specs.Lights.{lightsRequest}
 use Rattle.checksum.specs.Check.{codeCheck}
 use Rattle.batch.specs.Batch.{Item, item, reading, listError, runItems, errorsOf}
 use Rattle.node.specs.declared.record.Node.{Node}
+use Rattle.node.specs.declared.record.ReadOnly.{ReadOnly}
 use Rattle.handler.specs.declared.os.Carried.{Carried}
 use Rattle.handler.specs.declared.answer.RequestAnswer.{RequestAnswer}
+use Rattle.handler.specs.declared.answer.Report.{Report}
 use Rattle.handler.specs.declared.answer.Taken.{Taken}
-use Rattle.node.specs.Node.{nodeOk, withLamps, withRam}
+use Rattle.node.specs.Node.{nodeOk, nodeFromParts, withLamps, withRam}
 
 -- the node with both memories
 pub record State : Type 0 where
@@ -72,25 +74,29 @@ entryAfter i st = entryOf i st .after
 abbrev pub entryError : Item → State → ℕ
 entryError i st = entryOf i st .error
 
+-- nothing to report
+abbrev pub noReport : Report
+noReport = record { load = false }
+
 -- What a request does: the state afterwards, ErrN, the answer's data, the ErrN of each entry of a batch in order, and
--- the load mark. ErrN stand here whether they are sent or not.
+-- what is reported beside the answer. ErrN stand here whether they are sent or not.
 pub record Outcome : Type 0 where
   pub after : State
   pub error : ℕ
   pub bytes : List ℕ
   pub entries : List ℕ
-  pub load : Bool
+  pub report : Report
 
-abbrev pub outcome : Served State → List ℕ → Bool → Outcome
-outcome a es l = record { after = a .after; error = a .error; bytes = a .bytes; entries = es; load = l }
+abbrev pub outcome : Served State → List ℕ → Report → Outcome
+outcome a es m = record { after = a .after; error = a .error; bytes = a .bytes; entries = es; report = m }
 
--- a request that is no batch and sets no load mark
+-- a request that is no batch and has nothing to report
 abbrev pub plain : Served State → Outcome
-plain a = outcome a [] false
+plain a = outcome a [] noReport
 
 -- entries in order, each at the state that the one before left; the batch itself answers 0 and no data
 abbrev pub ran : List Item → State → Outcome
-ran is st = outcome (served (runItems entryAfter is st) 0 []) (errorsOf entryError entryAfter is st) false
+ran is st = outcome (served (runItems entryAfter is st) 0 []) (errorsOf entryError entryAfter is st) noReport
 
 -- OS 02, PCMD 05: a list that cannot be read runs nothing
 unfoldable pub batchOf : List ℕ → State → Outcome
@@ -102,7 +108,7 @@ batchOf pdata st =
 -- OS 02, PCMD 0A: nothing changes, and the load mark is the check's
 unfoldable pub codeCheckOf : List ℕ → State → Outcome
 codeCheckOf pdata st =
-    outcome (within (λ _. st) (codeCheck (st .external) pdata)) [] (codeCheck (st .external) pdata .after)
+    outcome (within (λ _. st) (codeCheck (st .external) pdata)) [] (record { load = codeCheck (st .external) pdata .after })
 
 -- OS 02
 unfoldable pub osOf : ℕ → List ℕ → State → Outcome
@@ -122,21 +128,23 @@ carryOut i st =
 abbrev pub itemOf : List ℕ → Item
 itemOf f = item (headerOf f .pnum) (headerOf f .pcmd) (headerOf f .hwpid) (pdataOf f)
 
--- What a call leaves: the state, the refusal, the response's length, the load mark, and the response buffer.
+-- What a call leaves: the state, the refusal, the response's length, the report, whether the request was for this node
+-- or for all, and the response buffer.
 pub record Called : Type 0 where
   pub after : State
   pub refusal : ℕ
   pub length : ℕ
-  pub load : Bool
+  pub report : Report
+  pub addressed : Bool
   pub response : List ℕ
 
--- no answer: the response buffer stays
-abbrev pub silent : State → ℕ → Bool → List ℕ → Called
-silent st refusal load o = record { after = st; refusal = refusal; length = 0; load = load; response = o }
+-- nothing is done and nothing answered: the response buffer stays
+abbrev pub silent : State → ℕ → List ℕ → Called
+silent st refusal o = record { after = st; refusal = refusal; length = 0; report = noReport; addressed = false; response = o }
 
 -- a broadcast is carried out and never answered
 abbrev pub broadcast : Outcome → List ℕ → Called
-broadcast a o = silent (a .after) 0 (a .load) o
+broadcast a o = record { after = a .after; refusal = 0; length = 0; report = a .report; addressed = true; response = o }
 
 -- a response: header and data, later bytes as they were
 abbrev pub respond : Settings → Item → Outcome → List ℕ → Called
@@ -145,7 +153,8 @@ respond s i a o =
       after = a .after;
       refusal = 0;
       length = responseHeaderSize + length (a .bytes);
-      load = a .load;
+      report = a .report;
+      addressed = true;
       response = over (responseHeader s (i .pnum) (i .pcmd) (a .error) ++ a .bytes) o;
     }
 
@@ -154,7 +163,7 @@ unfoldable pub takenOf : List ℕ → State → List ℕ → Called
 takenOf f st o =
     cond (eqb (headerOf f .nadr) broadcastNadr) (broadcast (carryOut (itemOf f) st) o)
     (cond (eqb (headerOf f .nadr) (st .node .settings .address)) (respond (st .node .settings) (itemOf f) (carryOut (itemOf f) st) o)
-    (silent st 0 false o))
+    (silent st 0 o))
 
 -- refusals 1, 2, 3, 4 in this order, by the node and the lengths of what is lent; 0 for none
 unfoldable pub requestRefusal : Node → ℕ → ℕ → ℕ → ℕ → ℕ
@@ -175,36 +184,43 @@ refusalOf f st o = requestRefusal (st .node) (length f) (length (st .eeprom)) (l
 -- the call
 unfoldable pub requestOf : List ℕ → State → List ℕ → Called
 requestOf f st o =
-    cond (eqb (refusalOf f st o) 0) (takenOf f st o) (silent st (refusalOf f st o) false o)
+    cond (eqb (refusalOf f st o) 0) (takenOf f st o) (silent st (refusalOf f st o) o)
 
 -- ---- how the code shows it
 
--- the state of a node in parts: settings, lamps, RAM
-abbrev pub held : Settings → List Lamp → List ℕ → List ℕ → List ℕ → State
-held s ls r e x = state (record { settings = s; lamps = ls; ram = r }) e x
+-- the state of a node in parts: what is only read, lamps, RAM
+abbrev pub held : ReadOnly → List Lamp → List ℕ → List ℕ → List ℕ → State
+held k ls r e x = state (nodeFromParts k ls r) e x
 
--- what carrying out leaves: the state, ErrN, the data's length, the load mark and the lent buffer
+-- what carrying out leaves: the state, ErrN, the data's length, the report and the lent buffer
 pub record Delivered : Type 0 where
   pub after : State
   pub error : ℕ
   pub length : ℕ
-  pub load : Bool
+  pub report : Report
   pub out : List ℕ
 
-abbrev pub delivered : Settings → Carried → List ℕ → List ℕ → List ℕ → List ℕ → Delivered
-delivered s c r e x o =
-    record { after = held s (c .lamps) r e x; error = c .error; length = c .length; load = c .load; out = o }
+abbrev pub delivered : ReadOnly → Carried → List ℕ → List ℕ → List ℕ → List ℕ → Delivered
+delivered k c r e x o =
+    record { after = held k (c .lamps) r e x; error = c .error; length = c .length; report = c .report; out = o }
 
 abbrev pub deliver : Outcome → List ℕ → Delivered
 deliver a o =
-    record { after = a .after; error = a .error; length = length (a .bytes); load = a .load; out = over (a .bytes) o }
+    record { after = a .after; error = a .error; length = length (a .bytes); report = a .report; out = over (a .bytes) o }
+
+-- the call's answer has the report's fields among its own; the report taken out of it again
+abbrev pub answerOf : ℕ → ℕ → Report → Bool → Node → RequestAnswer
+answerOf refusal length m b n = record { refusal = refusal; length = length; load = m .load; addressed = b; node = n }
+
+abbrev pub reportOf : RequestAnswer → Report
+reportOf r = record { load = r .load }
 
 -- a call by its answer, both memories and the response buffer
 abbrev pub called : RequestAnswer → List ℕ → List ℕ → List ℕ → Called
 called r e x o =
-    record { after = state (r .node) e x; refusal = r .refusal; length = r .length; load = r .load; response = o }
+    record { after = state (r .node) e x; refusal = r .refusal; length = r .length; report = reportOf r; addressed = r .addressed; response = o }
 
 -- the same of a call that was not refused, of a node in parts
-abbrev pub calledInParts : Settings → Taken → List ℕ → List ℕ → List ℕ → List ℕ → Called
-calledInParts s t r e x o =
-    record { after = held s (t .lamps) r e x; refusal = 0; length = t .length; load = t .load; response = o }
+abbrev pub calledInParts : ReadOnly → Taken → List ℕ → List ℕ → List ℕ → List ℕ → Called
+calledInParts k t r e x o =
+    record { after = held k (t .lamps) r e x; refusal = 0; length = t .length; report = t .report; addressed = true; response = o }

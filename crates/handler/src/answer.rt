@@ -1,53 +1,71 @@
-// What a call tells of a request.
+// What a call reports of a request.
 use dpa::refusal;
-use dpa::settings::Settings;
 use lights::lamp::Lamp;
 use node::record::Node;
+use node::record::ReadOnly;
+use node::record::node_from_parts;
 ghost use mathlib.Core.Path.{_≡_};
-ghost use mathlib.Core.Bool.{false};
+ghost use mathlib.Core.Bool.{true, false};
+ghost use Rattle.node.specs.Node.{nodeFromParts};
+ghost use Rattle.handler.specs.Request.{noReport, answerOf};
 
-// The refusal, the response's length, the load mark, and the node afterwards.
+// The refusal, the response's length, the load mark, whether the request was for this node or for all, and the node afterwards.
 #[repr(C)]
 pub struct RequestAnswer {
     pub refusal: u8,
     pub length: usize,
     pub load: bool,
+    pub addressed: bool,
     pub node: Node,
 }
 
-// The load mark, the response's length, and the lamps afterwards.
-pub struct Taken {
+// What is reported of a request beside its answer: the load mark.
+pub struct Report {
     pub load: bool,
+}
+
+impl Report {
+    pub const NONE: Report = Report { load: false };
+}
+
+// The report, the response's length, and the lamps afterwards.
+pub struct Taken {
+    pub report: Report,
     pub length: usize,
     pub lamps: [Lamp; 32],
 }
 
-// Nothing done: not this node's, or refused.
-pub fn unanswered(node: Node, refusal: u8) -> RequestAnswer
-    ensures { λ r. ⌜ r ≡ record { refusal = refusal; length = 0; load = false; node = node } ⌝ }
+// The call's answer has the report's fields among its own.
+fn answer_of(
+    refusal: u8,
+    length: usize,
+    report: Report,
+    addressed: bool,
+    node: Node,
+) -> RequestAnswer
+    ensures { λ r. ⌜ r ≡ answerOf refusal length report addressed node ⌝ }
 {
     RequestAnswer {
         refusal,
-        length: 0,
-        load: false,
+        length,
+        load: report.load,
+        addressed,
         node,
     }
 }
 
-// The node put together again.
-pub fn answered(settings: Settings, done: Taken, ram: [u8; 48]) -> RequestAnswer
-    ensures { λ r. ⌜ r ≡ record { refusal = 0; length = done .length; load = done .load; node = record { settings = settings; lamps = done .lamps; ram = ram } } ⌝ }
+// Nothing done: not this node's, or refused.
+pub fn unanswered(node: Node, refusal: u8) -> RequestAnswer
+    ensures { λ r. ⌜ r ≡ answerOf refusal 0 noReport false node ⌝ }
+{
+    answer_of(refusal, 0, Report::NONE, false, node)
+}
+
+// Carried out: not refused, and the node put together again.
+pub fn answered(fixed: ReadOnly, done: Taken, ram: [u8; 48]) -> RequestAnswer
+    ensures { λ r. ⌜ r ≡ answerOf 0 (done .length) (done .report) true (nodeFromParts fixed (done .lamps) ram) ⌝ }
 {
     let lamps = done.lamps;
-    let node = Node {
-        settings,
-        lamps,
-        ram,
-    };
-    RequestAnswer {
-        refusal: refusal::NONE,
-        length: done.length,
-        load: done.load,
-        node,
-    }
+    let node = node_from_parts(fixed, lamps, ram);
+    answer_of(refusal::NONE, done.length, done.report, true, node)
 }

@@ -6,6 +6,7 @@ use batch::entry::next_entry;
 use dpa::frame::Frame;
 use dpa::settings::Settings;
 use lights::lamp::Lamp;
+use node::record::ReadOnly;
 ghost use mathlib.Core.Path.{_≡_};
 ghost use Rattle.batch.specs.Batch.{item, reading, runItems};
 ghost use Rattle.handler.specs.Request.{held, StateRule, forNode, entryAfter};
@@ -22,7 +23,7 @@ pub fn for_node(settings: Settings, hwpid: u16) -> bool
 
 // One entry. Nobody is told its answer, which goes to an array of its own.
 fn run_entry(
-    settings: Settings,
+    fixed: ReadOnly,
     lamps: [Lamp; 32],
     pnum: u8,
     pcmd: u8,
@@ -32,14 +33,14 @@ fn run_entry(
     eeprom: &mut [u8],
     external: &mut [u8],
 ) -> [Lamp; 32]
-    requires { ⌜ StateRule (held settings lamps (now ram) (now eeprom) (now external)) ⌝ }
-    ensures { λ r. ⌜ held settings r (now (ram .exit)) (now (eeprom .exit)) (now (external .exit))
-        ≡ entryAfter (item pnum pcmd hwpid (now (pdata .entry))) (held settings lamps (now (ram .entry)) (now (eeprom .entry)) (now (external .entry))) ⌝ }
+    requires { ⌜ StateRule (held fixed lamps (now ram) (now eeprom) (now external)) ⌝ }
+    ensures { λ r. ⌜ held fixed r (now (ram .exit)) (now (eeprom .exit)) (now (external .exit))
+        ≡ entryAfter (item pnum pcmd hwpid (now (pdata .entry))) (held fixed lamps (now (ram .entry)) (now (eeprom .entry)) (now (external .entry))) ⌝ }
 {
-    if for_node(settings, hwpid) {
+    if for_node(fixed.settings, hwpid) {
         let mut scratch = [0u8; Frame::PDATA_MAX];
         let reply = peripheral(
-            settings,
+            fixed,
             lamps,
             pnum,
             pcmd,
@@ -56,16 +57,16 @@ fn run_entry(
 
 // The entries that a list reads as, each with the lamps and the memories that the one before left.
 pub fn run_list(
-    settings: Settings,
+    fixed: ReadOnly,
     mut lamps: [Lamp; 32],
     list: &[u8],
     ram: &mut [u8],
     eeprom: &mut [u8],
     external: &mut [u8],
 ) -> [Lamp; 32]
-    requires { ⌜ StateRule (held settings lamps (now ram) (now eeprom) (now external)) ⌝ }
-    ensures { λ r. ⌜ held settings r (now (ram .exit)) (now (eeprom .exit)) (now (external .exit))
-        ≡ runItems entryAfter (reading (now (list .entry)) .items) (held settings lamps (now (ram .entry)) (now (eeprom .entry)) (now (external .entry))) ⌝ }
+    requires { ⌜ StateRule (held fixed lamps (now ram) (now eeprom) (now external)) ⌝ }
+    ensures { λ r. ⌜ held fixed r (now (ram .exit)) (now (eeprom .exit)) (now (external .exit))
+        ≡ runItems entryAfter (reading (now (list .entry)) .items) (held fixed lamps (now (ram .entry)) (now (eeprom .entry)) (now (external .entry))) ⌝ }
 {
     let mut at: usize = 0;
     while at < list.len() {
@@ -79,7 +80,7 @@ pub fn run_list(
             return lamps;
         };
         let next = run_entry(
-            settings,
+            fixed,
             lamps,
             pnum,
             pcmd,

@@ -1,39 +1,39 @@
 // OS 02: batch and code check.
+use crate::answer::Report;
 use crate::entries::run_list;
 use batch::list::Listed;
 use batch::list::list_error;
 use batch::list::read_list;
 use checksum::check::code_check;
 use dpa::error;
-use dpa::settings::Settings;
 use lights::lamp::Lamp;
+use node::record::ReadOnly;
 ghost use mathlib.Core.Path.{_≡_};
-ghost use mathlib.Core.Bool.{false};
 ghost use mathlib.Core.List.{List};
 ghost use Prim.Native.Nat.{ℕ, _≤_};
 ghost use lib.ListN.{length};
 ghost use Rattle.dpa.specs.Frame.{pdataMax};
-ghost use Rattle.handler.specs.Request.{held, StateRule, delivered, deliver, batchOf, osOf};
+ghost use Rattle.handler.specs.Request.{noReport, held, StateRule, delivered, deliver, batchOf, osOf};
 
 pub const BATCH: u8 = 5;
 
 pub const CODE_CHECK: u8 = 0x0A;
 
-// ErrN, the load mark, the length of the answer's data, and the lamps after a request.
+// ErrN, the report, the length of the answer's data, and the lamps after a request.
 pub struct Carried {
     pub error: u8,
-    pub load: bool,
+    pub report: Report,
     pub length: usize,
     pub lamps: [Lamp; 32],
 }
 
 // A request that answers no data.
 pub fn without_data(lamps: [Lamp; 32], error: u8) -> Carried
-    ensures { λ r. ⌜ r ≡ record { error = error; load = false; length = 0; lamps = lamps } ⌝ }
+    ensures { λ r. ⌜ r ≡ record { error = error; report = noReport; length = 0; lamps = lamps } ⌝ }
 {
     Carried {
         error,
-        load: false,
+        report: Report::NONE,
         length: 0,
         lamps,
     }
@@ -41,16 +41,16 @@ pub fn without_data(lamps: [Lamp; 32], error: u8) -> Carried
 
 // A list that cannot be read runs nothing.
 fn run_batch(
-    settings: Settings,
+    fixed: ReadOnly,
     lamps: [Lamp; 32],
     pdata: &[u8],
     ram: &mut [u8],
     eeprom: &mut [u8],
     external: &mut [u8],
 ) -> Carried
-    requires { ⌜ StateRule (held settings lamps (now ram) (now eeprom) (now external)) ⌝ }
-    ensures { λ r. ⌜ ((o : List ℕ) → delivered settings r (now (ram .exit)) (now (eeprom .exit)) (now (external .exit)) o
-        ≡ deliver (batchOf (now (pdata .entry)) (held settings lamps (now (ram .entry)) (now (eeprom .entry)) (now (external .entry)))) o) ⌝ }
+    requires { ⌜ StateRule (held fixed lamps (now ram) (now eeprom) (now external)) ⌝ }
+    ensures { λ r. ⌜ ((o : List ℕ) → delivered fixed r (now (ram .exit)) (now (eeprom .exit)) (now (external .exit)) o
+        ≡ deliver (batchOf (now (pdata .entry)) (held fixed lamps (now (ram .entry)) (now (eeprom .entry)) (now (external .entry)))) o) ⌝ }
 {
     if pdata.len() == 0 {
         return without_data(lamps, error::DATA_LEN);
@@ -59,12 +59,12 @@ fn run_batch(
     let Listed::Sound = listed else {
         return without_data(lamps, list_error(listed));
     };
-    let after = run_list(settings, lamps, pdata, ram, eeprom, external);
+    let after = run_list(fixed, lamps, pdata, ram, eeprom, external);
     without_data(after, error::NONE)
 }
 
 pub fn os(
-    settings: Settings,
+    fixed: ReadOnly,
     lamps: [Lamp; 32],
     pcmd: u8,
     pdata: &[u8],
@@ -73,18 +73,19 @@ pub fn os(
     external: &mut [u8],
     out: &mut [u8],
 ) -> Carried
-    requires { ⌜ StateRule (held settings lamps (now ram) (now eeprom) (now external)) × (pdataMax ≤ length (now out)) ⌝ }
-    ensures { λ r. ⌜ delivered settings r (now (ram .exit)) (now (eeprom .exit)) (now (external .exit)) (now (out .exit))
-        ≡ deliver (osOf pcmd (now (pdata .entry)) (held settings lamps (now (ram .entry)) (now (eeprom .entry)) (now (external .entry)))) (now (out .entry)) ⌝ }
+    requires { ⌜ StateRule (held fixed lamps (now ram) (now eeprom) (now external)) × (pdataMax ≤ length (now out)) ⌝ }
+    ensures { λ r. ⌜ delivered fixed r (now (ram .exit)) (now (eeprom .exit)) (now (external .exit)) (now (out .exit))
+        ≡ deliver (osOf pcmd (now (pdata .entry)) (held fixed lamps (now (ram .entry)) (now (eeprom .entry)) (now (external .entry)))) (now (out .entry)) ⌝ }
 {
     if pcmd == BATCH {
-        return run_batch(settings, lamps, pdata, ram, eeprom, external);
+        return run_batch(fixed, lamps, pdata, ram, eeprom, external);
     }
     if pcmd == CODE_CHECK {
         let checked = code_check(external, pdata, out);
+        let report = Report { load: checked.load };
         return Carried {
             error: checked.error,
-            load: checked.load,
+            report,
             length: checked.length,
             lamps,
         };

@@ -2,10 +2,10 @@
 use dpa::error;
 use dpa::pnum;
 use dpa::reply::Reply;
-use dpa::settings::Settings;
 use lights::lamp::Lamp;
 use lights::request::LampsReply;
 use memory::block::Memory;
+use node::record::ReadOnly;
 ghost use mathlib.Core.Path.{_≡_};
 ghost use Prim.Native.Nat.{_≤_};
 ghost use lib.ListN.{length};
@@ -26,7 +26,7 @@ fn of_memory(lamps: [Lamp; 32], reply: Reply) -> LampsReply
 
 // The answer's data goes to the front of `out`.
 pub fn peripheral(
-    settings: Settings,
+    fixed: ReadOnly,
     lamps: [Lamp; 32],
     pnum: u8,
     pcmd: u8,
@@ -36,9 +36,9 @@ pub fn peripheral(
     external: &mut [u8],
     out: &mut [u8],
 ) -> LampsReply
-    requires { ⌜ StateRule (held settings lamps (now ram) (now eeprom) (now external)) × (pdataMax ≤ length (now out)) ⌝ }
-    ensures { λ r. ⌜ laid (held settings (r .lamps) (now (ram .exit)) (now (eeprom .exit)) (now (external .exit))) (r .error) (r .length) (now (out .exit))
-        ≡ layOut (perform pnum pcmd (now (pdata .entry)) (held settings lamps (now (ram .entry)) (now (eeprom .entry)) (now (external .entry)))) (now (out .entry)) ⌝ }
+    requires { ⌜ StateRule (held fixed lamps (now ram) (now eeprom) (now external)) × (pdataMax ≤ length (now out)) ⌝ }
+    ensures { λ r. ⌜ laid (held fixed (r .lamps) (now (ram .exit)) (now (eeprom .exit)) (now (external .exit))) (r .error) (r .length) (now (out .exit))
+        ≡ layOut (perform pnum pcmd (now (pdata .entry)) (held fixed lamps (now (ram .entry)) (now (eeprom .entry)) (now (external .entry)))) (now (out .entry)) ⌝ }
 {
     if pnum == pnum::EEPROM {
         let reply = memory::request::request(Memory::Eeprom, eeprom, pcmd, pdata, out);
@@ -53,7 +53,7 @@ pub fn peripheral(
         return of_memory(lamps, reply);
     }
     if pnum == pnum::LIGHTS {
-        return lights::request::request(settings, lamps, pcmd, pdata, out);
+        return lights::request::request(fixed.settings, lamps, pcmd, pdata, out);
     }
     LampsReply {
         error: error::PNUM,

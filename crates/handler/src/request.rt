@@ -1,4 +1,5 @@
 // Taking a request: from the frame to the response buffer.
+use crate::answer::Report;
 use crate::answer::RequestAnswer;
 use crate::answer::Taken;
 use crate::answer::answered;
@@ -13,30 +14,30 @@ use dpa::frame::Frame;
 use dpa::frame::write_header;
 use dpa::pnum;
 use dpa::refusal;
-use dpa::settings::Settings;
 use lights::lamp::Lamp;
 use lights::request::LampsReply;
 use memory::block::Memory;
 use memory::block::size_of;
 use node::record::Node;
+use node::record::ReadOnly;
 use node::record::node_ok;
+use node::record::read_only;
 ghost use mathlib.Core.Path.{_≡_};
-ghost use mathlib.Core.Bool.{false};
 ghost use mathlib.Core.List.{List};
 ghost use Prim.Native.Nat.{ℕ, _≤_};
 ghost use lib.ListN.{length};
 ghost use Rattle.dpa.specs.Frame.{headerSize, pdataMax, longestResponse};
 ghost use Rattle.batch.specs.Batch.{item};
-ghost use Rattle.handler.specs.Request.{state, held, StateRule, delivered, deliver, carryOut, called, calledInParts, broadcast, respond, takenOf, requestRefusal, requestOf};
+ghost use Rattle.handler.specs.Request.{state, noReport, held, StateRule, delivered, deliver, carryOut, called, calledInParts, broadcast, respond, takenOf, requestRefusal, requestOf};
 
-// A request to a peripheral sets no load mark.
+// A request to a peripheral has nothing to report.
 fn of_peripheral(reply: LampsReply) -> Carried
-    ensures { λ r. ⌜ r ≡ record { error = reply .error; load = false; length = reply .length; lamps = reply .lamps } ⌝ }
+    ensures { λ r. ⌜ r ≡ record { error = reply .error; report = noReport; length = reply .length; lamps = reply .lamps } ⌝ }
 {
     let lamps = reply.lamps;
     Carried {
         error: reply.error,
-        load: false,
+        report: Report::NONE,
         length: reply.length,
         lamps,
     }
@@ -44,7 +45,7 @@ fn of_peripheral(reply: LampsReply) -> Carried
 
 // A request from HWPID on. The answer's data goes to the front of `out`.
 fn carry_out(
-    settings: Settings,
+    fixed: ReadOnly,
     lamps: [Lamp; 32],
     header: Frame,
     pdata: &[u8],
@@ -53,20 +54,20 @@ fn carry_out(
     external: &mut [u8],
     out: &mut [u8],
 ) -> Carried
-    requires { ⌜ StateRule (held settings lamps (now ram) (now eeprom) (now external)) × (pdataMax ≤ length (now out)) ⌝ }
-    ensures { λ r. ⌜ delivered settings r (now (ram .exit)) (now (eeprom .exit)) (now (external .exit)) (now (out .exit))
+    requires { ⌜ StateRule (held fixed lamps (now ram) (now eeprom) (now external)) × (pdataMax ≤ length (now out)) ⌝ }
+    ensures { λ r. ⌜ delivered fixed r (now (ram .exit)) (now (eeprom .exit)) (now (external .exit)) (now (out .exit))
         ≡ deliver (carryOut (item (header .pnum) (header .pcmd) (header .hwpid) (now (pdata .entry)))
-        (held settings lamps (now (ram .entry)) (now (eeprom .entry)) (now (external .entry)))) (now (out .entry)) ⌝ }
+        (held fixed lamps (now (ram .entry)) (now (eeprom .entry)) (now (external .entry)))) (now (out .entry)) ⌝ }
 {
-    if !for_node(settings, header.hwpid) {
+    if !for_node(fixed.settings, header.hwpid) {
         return without_data(lamps, error::HWPID);
     }
     let pcmd = header.pcmd;
     if header.pnum == pnum::OS {
-        return os(settings, lamps, pcmd, pdata, ram, eeprom, external, out);
+        return os(fixed, lamps, pcmd, pdata, ram, eeprom, external, out);
     }
     let reply = peripheral(
-        settings,
+        fixed,
         lamps,
         header.pnum,
         pcmd,
@@ -81,7 +82,7 @@ fn carry_out(
 
 // A broadcast is carried out and never answered: its data goes to an array of its own.
 fn take_broadcast(
-    settings: Settings,
+    fixed: ReadOnly,
     lamps: [Lamp; 32],
     header: Frame,
     pdata: &[u8],
@@ -89,14 +90,14 @@ fn take_broadcast(
     eeprom: &mut [u8],
     external: &mut [u8],
 ) -> Taken
-    requires { ⌜ StateRule (held settings lamps (now ram) (now eeprom) (now external)) ⌝ }
-    ensures { λ r. ⌜ ((o : List ℕ) → calledInParts settings r (now (ram .exit)) (now (eeprom .exit)) (now (external .exit)) o
+    requires { ⌜ StateRule (held fixed lamps (now ram) (now eeprom) (now external)) ⌝ }
+    ensures { λ r. ⌜ ((o : List ℕ) → calledInParts fixed r (now (ram .exit)) (now (eeprom .exit)) (now (external .exit)) o
         ≡ broadcast (carryOut (item (header .pnum) (header .pcmd) (header .hwpid) (now (pdata .entry)))
-        (held settings lamps (now (ram .entry)) (now (eeprom .entry)) (now (external .entry)))) o) ⌝ }
+        (held fixed lamps (now (ram .entry)) (now (eeprom .entry)) (now (external .entry)))) o) ⌝ }
 {
     let mut scratch = [0u8; Frame::PDATA_MAX];
     let done = carry_out(
-        settings,
+        fixed,
         lamps,
         header,
         pdata,
@@ -105,9 +106,10 @@ fn take_broadcast(
         external,
         &mut scratch,
     );
+    let report = done.report;
     let after = done.lamps;
     Taken {
-        load: done.load,
+        report,
         length: 0,
         lamps: after,
     }
@@ -115,7 +117,7 @@ fn take_broadcast(
 
 // A request to this node: the data part behind the header is lent on, then the header goes in front.
 fn take_own(
-    settings: Settings,
+    fixed: ReadOnly,
     lamps: [Lamp; 32],
     header: Frame,
     pdata: &[u8],
@@ -124,14 +126,14 @@ fn take_own(
     external: &mut [u8],
     response: &mut [u8],
 ) -> Taken
-    requires { ⌜ StateRule (held settings lamps (now ram) (now eeprom) (now external)) × (longestResponse ≤ length (now response)) ⌝ }
-    ensures { λ r. ⌜ calledInParts settings r (now (ram .exit)) (now (eeprom .exit)) (now (external .exit)) (now (response .exit))
-        ≡ respond settings (item (header .pnum) (header .pcmd) (header .hwpid) (now (pdata .entry)))
+    requires { ⌜ StateRule (held fixed lamps (now ram) (now eeprom) (now external)) × (longestResponse ≤ length (now response)) ⌝ }
+    ensures { λ r. ⌜ calledInParts fixed r (now (ram .exit)) (now (eeprom .exit)) (now (external .exit)) (now (response .exit))
+        ≡ respond (fixed .settings) (item (header .pnum) (header .pcmd) (header .hwpid) (now (pdata .entry)))
         (carryOut (item (header .pnum) (header .pcmd) (header .hwpid) (now (pdata .entry)))
-        (held settings lamps (now (ram .entry)) (now (eeprom .entry)) (now (external .entry)))) (now (response .entry)) ⌝ }
+        (held fixed lamps (now (ram .entry)) (now (eeprom .entry)) (now (external .entry)))) (now (response .entry)) ⌝ }
 {
     let done = carry_out(
-        settings,
+        fixed,
         lamps,
         header,
         pdata,
@@ -140,12 +142,19 @@ fn take_own(
         external,
         &mut response[Frame::RESPONSE_HEADER..],
     );
-    write_header(response, settings, header.pnum, header.pcmd, done.error);
-    let length = done.length;
+    write_header(
+        response,
+        fixed.settings,
+        header.pnum,
+        header.pcmd,
+        done.error,
+    );
+    let report = done.report;
+    let length = Frame::RESPONSE_HEADER + done.length;
     let after = done.lamps;
     Taken {
-        load: done.load,
-        length: Frame::RESPONSE_HEADER + length,
+        report,
+        length,
         lamps: after,
     }
 }
@@ -164,16 +173,16 @@ fn take_frame(
 {
     let header = Frame::read(frame);
     let pdata = &frame[Frame::HEADER..];
-    let settings = node.settings;
+    let fixed = read_only(node);
     let lamps = node.lamps;
     let mut ram = node.ram;
     if header.nadr == Frame::BROADCAST {
-        let done = take_broadcast(settings, lamps, header, pdata, &mut ram, eeprom, external);
-        return answered(settings, done, ram);
+        let done = take_broadcast(fixed, lamps, header, pdata, &mut ram, eeprom, external);
+        return answered(fixed, done, ram);
     }
-    if header.nadr == settings.address {
+    if header.nadr == node.settings.address {
         let done = take_own(
-            settings,
+            fixed,
             lamps,
             header,
             pdata,
@@ -182,7 +191,7 @@ fn take_frame(
             external,
             response,
         );
-        return answered(settings, done, ram);
+        return answered(fixed, done, ram);
     }
     unanswered(node, refusal::NONE)
 }

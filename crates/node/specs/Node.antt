@@ -11,15 +11,23 @@ use Rattle.dpa.specs.Settings.{settingsOk}
 use Rattle.lights.specs.declared.lamp.Lamp.{Lamp}
 use Rattle.lights.specs.Lamp.{off, LampRule, lampFits, actualLevel, tickLamp}
 use Rattle.node.specs.declared.record.Node.{Node}
+use Rattle.node.specs.declared.record.ReadOnly.{ReadOnly}
 use Rattle.node.specs.declared.record.NodeAnswer.{NodeAnswer}
 use Rattle.node.specs.declared.levels.LevelsAnswer.{LevelsAnswer}
 
+-- the part of a node that a request only reads, and a node put together from that part, lamps and RAM
+abbrev pub readOnlyOf : Node → ReadOnly
+readOnlyOf n = record { settings = n .settings }
+
+abbrev pub nodeFromParts : ReadOnly → List Lamp → List ℕ → Node
+nodeFromParts k ls bytes = record { settings = k .settings; lamps = ls; ram = bytes }
+
 -- a node with other lamps, and one with other RAM; the rest stays
 abbrev pub withLamps : Node → List Lamp → Node
-withLamps n ls = record { settings = n .settings; lamps = ls; ram = n .ram }
+withLamps n ls = nodeFromParts (readOnlyOf n) ls (n .ram)
 
 abbrev pub withRam : Node → List ℕ → Node
-withRam n bytes = record { settings = n .settings; lamps = n .lamps; ram = bytes }
+withRam n bytes = nodeFromParts (readOnlyOf n) (n .lamps) bytes
 
 -- thirty-two lamps and 48 bytes of RAM: so in every record of the code, whose arrays have these lengths
 unfoldable pub shapeOk : Node → Bool

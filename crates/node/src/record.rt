@@ -10,7 +10,7 @@ ghost use Prim.Native.Nat.{_≤_};
 ghost use lib.ListN.{getD};
 ghost use Rattle.dpa.specs.Lists.{allBelow};
 ghost use Rattle.lights.specs.Lamp.{off, lampFits};
-ghost use Rattle.node.specs.Node.{lampsOk, nodeOk};
+ghost use Rattle.node.specs.Node.{readOnlyOf, nodeFromParts, lampsOk, nodeOk};
 
 #[repr(C)]
 pub struct Node {
@@ -19,11 +19,35 @@ pub struct Node {
     pub ram: [u8; 48],
 }
 
+// The part of a node that a request only reads.
+pub struct ReadOnly {
+    pub settings: Settings,
+}
+
 // A refusal's number, or 0, and the node.
 #[repr(C)]
 pub struct NodeAnswer {
     pub refusal: u8,
     pub node: Node,
+}
+
+pub fn read_only(node: Node) -> ReadOnly
+    ensures { λ r. ⌜ r ≡ readOnlyOf node ⌝ }
+{
+    let settings = node.settings;
+    ReadOnly { settings }
+}
+
+// The node put together again.
+pub fn node_from_parts(fixed: ReadOnly, lamps: [Lamp; 32], ram: [u8; 48]) -> Node
+    ensures { λ r. ⌜ r ≡ nodeFromParts fixed lamps ram ⌝ }
+{
+    let settings = fixed.settings;
+    Node {
+        settings,
+        lamps,
+        ram,
+    }
 }
 
 // Whether each implemented lamp keeps its rule. The loop has no way out before its end, so it goes over several lamps at once.

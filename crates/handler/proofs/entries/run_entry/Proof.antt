@@ -14,7 +14,7 @@ use Rattle.handler.proofs.peripheral.peripheral.Reads as peripheral-rea
 -- the state that the function is given
 abbrev given : tie.Start → State
 given c =
-    held (c .args .settings) (c .args .lamps) (c .args .ram .now) (c .args .eeprom .now) (c .args .external .now)
+    held (c .args .fixed) (c .args .lamps) (c .args .ram .now) (c .args .eeprom .now) (c .args .external .now)
 
 for-node-requires : tie.Need-for-node-requires
 for-node-requires c κs = search needs

@@ -15,12 +15,12 @@ use Rattle.batch.proofs.entry.next_entry.Reads as next-entry-reads
 use Rattle.handler.proofs.entries.run_entry.Reads as run-entry-reads
 
 abbrev Inv-loop : tie.InvT-loop
-Inv-loop settings lamps₀ list ram₀ eeprom₀ external₀ at₀ lamps ram eeprom external at =
-    Running list (held settings lamps₀ ram₀ eeprom₀ external₀) at (held settings lamps ram eeprom external)
+Inv-loop fixed lamps₀ list ram₀ eeprom₀ external₀ at₀ lamps ram eeprom external at =
+    Running list (held fixed lamps₀ ram₀ eeprom₀ external₀) at (held fixed lamps ram eeprom external)
     × (length ram ≡ length ram₀) × (length eeprom ≡ length eeprom₀) × (length external ≡ length external₀)
 
 abbrev μ-loop : tie.MeasureT-loop
-μ-loop settings lamps₀ list ram₀ eeprom₀ external₀ at₀ lamps ram eeprom external at = length list - at
+μ-loop fixed lamps₀ list ram₀ eeprom₀ external₀ at₀ lamps ram eeprom external at = length list - at
 
 -- the entry that stands at the place
 first-is : (c : tie.After-known-told Inv-loop μ-loop) →

@@ -13,7 +13,7 @@ use Rattle.handler.proofs.os.without_data.Reads as without-data-reads
 -- the state that the function is given
 abbrev given : tie.Start → State
 given c =
-    held (c .args .settings) (c .args .lamps) (c .args .ram .now) (c .args .eeprom .now) (c .args .external .now)
+    held (c .args .fixed) (c .args .lamps) (c .args .ram .now) (c .args .eeprom .now) (c .args .external .now)
 
 run-batch-requires : tie.Need-run-batch-requires
 run-batch-requires c κs = search needs

@@ -22,7 +22,7 @@ use Rattle.memory.proofs.request.request.Reads as request-request-reads′
 -- the state that the function is given
 abbrev given : tie.Start → State
 given c =
-    held (c .args .settings) (c .args .lamps) (c .args .ram .now) (c .args .eeprom .now) (c .args .external .now)
+    held (c .args .fixed) (c .args .lamps) (c .args .ram .now) (c .args .eeprom .now) (c .args .external .now)
 
 request-requires : tie.Need-request-requires
 request-requires c κs = search needs
@@ -81,7 +81,7 @@ returns-3 c =
     let s = c .before .before .before .before .before .before .before .before .before .before .before .before .before .before .before .before in
     let a = s .args in
     laid-as (c .of-memory3 .ensures)
-    ∙ laid-within (λ (r : List ℕ). held (a .settings) (a .lamps) r (a .eeprom .now) (a .external .now)) (memoryRequest Ram (a .pcmd) (a .pdata .now) (a .ram .now)) (a .out .now) (c .before .before .before .before .before .request3 .ensures)
+    ∙ laid-within (λ (r : List ℕ). held (a .fixed) (a .lamps) r (a .eeprom .now) (a .external .now)) (memoryRequest Ram (a .pcmd) (a .pdata .now) (a .ram .now)) (a .out .now) (c .before .before .before .before .before .request3 .ensures)
     ∙ ap (λ (x : Served State). layOut x (a .out .now)) (sym (perform-ram (a .pnum) (a .pcmd) (a .pdata .now) (given s) (c .before .before .before .before .before .before .before .before .if3 .taken)))
 
 request-requires-4 : tie.Need-request-requires-4
@@ -96,7 +96,7 @@ returns-4 : tie.Need-returns-4
 returns-4 c =
     let s = c .before .before .before .before .before .before .before .before .before .before .before .before .before in
     let a = s .args in
-    laid-within (λ (ls : List Lamp). held (a .settings) ls (a .ram .now) (a .eeprom .now) (a .external .now)) (lightsRequest (a .settings) (a .pcmd) (a .pdata .now) (a .lamps)) (a .out .now) (c .before .before .request4 .ensures)
+    laid-within (λ (ls : List Lamp). held (a .fixed) ls (a .ram .now) (a .eeprom .now) (a .external .now)) (lightsRequest (a .fixed .settings) (a .pcmd) (a .pdata .now) (a .lamps)) (a .out .now) (c .before .before .request4 .ensures)
     ∙ ap (λ (x : Served State). layOut x (a .out .now)) (sym (perform-lights (a .pnum) (a .pcmd) (a .pdata .now) (given s) (c .before .before .before .before .if4 .taken)))
 
 returns-5 : tie.Need-returns-5

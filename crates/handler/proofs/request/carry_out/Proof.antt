@@ -18,7 +18,7 @@ use Rattle.handler.proofs.request.of_peripheral.Reads as of-peripheral-
 -- the state that the function is given
 abbrev given : tie.Start → State
 given c =
-    held (c .args .settings) (c .args .lamps) (c .args .ram .now) (c .args .eeprom .now) (c .args .external .now)
+    held (c .args .fixed) (c .args .lamps) (c .args .ram .now) (c .args .eeprom .now) (c .args .external .now)
 
 -- and the request
 abbrev asked : tie.Start → Item
@@ -27,7 +27,7 @@ asked c = item (c .args .header .pnum) (c .args .header .pcmd) (c .args .header 
 -- past the test of its HWPID
 mine : (c : tie.Else1) →
     let a = c .before .before .before .before .before .before .before .args in
-    forNode (a .settings) (a .header .hwpid) ≡ true
+    forNode (a .fixed .settings) (a .header .hwpid) ≡ true
 mine c = sym (c .before .for-node .ensures) ∙ not-false _ (c .if1 .left)
 
 for-node-requires : tie.Need-for-node-requires

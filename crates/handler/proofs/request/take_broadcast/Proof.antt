@@ -1,6 +1,7 @@
 use borrow.Author.Needs.{needs}
 use mathlib.Core.Path.{ap}
-use Rattle.handler.specs.Request.{Delivered, silent}
+use mathlib.Core.Bool.{true}
+use Rattle.handler.specs.Request.{Delivered}
 use Rattle.handler.proofs.request.take_broadcast.Statement.{statement}
 use Rattle.handler.proofs.request.take_broadcast.Tie as tie
 use Rattle.handler.proofs.request.take_broadcast.Reads as reads
@@ -23,7 +24,7 @@ same-length-3 : tie.Need-same-length-3
 same-length-3 c = search needs
 
 returns : tie.Need-returns
-returns c = λ o. ap (λ (l : Delivered). silent (l .after) 0 (l .load) o) (c .before .before .before .before .before .before .before .before .carry-out .ensures)
+returns c = λ o. ap (λ (l : Delivered). record { after = l .after; refusal = 0; length = 0; report = l .report; addressed = true; response = o }) (c .before .before .before .before .before .before .before .before .before .carry-out .ensures)
 
 pub take-broadcast-spec : {M : Type 1} → statement M
 take-broadcast-spec =

@@ -1,9 +1,11 @@
 use borrow.Author.Needs.{needs}
-use mathlib.Core.Path.{_≡_, ap, sym, _∙_}
+use mathlib.Core.Path.{_≡_, ap, sym, subst, _∙_}
 use Rattle.dpa.specs.declared.frame.Frame.{Frame}
 use Rattle.dpa.specs.Frame.{headerOf}
 use Rattle.batch.specs.Batch.{Item}
-use Rattle.handler.specs.Request.{State, state, carryOut, broadcast, respond}
+use Rattle.node.specs.declared.record.ReadOnly.{ReadOnly}
+use Rattle.node.proofs.Nodes.{node-ram}
+use Rattle.handler.specs.Request.{State, state, held, StateRule, itemOf, carryOut, broadcast, respond}
 use Rattle.handler.proofs.Taking.{frame-item, taken-broadcast, taken-own, taken-other, called-as}
 use Rattle.handler.proofs.request.take_frame.Statement.{statement}
 use Rattle.handler.proofs.request.take_frame.Tie as tie
@@ -14,10 +16,15 @@ use Rattle.handler.proofs.answer.answered.Reads as answered-reads
 use Rattle.handler.proofs.answer.unanswered.Reads as unanswered-reads
 use Rattle.handler.proofs.request.take_broadcast.Reads as take-broadcast-reads
 use Rattle.handler.proofs.request.take_own.Reads as take-own-reads
+use Rattle.node.proofs.record.read_only.Reads as read-only-reads
 
 -- the state that the function is given
 abbrev given : tie.Start → State
 given c = state (c .args .node) (c .args .eeprom .now) (c .args .external .now)
+
+-- the same by what is only read of the node
+abbrev inParts : tie.Start → ReadOnly → State
+inParts c k = held k (c .args .node .lamps) (c .args .node .ram) (c .args .eeprom .now) (c .args .external .now)
 
 -- the address that was read is the frame's
 nadr-is : (c : tie.After-read) → c .read .result .nadr ≡ headerOf (c .before .before .before .before .before .args .frame .now) .nadr
@@ -35,11 +42,16 @@ part-pdata-start c = search needs
 part-pdata-end : tie.Need-part-pdata-end
 part-pdata-end c = search needs
 
+read-only-requires : tie.Need-read-only-requires
+read-only-requires c κs = search needs
+
 slice-aggregate-take-broadcast : tie.Need-slice-aggregate-take-broadcast
 slice-aggregate-take-broadcast c = search needs
 
 take-broadcast-requires : tie.Need-take-broadcast-requires
-take-broadcast-requires c κs = search needs
+take-broadcast-requires c κs =
+    let s = c .before .before .before .before .before .before .before .before .before .before .before .before .before .before in
+    subst (λ (k : ReadOnly). StateRule (inParts s k)) (sym (c .before .before .before .before .before .before .before .read-only .ensures)) (s .pre .0)
 
 answered-requires : tie.Need-answered-requires
 answered-requires c κs = search needs
@@ -56,14 +68,17 @@ returns c =
     let s = r .before .before .before .before .before in
     called-as (c .answered .ensures)
     ∙ c .before .before .before .before .before .before .take-broadcast .ensures (s .args .response .now)
-    ∙ ap (λ (i : Item). broadcast (carryOut i (given s)) (s .args .response .now)) (frame-item (s .args .frame .now) (r .read .ensures))
+    ∙ ap (λ (i : Item). broadcast (carryOut i (inParts s (c .before .before .before .before .before .before .before .before .before .before .before .before .before .before .read-only .result))) (s .args .response .now)) (frame-item (s .args .frame .now) (r .read .ensures))
+    ∙ ap (λ (k : ReadOnly). broadcast (carryOut (itemOf (s .args .frame .now)) (inParts s k)) (s .args .response .now)) (c .before .before .before .before .before .before .before .before .before .before .before .before .before .before .read-only .ensures)
     ∙ sym (taken-broadcast (s .args .frame .now) (given s) (s .args .response .now) (sym (nadr-is r) ∙ c .before .before .before .before .before .before .before .before .before .before .if1 .taken))
 
 slice-aggregate-take-own : tie.Need-slice-aggregate-take-own
-slice-aggregate-take-own c = search needs
+slice-aggregate-take-own c = let p = c .before .before .before .before .before .before .before .before .before .before .before .before .before .before .before .pre in sym (node-ram _ (p .0 .node-ok))
 
 take-own-requires : tie.Need-take-own-requires
-take-own-requires c κs = search needs
+take-own-requires c κs =
+    let s = c .before .before .before .before .before .before .before .before .before .before .before .before .before .before .before .before .before .before in
+    (subst (λ (k : ReadOnly). StateRule (inParts s k)) (sym (c .before .before .before .before .before .before .before .before .before .before .before .read-only .ensures)) (s .pre .0), s .pre .2)
 
 answered-requires-2 : tie.Need-answered-requires-2
 answered-requires-2 c κs = search needs
@@ -83,7 +98,8 @@ returns-2 c =
     let s = r .before .before .before .before .before in
     called-as (c .answered2 .ensures)
     ∙ c .before .before .before .before .before .before .before .before .take-own .ensures
-    ∙ ap (λ (i : Item). respond (s .args .node .settings) i (carryOut i (given s)) (s .args .response .now)) (frame-item (s .args .frame .now) (r .read .ensures))
+    ∙ ap (λ (i : Item). respond (c .before .before .before .before .before .before .before .before .before .before .before .before .before .before .before .before .before .before .before .before .read-only .result .settings) i (carryOut i (inParts s (c .before .before .before .before .before .before .before .before .before .before .before .before .before .before .before .before .before .before .before .before .read-only .result))) (s .args .response .now)) (frame-item (s .args .frame .now) (r .read .ensures))
+    ∙ ap (λ (k : ReadOnly). respond (k .settings) (itemOf (s .args .frame .now)) (carryOut (itemOf (s .args .frame .now)) (inParts s k)) (s .args .response .now)) (c .before .before .before .before .before .before .before .before .before .before .before .before .before .before .before .before .before .before .before .before .read-only .ensures)
     ∙ sym (taken-own (s .args .frame .now) (given s) (s .args .response .now) (λ z. c .before .before .before .before .before .before .before .before .before .before .before .before .before .before .before .before .if1 .left (nadr-is r ∙ z)) (sym (nadr-is r) ∙ c .before .before .before .before .before .before .before .before .before .before .before .before .before .if2 .taken))
 
 unanswered-requires : tie.Need-unanswered-requires
@@ -104,6 +120,7 @@ take-frame-spec =
     sub-pdata
     part-pdata-start
     part-pdata-end
+    read-only-requires
     slice-aggregate-take-broadcast
     take-broadcast-requires
     answered-requires

@@ -15,7 +15,7 @@ use Rattle.handler.proofs.request.carry_out.Reads as carry-out-reads
 -- the state that the function is given
 abbrev given : tie.Start → State
 given c =
-    held (c .args .settings) (c .args .lamps) (c .args .ram .now) (c .args .eeprom .now) (c .args .external .now)
+    held (c .args .fixed) (c .args .lamps) (c .args .ram .now) (c .args .eeprom .now) (c .args .external .now)
 
 -- and the request
 abbrev asked : tie.Start → Item
@@ -36,10 +36,10 @@ carry-out-requires c κs = search needs
 write-header-requires : tie.Need-write-header-requires
 write-header-requires c κs = search needs
 
-add-t19 : tie.Need-add-t19
-add-t19 c =
-    let s = c .before .before .before .before .before .before .before .before .before .before .before .before .before .before .before .before .before .before .before .before .before .before .before in
-    let n = ap (λ (l : Delivered). l .length) (c .before .before .before .before .before .before .before .before .before .before .before .before .before .carry-out .ensures) in
+add-length : tie.Need-add-length
+add-length c =
+    let s = c .before .before .before .before .before .before .before .before .before .before .before .before .before .before .before .before .before .before .before .before .before .before .before .before in
+    let n = ap (λ (l : Delivered). l .length) (c .before .before .before .before .before .before .before .before .before .before .before .before .before .before .carry-out .ensures) in
     let z = carry-fits (asked s) (given s) (s .pre .0) in
     omega arith
 
@@ -57,9 +57,9 @@ same-length-4 c = search needs
 
 returns : tie.Need-returns
 returns c =
-    let s = c .before .before .before .before .before .before .before .before .before .before .before .before .before .before .before .before .before .before .before .before .before .before .before in
-    own-answer (s .args .response .now) (c .before .before .before .before .before .before .before .before .before .before .before .before .before .carry-out .last .1 .1 .1 .1 .1 .1 .1 .0) (omega (arith, s .pre .1)) (s .args .settings)
-    (asked s) (carryOut (asked s) (given s)) (c .before .before .before .before .before .before .before .before .before .before .before .before .before .carry-out .ensures) (c .before .before .before .write-header .ensures)
+    let s = c .before .before .before .before .before .before .before .before .before .before .before .before .before .before .before .before .before .before .before .before .before .before .before .before .before in
+    own-answer (s .args .response .now) (c .before .before .before .before .before .before .before .before .before .before .before .before .before .before .before .carry-out .last .1 .1 .1 .1 .1 .1 .1 .0) (omega (arith, s .pre .1)) (s .args .fixed)
+    (asked s) (carryOut (asked s) (given s)) (c .before .before .before .before .before .before .before .before .before .before .before .before .before .before .before .carry-out .ensures) (c .before .before .before .before .before .write-header .ensures)
 
 pub take-own-spec : {M : Type 1} → statement M
 take-own-spec =
@@ -70,7 +70,7 @@ take-own-spec =
     part-carry-out-end
     carry-out-requires
     write-header-requires
-    add-t19
+    add-length
     same-length
     same-length-2
     same-length-3
