@@ -5,53 +5,35 @@ use Prim.Native.Nat.{ℕ, suc, _+_, _≤_, _<_}
 use native.Mathlib.Omega.{arith}
 use lib.ListN.{length, set}
 use lib.Seq.{sets}
-use Rattle.dpa.specs.Served.{served, within}
+use Rattle.dpa.specs.Served.{served}
 use Rattle.memory.specs.declared.block.Memory.{Memory}
 use Rattle.memory.specs.declared.block.Memory.the-variants.{Eeprom, Ram, External}
 use Rattle.memory.specs.Block.{sizeOf, longestOf, addressBytes, writeCommand}
-use Rattle.memory.specs.Request.{memoryRequest}
 use Rattle.memory.proofs.Blocks.{Fits}
 use Rattle.memory.proofs.Puts.{put-sets}
 use Rattle.memory.proofs.Requests.{write-short}
-use Rattle.node.specs.Node.{withRam}
-use Rattle.handler.specs.Request.{State, nodeIs, eepromIs, externalIs, perform}
-use Rattle.handler.proofs.Performing.{perform-eeprom, perform-ram}
+use Rattle.handler.specs.Request.{State, memoryOf, withMemory, onMemory, perform}
+use Rattle.handler.proofs.Performing.{memory-same, perform-memory}
 use Rattle.book.specs.declared.step.Step.{Step}
 use Rattle.book.specs.Machine.{machineEffect, machineStep, machine}
 use Rattle.book.specs.Entry.{values, pnumOf, pcmdOf}
 use Rattle.book.proofs.Faults.{Good, ram-good, eeprom-good}
 
--- a memory of a state, and the state with other bytes in it
-abbrev pub bytesOf : Memory → State → List ℕ
-bytesOf Memory.Eeprom st = st .eeprom
-bytesOf Memory.Ram st = st .node .ram
-bytesOf Memory.External st = st .external
-
-abbrev pub withBytes : Memory → State → List ℕ → State
-withBytes Memory.Eeprom st bytes = eepromIs st bytes
-withBytes Memory.Ram st bytes = nodeIs st (withRam (st .node) bytes)
-withBytes Memory.External st bytes = externalIs st bytes
-
-bytes-with : (m : Memory) (st : State) (bytes : List ℕ) → bytesOf m (withBytes m st bytes) ≡ bytes
+bytes-with : (m : Memory) (st : State) (bytes : List ℕ) → memoryOf m (withMemory m st bytes) ≡ bytes
 bytes-with Memory.Eeprom st bytes = refl
 bytes-with Memory.Ram st bytes = refl
 bytes-with Memory.External st bytes = refl
 
-with-with : (m : Memory) (st : State) (first bytes : List ℕ) → withBytes m (withBytes m st first) bytes ≡ withBytes m st bytes
+with-with : (m : Memory) (st : State) (first bytes : List ℕ) → withMemory m (withMemory m st first) bytes ≡ withMemory m st bytes
 with-with Memory.Eeprom st first bytes = refl
 with-with Memory.Ram st first bytes = refl
 with-with Memory.External st first bytes = refl
 
-with-bytes : (m : Memory) (st : State) → withBytes m st (bytesOf m st) ≡ st
-with-bytes Memory.Eeprom st = refl
-with-bytes Memory.Ram st = refl
-with-bytes Memory.External st = refl
-
 -- steps of kind k write memory m: what the step machine makes of one, and what a node makes of an entry
 pub record Writes (k : ℕ) (m : Memory) : Type 0 where
   pub place : (s : Step) → Good s → s .kind ≡ k → s .target < sizeOf m
-  pub singly : (s : Step) (st : State) → Good s → s .kind ≡ k → machineStep s st ≡ withBytes m st (set (bytesOf m st) (s .target) (s .value))
-  pub entry : (d : List ℕ) (st : State) → perform (pnumOf k) (pcmdOf k) d st ≡ within (withBytes m st) (memoryRequest m (writeCommand m) d (bytesOf m st))
+  pub singly : (s : Step) (st : State) → Good s → s .kind ≡ k → machineStep s st ≡ withMemory m st (set (memoryOf m st) (s .target) (s .value))
+  pub entry : (d : List ℕ) (st : State) → perform (pnumOf k) (pcmdOf k) d st ≡ onMemory m (writeCommand m) d st
   pub address : addressBytes m ≡ 1
   pub block : (n : ℕ) → n ≤ 55 → n ≤ sizeOf m → n ≤ longestOf m
 
@@ -61,7 +43,7 @@ writes-ram =
     record {
       place = λ s g e. ram-good s g e .target-max;
       singly = λ s st g e. rw (g, e);
-      entry = λ d st. perform-ram 5 1 d st refl;
+      entry = λ d st. perform-memory 5 1 d st Ram refl;
       address = refl;
       block = λ n h l. l;
     }
@@ -72,7 +54,7 @@ writes-eeprom =
     record {
       place = λ s g e. eeprom-good s g (omega arith) .1 .target-max;
       singly = λ s st g e. rw (g, e);
-      entry = λ d st. perform-eeprom 3 1 d st refl;
+      entry = λ d st. perform-memory 3 1 d st Eeprom refl;
       address = refl;
       block = λ n h l. h;
     }
@@ -88,15 +70,15 @@ module _ (k : ℕ) (m : Memory) (w : Writes k m) where
   run-ends i (s ∷ ss) r h = omega (arith, run-ends (suc i) ss (r .3) (omega (arith, r .2, w .place s (r .0) (r .1))))
 
   -- the step machine over such steps
-  pub machine-byte-run : (i : ℕ) (ss : List Step) (st : State) → ByteRun k i ss → machine ss st ≡ withBytes m st (sets (bytesOf m st) i (values ss))
-  machine-byte-run i [] st r = sym (with-bytes m st)
+  pub machine-byte-run : (i : ℕ) (ss : List Step) (st : State) → ByteRun k i ss → machine ss st ≡ withMemory m st (sets (memoryOf m st) i (values ss))
+  machine-byte-run i [] st r = sym (memory-same m st)
   machine-byte-run i (s ∷ ss) st r =
       rw (w .singly s st (r .0) (r .1), r .2)
       (rw (machine-byte-run (suc i) ss _ (r .3), bytes-with, with-with))
 
   -- an entry of such steps
   pub entry-byte-run : (i : ℕ) (s : Step) (ss : List Step) (st : State)
-      → length (bytesOf m st) ≡ sizeOf m → length (values (s ∷ ss)) ≤ 55 → ByteRun k i (s ∷ ss)
+      → length (memoryOf m st) ≡ sizeOf m → length (values (s ∷ ss)) ≤ 55 → ByteRun k i (s ∷ ss)
       → perform (pnumOf k) (pcmdOf k) (i ∷ values (s ∷ ss)) st ≡ served (machine (s ∷ ss) st) 0 []
   entry-byte-run i s ss st size short r =
       let d = values (s ∷ ss) in
@@ -105,4 +87,4 @@ module _ (k : ℕ) (m : Memory) (w : Writes k m) where
       let fits : Fits (sizeOf m) (longestOf m) i (length d) =
       record { short = w .block (length d) short (omega arith); starts = start; ends = ends } in
       w .entry (i ∷ d) st
-      ∙ rw (write-short m (bytesOf m st) i d (w .address) (omega arith) fits, put-sets (bytesOf m st) i d (omega arith), machine-byte-run i (s ∷ ss) st r)
+      ∙ rw (write-short m (memoryOf m st) i d (w .address) (omega arith) fits, put-sets (memoryOf m st) i d (omega arith), machine-byte-run i (s ∷ ss) st r)

@@ -13,7 +13,7 @@ use Rattle.dpa.proofs.Bool.{by-test, and-left, and-right}
 use Rattle.memory.specs.declared.block.Memory.{Memory}
 use Rattle.memory.specs.declared.block.Memory.the-variants.{Eeprom, Ram}
 use Rattle.memory.specs.Block.{sizeOf}
-use Rattle.handler.specs.Request.{State, StateRule, forNode, perform, entryOf}
+use Rattle.handler.specs.Request.{State, StateRule, memoryOf, forNode, perform, entryOf}
 use Rattle.node.proofs.Nodes.{node-lamps, node-ram}
 use Rattle.handler.proofs.Entering.{entry-mine}
 use Rattle.book.specs.declared.step.Step.{Step}
@@ -24,7 +24,7 @@ use Rattle.book.proofs.Faults.{eeprom-good}
 use Rattle.book.proofs.Runs.{Linked, Run}
 use Rattle.scene.proofs.Lists.{Limits}
 use Rattle.acceptance.proofs.Lamps.{LampRun, entry-lamp-run}
-use Rattle.acceptance.proofs.Memories.{bytesOf, Writes, writes-ram, writes-eeprom, ByteRun, entry-byte-run}
+use Rattle.acceptance.proofs.Memories.{Writes, writes-ram, writes-eeprom, ByteRun, entry-byte-run}
 
 -- joined steps of a lamp kind ascend
 lamp-run : (k : ℕ) → k < 3 → (p : Step) (ss : List Step) → p .kind ≡ k → Linked p ss → LampRun k (suc (p .target)) ss
@@ -58,7 +58,7 @@ module _ (most : ℕ) (limit : most ≤ pdataMax) (s : Step) (ss : List Step) (s
       let q : LampRun (s .kind) 0 (s ∷ ss) = (r .0, refl, omega arith, lamp-run (s .kind) h s ss refl (r .1)) in
       rw (lt-ltb (s .kind) 3 h, entry-lamp-run (s .kind) h (s ∷ ss) st (node-lamps (st .node) (k .node-ok)) q) (refl, refl)
 
-  bytes-perform : (m : Memory) → Writes (s .kind) m → 3 ≤ s .kind → length (bytesOf m st) ≡ sizeOf m → Leaves (machine (s ∷ ss) st) done
+  bytes-perform : (m : Memory) → Writes (s .kind) m → 3 ≤ s .kind → length (memoryOf m st) ≡ sizeOf m → Leaves (machine (s ∷ ss) st) done
   unfolding entryData
   bytes-perform m w h size =
       let q : ByteRun (s .kind) (s .target) (s ∷ ss) = (r .0, refl, refl, byte-run (s .kind) h s ss refl (r .1)) in

@@ -3,15 +3,18 @@ use mathlib.Core.Path.{_≡_, ap}
 use mathlib.Core.List.{List}
 use mathlib.Core.Bool.{Bool, true, false}
 use Prim.Native.Nat.{ℕ}
+use lib.Dec.{eqb}
 use lib.ListN.{length}
 use borrow.Author.Tests.{eq-eqb, ne-eqb}
+use Rattle.dpa.specs.Pnum.{osPnum}
 use Rattle.dpa.specs.Served.{Served, Laid, laid, layOut, refused}
+use Rattle.dpa.proofs.Bool.{by-cond}
 use Rattle.checksum.specs.Check.{codeCheck}
 use Rattle.batch.specs.Batch.{Item, reading, listError}
 use Rattle.batch.specs.declared.list.Listed.the-variants.{Sound, Broken}
 use Rattle.node.specs.declared.record.ReadOnly.{ReadOnly}
 use Rattle.handler.specs.declared.os.Carried.{Carried}
-use Rattle.handler.specs.Request.{State, perform, forNode, noReport, plain, ran, batchOf, codeCheckOf, osOf, carryOut, delivered, deliver}
+use Rattle.handler.specs.Request.{State, perform, forNode, noReport, Outcome, plain, ran, batchOf, codeCheckOf, osOf, carryOut, delivered, deliver}
 
 module _ (d : List ℕ) (st : State) where
   pub batch-empty : length d ≡ 0 → batchOf d st ≡ plain (refused st 5)
@@ -53,6 +56,25 @@ module _ (i : Item) (st : State) where
     pub carry-peripheral : (i .pnum ≡ 2 → ⊥) → carryOut i st ≡ plain (perform (i .pnum) (i .pcmd) (i .pdata) st)
     unfolding carryOut
     carry-peripheral p = rw (e, ne-eqb (i .pnum) 2 p)
+
+-- What holds of each way through holds of every request. Every error has one premise.
+module _ (P : Outcome → Type 0) (st : State) (error : (e : ℕ) → P (plain (refused st e))) where
+  -- of OS 02: a batch that runs, the code check, an error
+  pub os-cases : (pcmd : ℕ) (d : List ℕ) → P (ran (reading d .items) st) → P (codeCheckOf d st) → P (osOf pcmd d st)
+  unfolding osOf batchOf
+  os-cases pcmd d runs check =
+      by-cond P (eqb pcmd 5) _ _
+      (λ _. by-cond P (eqb (length d) 0) _ _ (λ _. error 5)
+      (λ _. by-cond P (eqb (listError (reading d .listed)) 0) _ _ (λ _. runs) (λ _. error (listError (reading d .listed)))))
+      (λ _. by-cond P (eqb pcmd 0x0A) _ _ (λ _. check) (λ _. error 2))
+
+  -- of every PNUM: an OS request, a request to a peripheral, an error
+  pub carry-cases : (i : Item) → P (osOf (i .pcmd) (i .pdata) st) → P (plain (perform (i .pnum) (i .pcmd) (i .pdata) st)) → P (carryOut i st)
+  unfolding carryOut
+  carry-cases i os peripheral =
+      by-cond P (forNode (st .node .settings) (i .hwpid)) _ _
+      (λ _. by-cond P (eqb (i .pnum) osPnum) _ _ (λ _. os) (λ _. peripheral))
+      (λ _. error 7)
 
 -- What the code leaves
 

@@ -6,33 +6,28 @@ use lib.Dec.{eqb}
 use lib.ListN.{length}
 use borrow.Author.Tests.{ne-eqb}
 use Rattle.dpa.specs.Served.{Served, Harmless, refused, within}
-use Rattle.dpa.specs.Frame.{headerOf}
 use Rattle.dpa.proofs.Bool.{by-cond}
-use Rattle.memory.specs.declared.block.Memory.the-variants.{Eeprom, Ram, External}
 use Rattle.memory.proofs.Requests.{request-harmless}
 use Rattle.lights.proofs.Requests as lights
 use Rattle.checksum.specs.Check.{codeCheck}
 use Rattle.checksum.proofs.Checks.{check-harmless}
 use Rattle.batch.specs.Batch.{Item, reading, listError}
-use Rattle.node.specs.Node.{withLamps, withRam}
-use Rattle.handler.specs.Request.{State, nodeIs, eepromIs, externalIs, perform, forNode, entryOf, noReport, Outcome, plain, batchOf, codeCheckOf, osOf, carryOut, itemOf, Called, takenOf, silent, refusalOf, requestOf}
-use Rattle.handler.proofs.Taking.{call-refused}
+use Rattle.node.specs.Node.{withLamps}
+use Rattle.handler.specs.Request.{State, nodeIs, memoryOf, withMemory, perform, forNode, entryOf, noReport, Outcome, plain, batchOf, codeCheckOf, carryOut, itemOf, Called, silent, refusalOf, requestOf}
+use Rattle.handler.proofs.Performing.{memory-same, perform-cases}
+use Rattle.handler.proofs.Carrying.{os-cases, carry-cases}
+use Rattle.handler.proofs.Taking.{call-refused, call-cases}
 
 -- seen on a larger state, a harmless request is harmless
 harmless-within : {S T : Type 0} (put : S → T) (s : S) (t : T) (a : Served S) → put s ≡ t → Harmless s a → Harmless t (within put a)
 harmless-within put s t a e h n = (ap put (h n .0) ∙ e, h n .1)
 
 pub perform-harmless : (pnum pcmd : ℕ) (d : List ℕ) (st : State) → Harmless st (perform pnum pcmd d st)
-unfolding perform
 perform-harmless pnum pcmd d st =
-    let P : Served State → Type 0 = λ a. Harmless st a in
-    by-cond P (eqb pnum 3) _ _ (λ _. harmless-within (eepromIs st) (st .eeprom) st _ refl (request-harmless Eeprom d (st .eeprom) pcmd))
-    (λ _. by-cond P (eqb pnum 4) _ _ (λ _. harmless-within (externalIs st) (st .external) st _ refl (request-harmless External d (st .external) pcmd))
-    (λ _. by-cond P (eqb pnum 5) _ _
-    (λ _. harmless-within (λ (r : List ℕ). nodeIs st (withRam (st .node) r)) (st .node .ram) st _ refl (request-harmless Ram d (st .node .ram) pcmd))
-    (λ _. by-cond P (eqb pnum 0x71) _ _
-    (λ _. harmless-within (λ ls. nodeIs st (withLamps (st .node) ls)) (st .node .lamps) st _ refl (lights.request-harmless (st .node .settings) d (st .node .lamps) pcmd))
-    (λ _ n. (refl, refl)))))
+    perform-cases pnum pcmd d st (λ (a : Served State). Harmless st a)
+    (λ m. harmless-within (withMemory m st) (memoryOf m st) st _ (memory-same m st) (request-harmless m d (memoryOf m st) pcmd))
+    (harmless-within (λ ls. nodeIs st (withLamps (st .node) ls)) (st .node .lamps) st _ refl (lights.request-harmless (st .node .settings) d (st .node .lamps) pcmd))
+    (λ e n. (refl, refl))
 
 pub entry-harmless : (i : Item) (st : State) → Harmless st (entryOf i st)
 unfolding entryOf
@@ -51,23 +46,11 @@ batch-unread d st n =
 abbrev Clean : State → Outcome → Type 0
 Clean st a = (a .error ≡ 0 → ⊥) → a ≡ plain (refused st (a .error))
 
-batch-clean : (d : List ℕ) (st : State) → Clean st (batchOf d st)
-unfolding batchOf
-batch-clean d st =
-    by-cond (Clean st) (eqb (length d) 0) _ _ (λ _ n. refl)
-    (λ _. by-cond (Clean st) (eqb (listError (reading d .listed)) 0) _ _ (λ _ n. absurd (n refl)) (λ _ n. refl))
-
 check-clean : (d : List ℕ) (st : State) → Clean st (codeCheckOf d st)
 unfolding codeCheckOf
 check-clean d st n =
     let h = check-harmless (st .external) d n in
     λ j. record { after = st; error = codeCheck (st .external) d .error; bytes = h .1 j; entries = []; report = record { load = h .0 j } }
-
-os-clean : (pcmd : ℕ) (d : List ℕ) (st : State) → Clean st (osOf pcmd d st)
-unfolding osOf
-os-clean pcmd d st =
-    by-cond (Clean st) (eqb pcmd 5) _ _ (λ _. batch-clean d st)
-    (λ _. by-cond (Clean st) (eqb pcmd 0x0A) _ _ (λ _. check-clean d st) (λ _ n. refl))
 
 perform-clean : (pnum pcmd : ℕ) (d : List ℕ) (st : State) → Clean st (plain (perform pnum pcmd d st))
 perform-clean pnum pcmd d st n =
@@ -76,22 +59,16 @@ perform-clean pnum pcmd d st n =
 
 -- a request with an error changes nothing, has no data, ran no entry and has nothing to report
 pub carry-harmless : (i : Item) (st : State) → (carryOut i st .error ≡ 0 → ⊥) → carryOut i st ≡ plain (refused st (carryOut i st .error))
-unfolding carryOut
 carry-harmless i st =
-    by-cond (Clean st) (forNode (st .node .settings) (i .hwpid)) _ _
-    (λ _. by-cond (Clean st) (eqb (i .pnum) 2) _ _ (λ _. os-clean (i .pcmd) (i .pdata) st) (λ _. perform-clean (i .pnum) (i .pcmd) (i .pdata) st))
-    (λ _ n. refl)
+    carry-cases (Clean st) st (λ e n. refl) i
+    (os-cases (Clean st) st (λ e n. refl) (i .pcmd) (i .pdata) (λ n. absurd (n refl)) (check-clean (i .pdata) st))
+    (perform-clean (i .pnum) (i .pcmd) (i .pdata) st)
 
--- whatever is sent, a frame whose request has an error leaves the state as it was
+-- sent or not, a frame whose request has an error leaves the state as it was
 pub error-keeps : (f : List ℕ) (st : State) (o : List ℕ) → (carryOut (itemOf f) st .error ≡ 0 → ⊥) → requestOf f st o .after ≡ st
-unfolding requestOf takenOf
 error-keeps f st o n =
     let e : carryOut (itemOf f) st .after ≡ st = ap (λ (a : Outcome). a .after) (carry-harmless (itemOf f) st n) in
-    let P : Called → Type 0 = λ a. a .after ≡ st in
-    by-cond P (eqb (refusalOf f st o) 0) _ _
-    (λ _. by-cond P (eqb (headerOf f .nadr) 255) _ _ (λ _. e)
-    (λ _. by-cond P (eqb (headerOf f .nadr) (st .node .settings .address)) _ _ (λ _. e) (λ _. refl)))
-    (λ _. refl)
+    call-cases (λ (a : Called). a .after ≡ st) f st o (λ k. refl) (λ _. e) (λ _. e)
 
 -- a refused call hands everything back as it came
 pub refused-keeps : (f : List ℕ) (st : State) (o : List ℕ) → (refusalOf f st o ≡ 0 → ⊥) → requestOf f st o ≡ silent st (refusalOf f st o) o

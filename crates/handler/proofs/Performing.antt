@@ -1,38 +1,52 @@
 -- What a peripheral does, by PNUM.
-use mathlib.Core.Path.{_≡_, ap}
+use mathlib.Core.Path.{_≡_, refl, ap}
 use mathlib.Core.List.{List}
 use Prim.Native.Nat.{ℕ}
+use lib.Dec.{eqb}
 use borrow.Author.Tests.{ne-eqb}
-use Rattle.dpa.specs.Served.{laid, refused, within}
+use Rattle.dpa.specs.Pnum.{lightsPnum}
+use Rattle.dpa.specs.Served.{Served, laid, refused}
+use Rattle.dpa.proofs.Bool.{by-cond}
+use Rattle.memory.specs.declared.block.Memory.{Memory}
 use Rattle.memory.specs.declared.block.Memory.the-variants.{Eeprom, Ram, External}
-use Rattle.memory.specs.Request.{memoryRequest}
+use Rattle.memory.specs.Block.{memoryPnum}
 use Rattle.lights.specs.declared.request.LampsReply.{LampsReply}
-use Rattle.lights.specs.Lights.{lightsRequest}
 use Rattle.node.specs.declared.record.ReadOnly.{ReadOnly}
-use Rattle.node.specs.Node.{withLamps, withRam}
-use Rattle.handler.specs.Request.{State, held, nodeIs, eepromIs, externalIs, perform}
+use Rattle.handler.specs.Request.{State, held, memoryOf, withMemory, onMemory, onLights, perform}
 
 module _ (pnum pcmd : ℕ) (d : List ℕ) (st : State) where
-  pub perform-eeprom : pnum ≡ 3 → perform pnum pcmd d st ≡ within (eepromIs st) (memoryRequest Eeprom pcmd d (st .eeprom))
+  -- by the PNUM of a memory
+  pub perform-memory : (m : Memory) → pnum ≡ memoryPnum m → perform pnum pcmd d st ≡ onMemory m pcmd d st
   unfolding perform
-  perform-eeprom e = ap (λ (p : ℕ). perform p pcmd d st) e
+  perform-memory Memory.Eeprom e = ap (λ (p : ℕ). perform p pcmd d st) e
+  perform-memory Memory.Ram e = ap (λ (p : ℕ). perform p pcmd d st) e
+  perform-memory Memory.External e = ap (λ (p : ℕ). perform p pcmd d st) e
 
-  pub perform-external : pnum ≡ 4 → perform pnum pcmd d st ≡ within (externalIs st) (memoryRequest External pcmd d (st .external))
-  unfolding perform
-  perform-external e = ap (λ (p : ℕ). perform p pcmd d st) e
-
-  pub perform-ram : pnum ≡ 5 → perform pnum pcmd d st ≡ within (nodeIs st) (within (withRam (st .node)) (memoryRequest Ram pcmd d (st .node .ram)))
-  unfolding perform
-  perform-ram e = ap (λ (p : ℕ). perform p pcmd d st) e
-
-  pub perform-lights : pnum ≡ 0x71
-      → perform pnum pcmd d st ≡ within (nodeIs st) (within (withLamps (st .node)) (lightsRequest (st .node .settings) pcmd d (st .node .lamps)))
+  -- by the PNUM of the lights
+  pub perform-lights : pnum ≡ lightsPnum → perform pnum pcmd d st ≡ onLights pcmd d st
   unfolding perform
   perform-lights e = ap (λ (p : ℕ). perform p pcmd d st) e
 
+  -- by any other
   pub perform-unknown : (pnum ≡ 3 → ⊥) → (pnum ≡ 4 → ⊥) → (pnum ≡ 5 → ⊥) → (pnum ≡ 0x71 → ⊥) → perform pnum pcmd d st ≡ refused st 3
   unfolding perform
   perform-unknown a b c e = simp (ne-eqb pnum 3 a, ne-eqb pnum 4 b, ne-eqb pnum 5 c, ne-eqb pnum 0x71 e)
+
+  -- what holds of a request to each memory and to the lights, and of every error, holds of every PNUM
+  pub perform-cases : (P : Served State → Type 0) → ((m : Memory) → P (onMemory m pcmd d st)) → P (onLights pcmd d st)
+      → ((e : ℕ) → P (refused st e)) → P (perform pnum pcmd d st)
+  unfolding perform
+  perform-cases P memory lights error =
+      by-cond P (eqb pnum (memoryPnum Eeprom)) _ _ (λ _. memory Eeprom)
+      (λ _. by-cond P (eqb pnum (memoryPnum External)) _ _ (λ _. memory External)
+      (λ _. by-cond P (eqb pnum (memoryPnum Ram)) _ _ (λ _. memory Ram)
+      (λ _. by-cond P (eqb pnum lightsPnum) _ _ (λ _. lights) (λ _. error 3))))
+
+-- a memory's own bytes put back
+pub memory-same : (m : Memory) (st : State) → withMemory m st (memoryOf m st) ≡ st
+memory-same Memory.Eeprom st = refl
+memory-same Memory.Ram st = refl
+memory-same Memory.External st = refl
 
 -- what the code leaves
 pub laid-as : {k : ReadOnly} {a b : LampsReply} {r e x o : List ℕ} → a ≡ b

@@ -52,6 +52,18 @@ module _ (f : List ℕ) (st : State) (o : List ℕ) where
   unfolding requestOf
   call-taken e = rw (eq-eqb (refusalOf f st o) 0 e)
 
+-- What holds of a call that does nothing, of a broadcast and of a response holds of every call.
+pub call-cases : (P : Called → Type 0) (f : List ℕ) (st : State) (o : List ℕ) → ((k : ℕ) → P (silent st k o))
+    → (refusalOf f st o ≡ 0 → P (broadcast (carryOut (itemOf f) st) o))
+    → (refusalOf f st o ≡ 0 → P (respond (st .node .settings) (itemOf f) (carryOut (itemOf f) st) o))
+    → P (requestOf f st o)
+unfolding requestOf takenOf
+call-cases P f st o nothing all own =
+    by-cond P (eqb (refusalOf f st o) 0) _ _
+    (λ z. by-cond P (eqb (headerOf f .nadr) broadcastNadr) _ _ (λ _. all (eqb-true _ _ z))
+    (λ _. by-cond P (eqb (headerOf f .nadr) (st .node .settings .address)) _ _ (λ _. own (eqb-true _ _ z)) (λ _. nothing 0)))
+    (λ _. nothing (refusalOf f st o))
+
 -- a call answers "addressed" exactly where it is not refused and NADR is the broadcast's or the node's
 pub addressed-exact : (f : List ℕ) (st : State) (o : List ℕ)
     → requestOf f st o .addressed

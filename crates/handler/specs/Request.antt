@@ -10,6 +10,7 @@ use Rattle.dpa.specs.Lists.{over}
 use Rattle.dpa.specs.Frame.{responseHeaderSize, longestResponse, broadcastNadr, anyHwpid, headerOf, pdataOf, frameFits, responseHeader}
 use Rattle.dpa.specs.Pnum.{osPnum, lightsPnum}
 use Rattle.dpa.specs.Served.{Served, served, refused, within}
+use Rattle.memory.specs.declared.block.Memory.{Memory}
 use Rattle.memory.specs.declared.block.Memory.the-variants.{Eeprom, Ram, External}
 use Rattle.memory.specs.Block.{memoryPnum, sizeOf}
 use Rattle.memory.specs.Request.{memoryRequest}
@@ -50,13 +51,32 @@ eepromIs st e = state (st .node) e (st .external)
 abbrev pub externalIs : State → List ℕ → State
 externalIs st x = state (st .node) (st .eeprom) x
 
+-- the bytes of one of the three memories, and the state with other bytes there
+abbrev pub memoryOf : Memory → State → List ℕ
+memoryOf Memory.Eeprom st = st .eeprom
+memoryOf Memory.Ram st = st .node .ram
+memoryOf Memory.External st = st .external
+
+abbrev pub withMemory : Memory → State → List ℕ → State
+withMemory Memory.Eeprom st bytes = eepromIs st bytes
+withMemory Memory.Ram st bytes = nodeIs st (withRam (st .node) bytes)
+withMemory Memory.External st bytes = externalIs st bytes
+
+-- a request to one of the memories, and one to the lights
+abbrev pub onMemory : Memory → ℕ → List ℕ → State → Served State
+onMemory m pcmd pdata st = within (withMemory m st) (memoryRequest m pcmd pdata (memoryOf m st))
+
+abbrev pub onLights : ℕ → List ℕ → State → Served State
+onLights pcmd pdata st =
+    within (nodeIs st) (within (withLamps (st .node)) (lightsRequest (st .node .settings) pcmd pdata (st .node .lamps)))
+
 -- the memories and the lights, by PNUM
 unfoldable pub perform : ℕ → ℕ → List ℕ → State → Served State
 perform pnum pcmd pdata st =
-    cond (eqb pnum (memoryPnum Eeprom)) (within (eepromIs st) (memoryRequest Eeprom pcmd pdata (st .eeprom)))
-    (cond (eqb pnum (memoryPnum External)) (within (externalIs st) (memoryRequest External pcmd pdata (st .external)))
-    (cond (eqb pnum (memoryPnum Ram)) (within (nodeIs st) (within (withRam (st .node)) (memoryRequest Ram pcmd pdata (st .node .ram))))
-    (cond (eqb pnum lightsPnum) (within (nodeIs st) (within (withLamps (st .node)) (lightsRequest (st .node .settings) pcmd pdata (st .node .lamps))))
+    cond (eqb pnum (memoryPnum Eeprom)) (onMemory Eeprom pcmd pdata st)
+    (cond (eqb pnum (memoryPnum External)) (onMemory External pcmd pdata st)
+    (cond (eqb pnum (memoryPnum Ram)) (onMemory Ram pcmd pdata st)
+    (cond (eqb pnum lightsPnum) (onLights pcmd pdata st)
     (refused st 3))))
 
 -- the node's hardware profile, or the one that every node takes

@@ -9,8 +9,8 @@ use Rattle.memory.specs.declared.block.Memory.the-variants.{Eeprom, Ram, Extern
 use Rattle.memory.specs.Request.{memoryRequest}
 use Rattle.lights.specs.Lights.{lightsRequest}
 use Rattle.node.proofs.Nodes.{node-settings, node-dimmed, node-ram}
-use Rattle.handler.specs.Request.{State, held, eepromIs, externalIs}
-use Rattle.handler.proofs.Performing.{perform-eeprom, perform-external, perform-ram, perform-lights, perform-unknown, laid-as}
+use Rattle.handler.specs.Request.{State, held, withMemory}
+use Rattle.handler.proofs.Performing.{perform-memory, perform-lights, perform-unknown, laid-as}
 use Rattle.handler.proofs.peripheral.peripheral.Statement.{statement}
 use Rattle.handler.proofs.peripheral.peripheral.Tie as tie
 use Rattle.handler.proofs.peripheral.peripheral.Reads as reads
@@ -41,8 +41,8 @@ returns c =
     let s = c .before .before .before .before .before .before .before .before .before .before .before .before .before .before in
     let a = s .args in
     laid-as (c .of-memory .ensures)
-    ∙ laid-within (eepromIs (given s)) (memoryRequest Eeprom (a .pcmd) (a .pdata .now) (a .eeprom .now)) (a .out .now) (c .before .before .before .before .before .request .ensures)
-    ∙ ap (λ (x : Served State). layOut x (a .out .now)) (sym (perform-eeprom (a .pnum) (a .pcmd) (a .pdata .now) (given s) (c .before .before .before .before .before .before .before .before .if1 .taken)))
+    ∙ laid-within (withMemory Eeprom (given s)) (memoryRequest Eeprom (a .pcmd) (a .pdata .now) (a .eeprom .now)) (a .out .now) (c .before .before .before .before .before .request .ensures)
+    ∙ ap (λ (x : Served State). layOut x (a .out .now)) (sym (perform-memory (a .pnum) (a .pcmd) (a .pdata .now) (given s) Eeprom (c .before .before .before .before .before .before .before .before .if1 .taken)))
 
 request-requires-2 : tie.Need-request-requires-2
 request-requires-2 c κs = search needs
@@ -61,8 +61,8 @@ returns-2 c =
     let s = c .before .before .before .before .before .before .before .before .before .before .before .before .before .before .before in
     let a = s .args in
     laid-as (c .of-memory2 .ensures)
-    ∙ laid-within (externalIs (given s)) (memoryRequest External (a .pcmd) (a .pdata .now) (a .external .now)) (a .out .now) (c .before .before .before .before .before .request2 .ensures)
-    ∙ ap (λ (x : Served State). layOut x (a .out .now)) (sym (perform-external (a .pnum) (a .pcmd) (a .pdata .now) (given s) (c .before .before .before .before .before .before .before .before .if2 .taken)))
+    ∙ laid-within (withMemory External (given s)) (memoryRequest External (a .pcmd) (a .pdata .now) (a .external .now)) (a .out .now) (c .before .before .before .before .before .request2 .ensures)
+    ∙ ap (λ (x : Served State). layOut x (a .out .now)) (sym (perform-memory (a .pnum) (a .pcmd) (a .pdata .now) (given s) External (c .before .before .before .before .before .before .before .before .if2 .taken)))
 
 request-requires-3 : tie.Need-request-requires-3
 request-requires-3 c κs = let p = c .before .before .before .before .before .before .before .before .before .before .pre in (node-ram _ (p .0 .node-ok), p .1)
@@ -81,8 +81,8 @@ returns-3 c =
     let s = c .before .before .before .before .before .before .before .before .before .before .before .before .before .before .before .before in
     let a = s .args in
     laid-as (c .of-memory3 .ensures)
-    ∙ laid-within (λ (r : List ℕ). held (a .fixed) (a .lamps) r (a .eeprom .now) (a .external .now)) (memoryRequest Ram (a .pcmd) (a .pdata .now) (a .ram .now)) (a .out .now) (c .before .before .before .before .before .request3 .ensures)
-    ∙ ap (λ (x : Served State). layOut x (a .out .now)) (sym (perform-ram (a .pnum) (a .pcmd) (a .pdata .now) (given s) (c .before .before .before .before .before .before .before .before .if3 .taken)))
+    ∙ laid-within (withMemory Ram (given s)) (memoryRequest Ram (a .pcmd) (a .pdata .now) (a .ram .now)) (a .out .now) (c .before .before .before .before .before .request3 .ensures)
+    ∙ ap (λ (x : Served State). layOut x (a .out .now)) (sym (perform-memory (a .pnum) (a .pcmd) (a .pdata .now) (given s) Ram (c .before .before .before .before .before .before .before .before .if3 .taken)))
 
 request-requires-4 : tie.Need-request-requires-4
 request-requires-4 c κs =
