@@ -1,42 +1,56 @@
--- Laws of what stands first in the remaining bytes.
-use mathlib.Core.Path.{_≡_, refl, subst}
-use mathlib.Core.List.{List, [], _∷_}
-use mathlib.Core.Logic.{⊎-elim}
-use Prim.Native.Nat.{ℕ, _-_, _≤_, _<_}
+-- Laws of the closing zero and of what stands first in the remaining bytes.
+use mathlib.Core.Path.{_≡_, refl, sym, ap, subst, _∙_}
+use mathlib.Core.List.{List}
+use mathlib.Core.Bool.{Bool, true, false, cond}
+use Prim.Native.Nat.{ℕ, _≤_, _<_}
 use native.Mathlib.Omega.{arith}
 use borrow.Author.Tests.{lt-ltb, le-ltb, eq-eqb, ne-eqb, ltb-false, ltb-true, eqb-true, eqb-false}
-use types.Run.{OneOf}
-use denote.Enum.Declared.{tagOf}
 use lib.ListN.{length, getD}
 use lib.Dec.{ltb, eqb}
 use Rattle.dpa.specs.Number.{wordAt}
-use Rattle.dpa.proofs.Bool.{by-cond}
-use Rattle.batch.proofs.entry.Next.{the-type}
+use Rattle.dpa.proofs.Bool.{and-left, and-right, by-cond}
 use Rattle.batch.specs.declared.entry.Next.{Next}
-use Rattle.batch.specs.declared.entry.Next.the-variants.{Entry, End, Fault}
-use Rattle.batch.specs.Batch.{nextOf, Blame, short, over, unclosed, behind}
+use Rattle.batch.specs.declared.entry.Next.the-variants.{Entry, Fault}
+use Rattle.batch.specs.Batch.{closing, shortReason, overReason, unclosedReason, trailingReason, nextOf, Blame, short, over, unclosed, trailing}
+
+module _ (s : List ℕ) where
+  -- one byte closes a list where it is zero
+  pub one-closes : length s ≡ 1 → closing s ≡ eqb (getD s 0 0) 0
+  one-closes h = rw (eq-eqb (length s) 1 h) refl
+
+  -- one byte that is zero closes a list
+  pub zero-closes : length s ≡ 1 → getD s 0 0 ≡ 0 → closing s ≡ true
+  zero-closes h z = one-closes h ∙ eq-eqb (getD s 0 0) 0 z
+
+  -- what closes a list is one byte that is zero
+  pub closing-zero : closing s ≡ true → (length s ≡ 1) × (getD s 0 0 ≡ 0)
+  closing-zero e = (eqb-true _ _ (and-left _ _ e), eqb-true _ _ (and-right (eqb (length s) 1) _ e))
+
+  -- none or several bytes do not close it
+  pub more-open : (length s ≡ 1 → ⊥) → closing s ≡ false
+  more-open h = rw (ne-eqb (length s) 1 h) refl
+
+  -- where a zero does not close it, bytes follow
+  open-more : closing s ≡ false → getD s 0 0 ≡ 0 → length s ≡ 1 → ⊥
+  open-more o z h = let x : _≡_ {A = ℕ} 0 1 = ap (λ (b : Bool). cond b 0 1) (sym (zero-closes h z) ∙ o) in omega arith
 
 -- the cases of `nextOf`
 
-pub next-none : (s : List ℕ) → length s ≡ 0 → nextOf s ≡ Fault 3 0
+pub next-none : (s : List ℕ) → length s ≡ 0 → nextOf s ≡ Fault unclosedReason 0
 unfolding nextOf
 next-none s h = simp (eq-eqb (length s) 0 h)
 
-pub next-end : (s : List ℕ) → length s ≡ 1 → getD s 0 0 ≡ 0 → nextOf s ≡ End
-unfolding nextOf
-next-end s h z = simp (ne-eqb (length s) 0 (omega arith), eq-eqb (getD s 0 0) 0 z, eq-eqb (length s) 1 h)
-
-pub next-behind : (s : List ℕ) → 1 < length s → getD s 0 0 ≡ 0 → nextOf s ≡ Fault 4 1
-unfolding nextOf
-next-behind s h z = simp (ne-eqb (length s) 0 (omega arith), eq-eqb (getD s 0 0) 0 z, ne-eqb (length s) 1 (omega arith))
-
 module _ (s : List ℕ) (h : 0 < length s) where
-  pub next-short : 0 < getD s 0 0 → getD s 0 0 < 5 → nextOf s ≡ Fault 1 0
+  pub next-trailing : getD s 0 0 ≡ 0 → nextOf s ≡ Fault trailingReason 1
+  unfolding nextOf
+  next-trailing z = simp (ne-eqb (length s) 0 (omega arith), eq-eqb (getD s 0 0) 0 z)
+
+  pub next-short : 0 < getD s 0 0 → getD s 0 0 < 5 → nextOf s ≡ Fault shortReason 0
   unfolding nextOf
   next-short p z =
       simp (ne-eqb (length s) 0 (omega arith), ne-eqb (getD s 0 0) 0 (omega arith), lt-ltb (getD s 0 0) 5 z)
 
-  pub next-over : 5 ≤ getD s 0 0 → length s < getD s 0 0 → nextOf s ≡ Fault 2 0
+  pub next-over : 5 ≤ getD s 0 0 → length s < getD s 0 0 → nextOf s ≡ Fault overReason 0
   unfolding nextOf
   next-over p z =
       simp (ne-eqb (length s) 0 (omega arith), ne-eqb (getD s 0 0) 0 (omega arith), le-ltb (getD s 0 0) 5 p, lt-ltb (length s) (getD s 0 0) z)
@@ -47,28 +61,27 @@ unfolding nextOf
 next-is s p z =
     simp (ne-eqb (length s) 0 (omega arith), ne-eqb (getD s 0 0) 0 (omega arith), le-ltb (getD s 0 0) 5 p, le-ltb (length s) (getD s 0 0) z)
 
--- what each case says of the bytes
+-- what each case says of the bytes; a fault is one where they do not close the list
 abbrev pub Means : List ℕ → Next → Type 0
 Means s (Entry l p c h) =
     (5 ≤ l) × (l ≤ length s) × (l ≡ getD s 0 0) × (p ≡ getD s 1 0) × (c ≡ getD s 2 0) × (h ≡ wordAt s 3)
-Means s End = (length s ≡ 1) × (getD s 0 0 ≡ 0)
-Means s (Fault r a) = Blame s r a
+Means s (Fault r a) = closing s ≡ false → Blame s r a
 
 module _ (s : List ℕ) where
   pub next-means : Means s (nextOf s)
   unfolding nextOf
   next-means =
-      by-cond (Means s) (eqb (length s) 0) _ _ (λ n. unclosed refl (omega (arith, eqb-true (length s) 0 n))) λ n.
+      by-cond (Means s) (eqb (length s) 0) _ _ (λ n o. unclosed refl (omega (arith, eqb-true (length s) 0 n))) λ n.
       by-cond (Means s) (eqb (getD s 0 0) 0) _ _
-      (λ z. by-cond (Means s) (eqb (length s) 1) _ _
-      (λ o. (eqb-true _ _ o, eqb-true _ _ z))
-      (λ o. behind refl (omega arith) (omega (arith, eqb-false (length s) 0 n, eqb-false (length s) 1 o)) (eqb-true (getD s 0 0) 0 z)))
+      (λ z o.
+      let g = eqb-true (getD s 0 0) 0 z in
+      trailing refl (omega arith) (omega (arith, eqb-false (length s) 0 n, open-more s o g)) g)
       λ z.
       by-cond (Means s) (ltb (getD s 0 0) 5) _ _
-      (λ p. short refl (omega (arith, eqb-false (length s) 0 n)) (omega (arith, eqb-false (getD s 0 0) 0 z)) (ltb-true _ _ p))
+      (λ p o. short refl (omega (arith, eqb-false (length s) 0 n)) (omega (arith, eqb-false (getD s 0 0) 0 z)) (ltb-true _ _ p))
       λ p.
       by-cond (Means s) (ltb (length s) (getD s 0 0)) _ _
-      (λ q. over refl (omega (arith, eqb-false (length s) 0 n)) (ltb-false _ _ p) (omega (arith, ltb-true (length s) (getD s 0 0) q)))
+      (λ q o. over refl (omega (arith, eqb-false (length s) 0 n)) (ltb-false _ _ p) (omega (arith, ltb-true (length s) (getD s 0 0) q)))
       λ q.
       (ltb-false _ _ p, ltb-false _ _ q, refl, refl, refl, refl)
 
@@ -79,12 +92,6 @@ module _ (s : List ℕ) where
   pub entry-sized : {l p c h : ℕ} → nextOf s ≡ Entry l p c h → (5 ≤ l) × (l ≤ length s)
   entry-sized e = let z = next-facts e in (z .0, z .1)
 
--- no entry stands first: by the tags that the else of a `let .. else` leaves
-pub no-entry : {R : Type 0} (l p c h : ℕ) → OneOf (1 ∷ 2 ∷ []) (tagOf the-type (Entry l p c h)) → R
-no-entry l p c h a = absurd (⊎-elim (λ (e : _≡_ {A = ℕ} 0 1). omega arith) (λ (e : _≡_ {A = ℕ} 0 2). omega arith) a)
-
--- neither an entry nor a fault
-pub end-left : (n : Next) → OneOf (1 ∷ 2 ∷ []) (tagOf the-type n) → OneOf (0 ∷ 1 ∷ []) (tagOf the-type n) → n ≡ End
-end-left (Entry l p c h) a b = no-entry l p c h a
-end-left End a b = refl
-end-left (Fault r k) a b = absurd (⊎-elim (λ (e : _≡_ {A = ℕ} 2 0). omega arith) (λ (e : _≡_ {A = ℕ} 2 1). omega arith) b)
+  -- where an entry stands, the list is not closed
+  pub entry-open : {l p c h : ℕ} → nextOf s ≡ Entry l p c h → closing s ≡ false
+  entry-open e = let z = entry-sized e in more-open s (omega arith)

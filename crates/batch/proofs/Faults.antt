@@ -5,9 +5,11 @@ use Prim.Native.Nat.{ℕ, _+_, _-_, _≤_}
 use native.Mathlib.Omega.{arith}
 use lib.ListN.{length, drop, length-drop}
 use lib.Seq.{getD-drop}
+use Rattle.batch.specs.declared.entry.Next.{Next}
+use Rattle.batch.specs.declared.entry.Next.the-variants.{Entry, Fault}
 use Rattle.batch.specs.declared.list.Listed.{Listed}
 use Rattle.batch.specs.declared.list.Listed.the-variants.{Sound, Broken}
-use Rattle.batch.specs.Batch.{Reading, further, reading, listError, Blame, short, over, unclosed, behind}
+use Rattle.batch.specs.Batch.{nextError, Reading, further, faultOf, reading, listError, Blame, short, over, unclosed, trailing}
 use Rattle.batch.proofs.Entries.{next-facts, entry-sized}
 use Rattle.batch.proofs.Lists.{by-reading}
 
@@ -16,10 +18,10 @@ blame-further : (s : List ℕ) (l r a : ℕ) → l ≤ length s → Blame (drop 
 blame-further s l r a h (short e p x y) = let n = length-drop l s in let g = getD-drop l s a 0 in short e (omega arith) (omega arith) (omega arith)
 blame-further s l r a h (over e p x y) = let n = length-drop l s in let g = getD-drop l s a 0 in over e (omega arith) (omega arith) (omega arith)
 blame-further s l r a h (unclosed e p) = let n = length-drop l s in unclosed e (omega arith)
-blame-further s l r a h (behind e x y z) =
+blame-further s l r a h (trailing e x y z) =
     let n = length-drop l s in
     let k : (l + a) - 1 ≡ l + (a - 1) = omega arith in
-    behind e (omega arith) (omega arith) (rw (k, ← getD-drop l s (a - 1) 0) z)
+    trailing e (omega arith) (omega arith) (rw (k, ← getD-drop l s (a - 1) 0) z)
 
 -- a broken list is rightly blamed; a sound one is not
 abbrev Blamed : List ℕ → Listed → Type 0
@@ -33,9 +35,9 @@ blamed-further s l h (Broken r a) b = blame-further s l r a h b
 blamed : (s : List ℕ) → Blamed s ((reading s) .listed)
 blamed =
     by-reading (λ (s : List ℕ) (r : Reading). Blamed s (r .listed))
+    (λ s o. tt)
     (λ s l p c h e b. blamed-further s l (entry-sized s e .1) ((reading (drop l s)) .listed) b)
-    (λ s r e. tt)
-    (λ s r k a e. next-facts s e)
+    (λ s k a o e. next-facts s e o)
 
 -- the reason and the place say what is wrong there
 pub broken-blame : (s : List ℕ) {r a : ℕ} → (reading s) .listed ≡ Broken r a → Blame s r a
@@ -46,14 +48,14 @@ pub reason-range : {s : List ℕ} {r a : ℕ} → Blame s r a → (1 ≤ r) × (
 reason-range (short e p x y) = (omega arith, omega arith)
 reason-range (over e p x y) = (omega arith, omega arith)
 reason-range (unclosed e p) = (omega arith, omega arith)
-reason-range (behind e x y z) = (omega arith, omega arith)
+reason-range (trailing e x y z) = (omega arith, omega arith)
 
 -- the place is at most the list's length
 pub place-max : {s : List ℕ} {r a : ℕ} → Blame s r a → a ≤ length s
 place-max (short e p x y) = omega arith
 place-max (over e p x y) = omega arith
 place-max (unclosed e p) = omega arith
-place-max (behind e x y z) = omega arith
+place-max (trailing e x y z) = omega arith
 
 -- a broken list answers 6, a sound one 0
 
@@ -63,6 +65,12 @@ broken-error e = rw e refl
 pub sound-error : {x : Listed} → x ≡ Sound → listError x ≡ 0
 sound-error e = rw e refl
 
+-- a list that what stands first breaks has its ErrN
+pub fault-error : (n : Next) → listError (faultOf n) ≡ nextError n
+fault-error (Entry l p c h) = refl
+fault-error (Fault r a) = refl
+
+-- only a sound list answers 0
 pub error-sound : (x : Listed) → listError x ≡ 0 → x ≡ Sound
 error-sound Sound e = refl
 error-sound (Broken r a) e = absurd (omega arith)

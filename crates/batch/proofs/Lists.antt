@@ -1,17 +1,20 @@
 -- Laws of reading a list.
 use mathlib.Core.Path.{_≡_, refl, sym, ap, subst, _∙_}
 use mathlib.Core.List.{List, [], _∷_}
+use mathlib.Core.Bool.{Bool, true, false, cond}
 use Prim.Native.Nat.{ℕ, zero, suc, _-_, _≤_}
 use native.Mathlib.Omega.{arith}
 use native.Mathlib.Numerals.{sub-one}
 use lib.ListN.{length, drop, length-drop}
 use Rattle.dpa.specs.Lists.{part}
+use Rattle.dpa.proofs.Bool.{by-cond}
 use Rattle.dpa.proofs.Lists.{to-end}
 use Rattle.batch.specs.declared.list.Listed.{Listed}
+use Rattle.batch.specs.declared.list.Listed.the-variants.{Sound, Broken}
 use Rattle.batch.specs.declared.entry.Next.{Next}
-use Rattle.batch.specs.declared.entry.Next.the-variants.{Entry, End, Fault}
-use Rattle.batch.specs.Batch.{nextOf, Reading, lenOf, further, andRest, readFrom, reading}
-use Rattle.batch.proofs.Entries.{Means, next-means, next-none, entry-sized}
+use Rattle.batch.specs.declared.entry.Next.the-variants.{Entry, Fault}
+use Rattle.batch.specs.Batch.{closing, nextOf, Reading, stopped, lenOf, further, faultOf, andRest, readFrom, reading}
+use Rattle.batch.proofs.Entries.{Means, next-means, next-none, entry-sized, entry-open}
 
 -- what is read from byte k on is what the bytes from there read as
 pub from-drop : (s : List ℕ) (k : ℕ) → readFrom s k ≡ reading (drop k s)
@@ -21,50 +24,75 @@ from-drop [] (suc k) = refl
 from-drop (b ∷ s) zero = refl
 from-drop (b ∷ s) (suc k) = from-drop s k
 
--- each entry is read, then the rest of the list
-pub reading-step : (s : List ℕ) → reading s ≡ andRest (nextOf s) s (reading (drop (lenOf (nextOf s)) s))
+-- the closing zero is tested; then each entry is read, then the rest of the list
+pub reading-step : (s : List ℕ)
+    → reading s ≡ cond (closing s) (stopped Sound) (andRest (nextOf s) s (reading (drop (lenOf (nextOf s)) s)))
 unfolding readFrom
 reading-step [] = ap (λ (n : Next). andRest n [] (reading (drop (lenOf n) []))) (sym (next-none [] refl))
-reading-step (b ∷ s) = at (nextOf (b ∷ s)) (next-means (b ∷ s))
+reading-step (b ∷ s) = ap (cond (closing (b ∷ s)) (stopped Sound)) (at (nextOf (b ∷ s)) (next-means (b ∷ s)))
   where
-    behind : (l : ℕ) → 5 ≤ l → readFrom s (l - 1) ≡ reading (drop l (b ∷ s))
-    behind zero h = absurd (omega arith)
-    behind (suc l) h = rw (sub-one (suc l)) (from-drop s l)
+    after : (l : ℕ) → 5 ≤ l → readFrom s (l - 1) ≡ reading (drop l (b ∷ s))
+    after zero h = absurd (omega arith)
+    after (suc l) h = rw (sub-one (suc l)) (from-drop s l)
 
     at : (n : Next) → Means (b ∷ s) n
         → andRest n (b ∷ s) (readFrom s (lenOf n - 1)) ≡ andRest n (b ∷ s) (reading (drop (lenOf n) (b ∷ s)))
-    at (Entry l p c h) z = ap (andRest (Entry l p c h) (b ∷ s)) (behind l (z .0))
-    at End z = refl
+    at (Entry l p c h) z = ap (andRest (Entry l p c h) (b ∷ s)) (after l (z .0))
     at (Fault r a) z = refl
 
--- the same, where it is known what stands first
-pub reading-as : (s : List ℕ) {n : Next} → nextOf s ≡ n → reading s ≡ andRest n s (reading (drop (lenOf n) s))
-reading-as s e = subst (λ (n : Next). reading s ≡ andRest n s (reading (drop (lenOf n) s))) e (reading-step s)
+module _ (s : List ℕ) where
+  step-as : {b : Bool} {n : Next} → closing s ≡ b → nextOf s ≡ n
+      → reading s ≡ cond b (stopped Sound) (andRest n s (reading (drop (lenOf n) s)))
+  step-as {b} {n} o e =
+      reading-step s
+      ∙ ap (λ (m : Next). cond (closing s) (stopped Sound) (andRest m s (reading (drop (lenOf m) s)))) e
+      ∙ ap (λ (a : Bool). cond a (stopped Sound) (andRest n s (reading (drop (lenOf n) s)))) o
 
--- a list that starts with an entry is as its rest is
-pub list-more : (s : List ℕ) {l p c h : ℕ} {x : Listed} → nextOf s ≡ Entry l p c h
-    → x ≡ (reading (part s l (length s - l))) .listed → further l x ≡ (reading s) .listed
-list-more s {l} e r =
-    ap (further l) (r ∙ ap (λ (t : List ℕ). (reading t) .listed) (to-end l s))
-    ∙ sym (ap (λ (x : Reading). x .listed) (reading-as s e))
+  -- the closing zero ends a sound list
+  pub reading-closed : closing s ≡ true → reading s ≡ stopped Sound
+  reading-closed o = step-as o refl
 
--- Induction on reading: what holds at the end and at a fault, and of an entry with a rest of which it holds, holds of
--- every list.
+  -- an entry is read, then the rest
+  pub reading-entry : {l p c h : ℕ} → nextOf s ≡ Entry l p c h → reading s ≡ andRest (Entry l p c h) s (reading (drop l s))
+  reading-entry e = step-as (entry-open s e) e
+
+  -- a fault breaks the list
+  pub reading-fault : {k a : ℕ} → closing s ≡ false → nextOf s ≡ Fault k a → reading s ≡ stopped (Broken k a)
+  reading-fault o e = step-as o e
+
+  -- the same of a list's soundness alone, in the forms of `read_list`
+
+  pub list-closed : closing s ≡ true → Sound ≡ (reading s) .listed
+  list-closed o = sym (ap (λ (x : Reading). x .listed) (reading-closed o))
+
+  pub list-fault : {n : Next} {k a : ℕ} → closing s ≡ false → n ≡ nextOf s → n ≡ Fault k a → faultOf n ≡ (reading s) .listed
+  list-fault o e f = ap faultOf f ∙ sym (ap (λ (x : Reading). x .listed) (reading-fault o (sym e ∙ f)))
+
+  pub list-more : {l p c h : ℕ} {x : Listed} → nextOf s ≡ Entry l p c h
+      → x ≡ (reading (part s l (length s - l))) .listed → further l x ≡ (reading s) .listed
+  list-more {l} e r =
+      ap (further l) (r ∙ ap (λ (t : List ℕ). (reading t) .listed) (to-end l s))
+      ∙ sym (ap (λ (x : Reading). x .listed) (reading-entry e))
+
+-- Induction on reading: what holds at the closing zero and at a fault, and of an entry with a rest of which it holds,
+-- holds of every list.
 module _ (P : List ℕ → Reading → Type 0)
+    (closed : (s : List ℕ) → closing s ≡ true → P s (stopped Sound))
     (entry : (s : List ℕ) (l p c h : ℕ) → nextOf s ≡ Entry l p c h → P (drop l s) (reading (drop l s)) → P s (andRest (Entry l p c h) s (reading (drop l s))))
-    (end : (s : List ℕ) (r : Reading) → nextOf s ≡ End → P s (andRest End s r))
-    (fault : (s : List ℕ) (r : Reading) (k a : ℕ) → nextOf s ≡ Fault k a → P s (andRest (Fault k a) s r)) where
+    (fault : (s : List ℕ) (k a : ℕ) → closing s ≡ false → nextOf s ≡ Fault k a → P s (stopped (Broken k a))) where
   at-next : (s : List ℕ) → ((l : ℕ) → 5 ≤ l → l ≤ length s → P (drop l s) (reading (drop l s)))
-      → (n : Next) → nextOf s ≡ n → P s (andRest n s (reading (drop (lenOf n) s)))
-  at-next s ih (Entry l p c h) e = entry s l p c h e (ih l (entry-sized s e .0) (entry-sized s e .1))
-  at-next s ih End e = end s (reading s) e
-  at-next s ih (Fault k a) e = fault s (reading s) k a e
+      → closing s ≡ false → (n : Next) → nextOf s ≡ n → P s (andRest n s (reading (drop (lenOf n) s)))
+  at-next s ih o (Entry l p c h) e = entry s l p c h e (ih l (entry-sized s e .0) (entry-sized s e .1))
+  at-next s ih o (Fault k a) e = fault s k a o e
+
+  at-list : (s : List ℕ) → ((l : ℕ) → 5 ≤ l → l ≤ length s → P (drop l s) (reading (drop l s))) → P s (reading s)
+  at-list s ih =
+      subst (P s) (sym (reading-step s))
+      (by-cond (P s) (closing s) _ _ (closed s) (λ o. at-next s ih o (nextOf s) refl))
 
   within : (n : ℕ) (s : List ℕ) → length s ≤ n → P s (reading s)
-  within zero s h = subst (P s) (sym (reading-step s)) (at-next s (λ l a b. absurd (omega arith)) (nextOf s) refl)
-  within (suc n) s h =
-      subst (P s) (sym (reading-step s))
-      (at-next s (λ l a b. within n (drop l s) (simp length-drop (omega arith))) (nextOf s) refl)
+  within zero s h = at-list s (λ l a b. absurd (omega arith))
+  within (suc n) s h = at-list s (λ l a b. within n (drop l s) (simp length-drop (omega arith)))
 
   pub by-reading : (s : List ℕ) → P s (reading s)
   by-reading s = within (length s) s (omega arith)

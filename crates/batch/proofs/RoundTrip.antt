@@ -9,14 +9,13 @@ use lib.Seq.{take-add, take-append-seam, drop-at, drop-drop, length-take-le}
 use Rattle.dpa.specs.Lists.{Bytes, part}
 use Rattle.dpa.specs.Number.{low, high}
 use Rattle.dpa.proofs.Numbers.{word-split, low-word, high-word, word-max}
-use Rattle.batch.specs.declared.entry.Next.{Next}
-use Rattle.batch.specs.declared.entry.Next.the-variants.{Entry, End, Fault}
+use Rattle.batch.specs.declared.entry.Next.the-variants.{Entry}
 use Rattle.batch.specs.declared.list.Listed.{Listed}
 use Rattle.batch.specs.declared.list.Listed.the-variants.{Sound, Broken}
-use Rattle.batch.specs.Batch.{Item, item, entryBytes, entriesBytes, listBytes, Sendable, All, nextOf, Reading, lenOf, further, andRest, reading}
+use Rattle.batch.specs.Batch.{Item, item, entryBytes, entriesBytes, listBytes, Sendable, All, nextOf, Reading, further, andRest, reading}
 use Rattle.batch.proofs.Bytes.{bytes-none, bytes-cons, bytes-append, bytes-take, bytes-drop}
-use Rattle.batch.proofs.Entries.{Means, next-is, next-end, next-facts}
-use Rattle.batch.proofs.Lists.{reading-as, by-reading}
+use Rattle.batch.proofs.Entries.{Means, zero-closes, closing-zero, next-is, next-facts}
+use Rattle.batch.proofs.Lists.{reading-closed, reading-entry, reading-fault, by-reading}
 use Rattle.batch.proofs.Faults.{not-sound}
 
 -- written, then read
@@ -26,7 +25,7 @@ module _ (i : Item) where
   unfolding entryBytes
   entry-length = omega arith
 
-  -- an entry's bytes stand first as that entry, whatever follows
+  -- an entry's bytes stand first as that entry, with any bytes after them
   pub entry-first : (t : List ℕ) → nextOf (entryBytes i ++ t) ≡ Entry (5 + length (i .pdata)) (i .pnum) (i .pcmd) (i .hwpid)
   unfolding entryBytes
   entry-first t =
@@ -39,7 +38,7 @@ module _ (i : Item) where
   unfolding entryBytes
   entry-reading t =
       let n = 5 + length (i .pdata) in
-      reading-as (entryBytes i ++ t) (entry-first t)
+      reading-entry (entryBytes i ++ t) (entry-first t)
       ∙ ap (λ (u : List ℕ). andRest (Entry n (i .pnum) (i .pcmd) (i .hwpid)) (entryBytes i ++ t) (reading u)) (drop-at (entryBytes i) t n entry-length)
       ∙ ap (λ (d : List ℕ). record { items = item (i .pnum) (i .pcmd) (i .hwpid) d ∷ (reading t) .items; listed = further n ((reading t) .listed) })
       (ap (λ (k : ℕ). take k (i .pdata ++ t)) (add-sub-cancel-left 5 (length (i .pdata))) ∙ take-append-seam (i .pdata) t)
@@ -52,7 +51,7 @@ further-add : (m n : ℕ) (x : Listed) → further m (further n x) ≡ further (
 further-add m n Sound = refl
 further-add m n (Broken r a) = ap (Broken r) (omega arith)
 
--- entries are read, then what follows them; a fault there keeps its reason and is told at its own place
+-- entries are read, then what follows them; a fault there keeps its reason and its place
 pub entries-reading : (is : List Item) (t : List ℕ)
     → reading (entriesBytes is ++ t) ≡ record { items = is ++ (reading t) .items; listed = further (length (entriesBytes is)) ((reading t) .listed) }
 unfolding entriesBytes
@@ -72,7 +71,7 @@ pub round-trip : (is : List Item) → reading (listBytes is) ≡ record { items 
 round-trip is =
     entries-reading is (0 ∷ [])
     ∙ ap (λ (r : Reading). record { items = is ++ r .items; listed = further (length (entriesBytes is)) (r .listed) })
-    (reading-as (0 ∷ []) (next-end (0 ∷ []) refl refl))
+    (reading-closed (0 ∷ []) (zero-closes (0 ∷ []) refl refl))
     ∙ ap (λ (js : List Item). record { items = js; listed = Sound }) (append-nil is)
 
 -- a list has at least the zero
@@ -162,6 +161,7 @@ pub apart : (s : List ℕ) → Bytes s → Apart s (reading s)
 unfolding entriesBytes
 apart =
     by-reading (λ (s : List ℕ) (r : Reading). Bytes s → Apart s r)
+    (λ s o by. (refl, ap (λ (x : Reading). x .items) (reading-closed s o)))
     (λ s l p c h e ih by.
     let i = item p c h (part s 5 (l - 5)) in
     let es = entriesBytes ((reading (drop l s)) .items) in
@@ -176,17 +176,15 @@ apart =
           ∙ take-append-drop l s,
       ap (λ (x : List ℕ). (reading x) .items) d ∙ z .1,
     ))
-    (λ s r e by. (refl, ap (λ (x : Reading). x .items) (reading-as s e)))
-    (λ s r k a e by. (refl, ap (λ (x : Reading). x .items) (reading-as s e)))
+    (λ s k a o e by. (refl, ap (λ (x : Reading). x .items) (reading-fault s o e)))
 
 -- a sound list with no entry is the zero
 zero-left : (s : List ℕ) → (reading s) .items ≡ [] → (reading s) .listed ≡ Sound → 0 ∷ [] ≡ s
-zero-left s = rw (reading-as s refl) (at (nextOf s) refl)
-  where
-    at : (n : Next) → nextOf s ≡ n → let r = andRest n s (reading (drop (lenOf n) s)) in r .items ≡ [] → r .listed ≡ Sound → 0 ∷ [] ≡ s
-    at (Entry l p c h) e i t = let z = ap length i in absurd (omega arith)
-    at End e i t = let z = next-facts s e in one s (z .0) (z .1)
-    at (Fault k a) e i t = absurd (not-sound t)
+zero-left =
+    by-reading (λ (s : List ℕ) (r : Reading). r .items ≡ [] → r .listed ≡ Sound → 0 ∷ [] ≡ s)
+    (λ s o i t. let z = closing-zero s o in one s (z .0) (z .1))
+    (λ s l p c h e ih i t. let z = ap length i in absurd (omega arith))
+    (λ s k a o e i t. absurd (not-sound t))
 
 -- a sound list is exactly an encoding: the list of the entries that are read
 pub tight : (s : List ℕ) → Bytes s → (reading s) .listed ≡ Sound → listBytes ((reading s) .items) ≡ s
@@ -201,6 +199,6 @@ tight s by t =
 pub read-sendable : (s : List ℕ) → Bytes s → All Sendable ((reading s) .items)
 read-sendable =
     by-reading (λ (s : List ℕ) (r : Reading). Bytes s → All Sendable (r .items))
+    (λ s o by. tt)
     (λ s l p c h e ih by. (entry-sendable s by e, ih (bytes-drop l s by)))
-    (λ s r e by. tt)
-    (λ s r k a e by. tt)
+    (λ s k a o e by. tt)

@@ -1,29 +1,28 @@
--- Laws of running entries over any state S, whatever an entry does to it.
+-- Laws of running entries over any state S, for any effect f of an entry.
 use mathlib.Core.Path.{_≡_, refl, sym, ap, _∙_}
 use mathlib.Core.List.{List, [], _∷_, _++_}
+use mathlib.Core.Bool.{true}
 use Prim.Native.Nat.{ℕ, suc, _-_}
-use types.Run.{OneOf}
-use denote.Enum.Declared.{tagOf}
 use lib.ListN.{length, drop}
 use Rattle.dpa.specs.Lists.{part}
+use Rattle.dpa.proofs.Bool.{by-test}
 use Rattle.dpa.proofs.Lists.{to-end}
-use Rattle.batch.proofs.entry.Next.{the-type}
-use Rattle.batch.specs.declared.entry.Next.{Next}
-use Rattle.batch.specs.declared.entry.Next.the-variants.{Entry, End, Fault}
-use Rattle.batch.specs.Batch.{nextOf, Item, Reading, lenOf, andRest, reading, item, runItems, errorsOf}
-use Rattle.batch.proofs.Entries.{no-entry}
-use Rattle.batch.proofs.Lists.{reading-as}
+use Rattle.batch.specs.declared.entry.Next.the-variants.{Entry, Fault}
+use Rattle.batch.specs.Batch.{closing, nextOf, Item, Reading, reading, item, runItems, errorsOf}
+use Rattle.batch.proofs.Lists.{reading-closed, reading-entry, reading-fault}
 
 module _ {S : Type 0} (f : Item → S → S) (s : List ℕ) (st : S) where
-  -- where no entry stands first, none runs
-  pub items-none : {n : Next} → nextOf s ≡ n → OneOf (1 ∷ 2 ∷ []) (tagOf the-type n) → st ≡ runItems f ((reading s) .items) st
+  none-left : {r : Reading} → reading s ≡ r → r .items ≡ [] → st ≡ runItems f ((reading s) .items) st
   unfolding runItems
-  items-none {n} e k = rw (reading-as s e) (at n k)
-    where
-      at : (m : Next) → OneOf (1 ∷ 2 ∷ []) (tagOf the-type m) → st ≡ runItems f ((andRest m s (reading (drop (lenOf m) s))) .items) st
-      at (Entry l p c h) a = no-entry l p c h a
-      at End a = refl
-      at (Fault r b) a = refl
+  none-left e n = sym (ap (λ (is : List Item). runItems f is st) (ap (λ (x : Reading). x .items) e ∙ n))
+
+  -- where the zero closes the list, no entry runs
+  pub items-closed : closing s ≡ true → st ≡ runItems f ((reading s) .items) st
+  items-closed o = none-left (reading-closed s o) refl
+
+  -- where a fault stands, no entry runs
+  pub items-fault : {k a : ℕ} → nextOf s ≡ Fault k a → st ≡ runItems f ((reading s) .items) st
+  items-fault e = by-test (closing s) items-closed (λ o. none-left (reading-fault s o e) refl)
 
   -- the first entry runs, and then the rest with what that left
   pub items-more : {l p c h : ℕ} {m r : S} → nextOf s ≡ Entry l p c h
@@ -35,7 +34,7 @@ module _ {S : Type 0} (f : Item → S → S) (s : List ℕ) (st : S) where
       g
       ∙ ap (λ (x : List ℕ). runItems f ((reading x) .items) m) (to-end l s)
       ∙ ap (runItems f ((reading (drop l s)) .items)) d
-      ∙ sym (ap (λ (x : Reading). runItems f (x .items) st) (reading-as s e))
+      ∙ sym (ap (λ (x : Reading). runItems f (x .items) st) (reading-entry s e))
 
 module _ {S : Type 0} (f : Item → S → S) where
   -- what each entry keeps, a list of them keeps

@@ -1,14 +1,14 @@
 -- Document 01, "Taking a request", OS 02, batch: entries and their bytes, how a list is read, and how entries run.
 use Prim.Native.Nat.{ℕ, zero, suc, _+_, _-_, _≤_, _<_}
 use mathlib.Core.List.{List, [], _∷_, _++_}
-use mathlib.Core.Bool.{cond}
+use mathlib.Core.Bool.{Bool, cond, _&&_}
 use mathlib.Core.Path.{_≡_}
 use lib.ListN.{length, getD}
 use lib.Dec.{ltb, eqb}
 use Rattle.dpa.specs.Number.{low, high, wordAt}
 use Rattle.dpa.specs.Lists.{Bytes, part}
 use Rattle.batch.specs.declared.entry.Next.{Next}
-use Rattle.batch.specs.declared.entry.Next.the-variants.{Entry, End, Fault}
+use Rattle.batch.specs.declared.entry.Next.the-variants.{Entry, Fault}
 use Rattle.batch.specs.declared.list.Listed.{Listed}
 use Rattle.batch.specs.declared.list.Listed.the-variants.{Sound, Broken}
 
@@ -47,31 +47,66 @@ abbrev pub All : {A : Type 0} → (A → Type 0) → List A → Type 0
 All P [] = Unit
 All P (x ∷ xs) = P x × All P xs
 
--- What the remaining bytes start with. Reasons of a fault: 1 a length below five, 2 an entry longer than the bytes,
--- 3 the zero is missing, 4 the zero is not the last byte; the place counts from the first of these bytes.
+-- the remaining bytes are the closing zero alone
+abbrev pub closing : List ℕ → Bool
+closing s = eqb (length s) 1 && eqb (getD s 0 0) 0
+
+-- the reasons of a fault
+
+-- a length of 1 to 4
+abbrev pub shortReason : ℕ
+shortReason = 1
+
+-- a length over the list's end
+abbrev pub overReason : ℕ
+overReason = 2
+
+-- no closing zero
+abbrev pub unclosedReason : ℕ
+unclosedReason = 3
+
+-- bytes after the zero
+abbrev pub trailingReason : ℕ
+trailingReason = 4
+
+-- What stands first in the remaining bytes, where they are not the closing zero alone: an entry, or the reason why none
+-- can be taken apart and a place, counted from the first of these bytes.
 unfoldable pub nextOf : List ℕ → Next
 nextOf s =
-    cond (eqb (length s) 0) (Fault 3 0)
-    (cond (eqb (getD s 0 0) 0) (cond (eqb (length s) 1) End (Fault 4 1))
-    (cond (ltb (getD s 0 0) 5) (Fault 1 0)
-    (cond (ltb (length s) (getD s 0 0)) (Fault 2 0)
+    cond (eqb (length s) 0) (Fault unclosedReason 0)
+    (cond (eqb (getD s 0 0) 0) (Fault trailingReason 1)
+    (cond (ltb (getD s 0 0) 5) (Fault shortReason 0)
+    (cond (ltb (length s) (getD s 0 0)) (Fault overReason 0)
     (Entry (getD s 0 0) (getD s 1 0) (getD s 2 0) (wordAt s 3)))))
+
+-- the ErrN of each case: an entry can be taken apart, a fault cannot
+abbrev pub nextError : Next → ℕ
+nextError (Entry l p c h) = 0
+nextError (Fault r a) = 6
 
 -- what a list reads as: the entries up to its end or its first fault, and which of the two came
 pub record Reading : Type 0 where
   pub items : List Item
   pub listed : Listed
 
+-- no entries, and how the list came out
+abbrev pub stopped : Listed → Reading
+stopped x = record { items = []; listed = x }
+
 -- the bytes that the next entry takes
 abbrev pub lenOf : Next → ℕ
 lenOf (Entry l p c h) = l
-lenOf End = 0
 lenOf (Fault r a) = 0
 
 -- a fault's place, counted from l bytes before
 abbrev pub further : ℕ → Listed → Listed
 further l Sound = Sound
 further l (Broken r a) = Broken r (l + a)
+
+-- the fault that makes a list broken; an entry does not
+abbrev pub faultOf : Next → Listed
+faultOf (Entry l p c h) = Sound
+faultOf (Fault r a) = Broken r a
 
 -- what stands first in s, and a rest that reads as r
 abbrev pub andRest : Next → List ℕ → Reading → Reading
@@ -80,14 +115,15 @@ andRest (Entry l p c h) s r =
       items = item p c h (part s 5 (l - 5)) ∷ r .items;
       listed = further l (r .listed);
     }
-andRest End s r = record { items = []; listed = Sound }
-andRest (Fault k a) s r = record { items = []; listed = Broken k a }
+andRest (Fault k a) s r = stopped (faultOf (Fault k a))
 
--- s read from its byte k on: an entry is read, its bytes are passed over, then the rest is read
+-- s read from its byte k on: the zero ends it; else an entry is read, its bytes are passed over, then the rest is read
 unfoldable pub readFrom : List ℕ → ℕ → Reading
-readFrom [] k = record { items = []; listed = Broken 3 0 }
+readFrom [] k = stopped (Broken unclosedReason 0)
 readFrom (b ∷ s) (suc k) = readFrom s k
-readFrom (b ∷ s) zero = andRest (nextOf (b ∷ s)) (b ∷ s) (readFrom s (lenOf (nextOf (b ∷ s)) - 1))
+readFrom (b ∷ s) zero =
+    cond (closing (b ∷ s)) (stopped Sound)
+    (andRest (nextOf (b ∷ s)) (b ∷ s) (readFrom s (lenOf (nextOf (b ∷ s)) - 1)))
 
 abbrev pub reading : List ℕ → Reading
 reading s = readFrom s 0
@@ -95,14 +131,14 @@ reading s = readFrom s 0
 -- the ErrN of a batch with such a list
 abbrev pub listError : Listed → ℕ
 listError Sound = 0
-listError (Broken r a) = 6
+listError (Broken r a) = nextError (Fault r a)
 
 -- what a reason and a place say of a list
 pub data Blame (s : List ℕ) (r a : ℕ) : Type 0 where
-  short : r ≡ 1 → a < length s → 0 < getD s a 0 → getD s a 0 < 5 → Blame s r a
-  over : r ≡ 2 → a < length s → 5 ≤ getD s a 0 → length s < a + getD s a 0 → Blame s r a
-  unclosed : r ≡ 3 → a ≡ length s → Blame s r a
-  behind : r ≡ 4 → 0 < a → a < length s → getD s (a - 1) 0 ≡ 0 → Blame s r a
+  short : r ≡ shortReason → a < length s → 0 < getD s a 0 → getD s a 0 < 5 → Blame s r a
+  over : r ≡ overReason → a < length s → 5 ≤ getD s a 0 → length s < a + getD s a 0 → Blame s r a
+  unclosed : r ≡ unclosedReason → a ≡ length s → Blame s r a
+  trailing : r ≡ trailingReason → 0 < a → a < length s → getD s (a - 1) 0 ≡ 0 → Blame s r a
 
 -- entries in order, each with the state that the one before left; f is what an entry does
 unfoldable pub runItems : {S : Type 0} → (Item → S → S) → List Item → S → S

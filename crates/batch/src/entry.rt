@@ -1,9 +1,9 @@
-// The entry that stands first in the remaining bytes of a list.
+// The closing zero of a list, and the entry that stands first in its remaining bytes.
 use crate::fault;
 use dpa::number::wide;
 use dpa::number::word_of;
 ghost use mathlib.Core.Path.{_≡_};
-ghost use Rattle.batch.specs.Batch.{nextOf};
+ghost use Rattle.batch.specs.Batch.{closing, nextOf};
 
 // The bytes of an entry before its PData.
 pub const HEAD: usize = 5;
@@ -16,15 +16,24 @@ pub enum Next {
         pcmd: u8,
         hwpid: u16,
     },
-    // The closing zero, which is the last byte.
-    End,
-    // Neither; the place counts from the first of the remaining bytes.
+    // None can be taken apart here; the place counts from the first of the remaining bytes.
     Fault {
         reason: u8,
         at: usize,
     },
 }
 
+// Whether the remaining bytes are the closing zero alone.
+pub fn at_end(s: &[u8]) -> bool
+    ensures { λ r. ⌜ r ≡ closing (now (s .entry)) ⌝ }
+{
+    if s.len() != 1 {
+        return false;
+    }
+    s[0] == 0
+}
+
+// What stands first where a list has not ended.
 pub fn next_entry(s: &[u8]) -> Next
     ensures { λ r. ⌜ r ≡ nextOf (now (s .entry)) ⌝ }
 {
@@ -36,11 +45,8 @@ pub fn next_entry(s: &[u8]) -> Next
     }
     let len = wide(s[0]);
     if len == 0 {
-        if s.len() == 1 {
-            return Next::End;
-        }
         return Next::Fault {
-            reason: fault::BEHIND,
+            reason: fault::TRAILING,
             at: 1,
         };
     }

@@ -5,5 +5,5 @@ pub const SHORT: u8 = 1;
 pub const OVER: u8 = 2;
 // No closing zero: the list's length.
 pub const UNCLOSED: u8 = 3;
-// Bytes behind the zero: the first of them.
-pub const BEHIND: u8 = 4;
+// Bytes after the zero: the first of them.
+pub const TRAILING: u8 = 4;

@@ -1,20 +1,17 @@
 -- Running a list from place to place.
 use mathlib.Core.Path.{_≡_, refl, sym, ap, subst, _∙_}
-use mathlib.Core.List.{List, [], _∷_}
+use mathlib.Core.List.{List}
+use mathlib.Core.Bool.{true}
 use Prim.Native.Nat.{ℕ, _+_, _-_, _≤_}
 use native.Mathlib.Omega.{arith}
-use types.Run.{OneOf}
-use denote.Enum.Declared.{tagOf}
-use lib.ListN.{length, take, drop, length-drop, drop-of-length-le}
+use lib.ListN.{length, take, drop, length-drop}
 use lib.Seq.{drop-drop}
 use Rattle.dpa.specs.Lists.{part}
 use Rattle.dpa.proofs.Lists.{to-end}
-use Rattle.batch.specs.declared.entry.Next.{Next}
-use Rattle.batch.specs.declared.entry.Next.the-variants.{Entry}
-use Rattle.batch.specs.Batch.{nextOf, item, readFrom, reading, runItems}
-use Rattle.batch.proofs.entry.Next.{the-type}
+use Rattle.batch.specs.declared.entry.Next.the-variants.{Entry, Fault}
+use Rattle.batch.specs.Batch.{closing, nextOf, item, reading, runItems}
 use Rattle.batch.proofs.Entries.{entry-sized}
-use Rattle.batch.proofs.Running.{items-none, items-more}
+use Rattle.batch.proofs.Running.{items-closed, items-fault, items-more}
 use Rattle.handler.specs.Request.{State, StateRule, entryAfter}
 use Rattle.handler.proofs.Soundness.{entry-sound}
 
@@ -46,7 +43,7 @@ module _ (list : List ℕ) (old : State) (at : ℕ) (st : State) (h : Running li
       let k = h .place-max in
       (z .0, omega arith)
 
-  -- an entry runs, and the place is behind it
+  -- an entry runs, and the place is after it
   pub turn-runs : {l p c w : ℕ} {next : State} → nextOf tail ≡ Entry l p c w
       → next ≡ entryAfter (item p c w (take ((at + l) - (at + 5)) (drop (at + 5) list))) st
       → Running list old (at + l) next
@@ -62,12 +59,10 @@ module _ (list : List ℕ) (old : State) (at : ℕ) (st : State) (h : Running li
             ∙ h .rest;
       }
 
-  -- where no entry stands, the run has ended
-  pub turn-ends : {n : Next} → n ≡ nextOf tail → OneOf (1 ∷ 2 ∷ []) (tagOf the-type n) → st ≡ ranAt list old
-  turn-ends e k =
-      items-none entryAfter (drop at list) st (ap nextOf (sym tail-is) ∙ sym e) k ∙ h .rest
+  -- where a fault stands, the run has ended
+  pub fault-ends : {k a : ℕ} → nextOf tail ≡ Fault k a → st ≡ ranAt list old
+  fault-ends e = items-fault entryAfter (drop at list) st (ap nextOf (sym tail-is) ∙ e) ∙ h .rest
 
-  -- and so behind the last byte
-  pub run-ends : length list ≤ at → st ≡ ranAt list old
-  unfolding readFrom runItems
-  run-ends z = ap (λ (s : List ℕ). ranAt s st) (sym (drop-of-length-le list z)) ∙ h .rest
+  -- and so at the closing zero
+  pub run-ends : closing tail ≡ true → st ≡ ranAt list old
+  run-ends e = items-closed entryAfter (drop at list) st (ap closing (sym tail-is) ∙ e) ∙ h .rest

@@ -2,6 +2,7 @@
 use crate::peripheral::peripheral;
 use batch::entry::HEAD;
 use batch::entry::Next;
+use batch::entry::at_end;
 use batch::entry::next_entry;
 use dpa::frame::Frame;
 use dpa::settings::Settings;
@@ -69,7 +70,7 @@ pub fn run_list(
         ≡ runItems entryAfter (reading (now (list .entry)) .items) (held fixed lamps (now (ram .entry)) (now (eeprom .entry)) (now (external .entry))) ⌝ }
 {
     let mut at: usize = 0;
-    while at < list.len() {
+    while !at_end(&list[at..]) {
         let Next::Entry {
             len,
             pnum,

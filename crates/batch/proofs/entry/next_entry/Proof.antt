@@ -1,7 +1,7 @@
 use borrow.Author.Needs.{needs}
 use native.Mathlib.Omega.{arith}
 use mathlib.Core.Path.{sym}
-use Rattle.batch.proofs.Entries.{next-none, next-end, next-behind, next-short, next-over, next-is}
+use Rattle.batch.proofs.Entries.{next-none, next-trailing, next-short, next-over, next-is}
 use Rattle.batch.proofs.entry.next_entry.Statement.{statement}
 use Rattle.batch.proofs.entry.next_entry.Tie as tie
 
@@ -15,22 +15,19 @@ wide-requires : tie.Need-wide-requires
 wide-requires c κs = search needs
 
 returns-2 : tie.Need-returns-2
-returns-2 c = sym (next-end _ (c .if3 .taken) (omega arith))
+returns-2 c = sym (next-trailing _ (omega arith) (omega arith))
 
 returns-3 : tie.Need-returns-3
-returns-3 c = sym (next-behind _ (omega arith) (omega arith))
+returns-3 c = sym (next-short _ (omega arith) (omega arith) (omega arith))
 
 returns-4 : tie.Need-returns-4
-returns-4 c = sym (next-short _ (omega arith) (omega arith) (omega arith))
-
-returns-5 : tie.Need-returns-5
-returns-5 c = sym (next-over _ (omega arith) (omega arith) (omega arith))
+returns-4 c = sym (next-over _ (omega arith) (omega arith) (omega arith))
 
 shared-slice-read-t6 : tie.Need-shared-slice-read-t6
 shared-slice-read-t6 c = search needs
 
-shared-slice-read-t11 : tie.Need-shared-slice-read-t11
-shared-slice-read-t11 c = search needs
+shared-slice-read-t9 : tie.Need-shared-slice-read-t9
+shared-slice-read-t9 c = search needs
 
 shared-slice-read-word-of : tie.Need-shared-slice-read-word-of
 shared-slice-read-word-of c = search needs
@@ -41,8 +38,8 @@ shared-slice-read-word-of-2 c = search needs
 word-of-requires : tie.Need-word-of-requires
 word-of-requires c κs = search needs
 
-returns-6 : tie.Need-returns-6
-returns-6 c =
+returns-5 : tie.Need-returns-5
+returns-5 c =
     let s = c .before .before .before .before .before .before .before .before .before .before .before .before .args .s .now in
     cc (next-is s (omega arith) (omega arith))
 
@@ -56,10 +53,9 @@ next-entry-spec =
     returns-2
     returns-3
     returns-4
-    returns-5
     shared-slice-read-t6
-    shared-slice-read-t11
+    shared-slice-read-t9
     shared-slice-read-word-of
     shared-slice-read-word-of-2
     word-of-requires
-    returns-6)
+    returns-5)

@@ -1,4 +1,5 @@
 use borrow.Author.Needs.{needs}
+use borrow.Author.Tests.{not-false}
 use native.Mathlib.Omega.{arith}
 use mathlib.Core.Path.{_≡_, refl, sym, _∙_}
 use Prim.Native.Nat.{_-_, _+_, _≤_}
@@ -6,11 +7,12 @@ use lib.ListN.{length, take, drop}
 use Rattle.batch.specs.declared.entry.Next.the-variants.{Entry}
 use Rattle.batch.specs.Batch.{nextOf}
 use Rattle.handler.specs.Request.{held}
-use Rattle.handler.proofs.Listing.{Running, run-starts, run-ends, turn-sized, turn-runs, turn-ends}
+use Rattle.handler.proofs.Listing.{Running, run-starts, run-ends, turn-sized, turn-runs, fault-ends}
 use Rattle.handler.proofs.entries.run_list.Statement.{statement}
 use Rattle.handler.proofs.entries.run_list.Tie as tie
 use Rattle.handler.proofs.entries.run_list.Reads as reads
 use Rattle.handler.proofs.entries.run_list.Lts as lts
+use Rattle.batch.proofs.entry.at_end.Reads as at-end-reads
 use Rattle.batch.proofs.entry.next_entry.Reads as next-entry-reads
 use Rattle.handler.proofs.entries.run_entry.Reads as run-entry-reads
 
@@ -24,24 +26,36 @@ abbrev μ-loop : tie.MeasureT-loop
 
 -- the entry that stands at the place
 first-is : (c : tie.After-known-told Inv-loop μ-loop) →
-    let list = c .before .before .before .before .before .before .before .before .before .before .before .args .list .now in
-    let at = c .before .before .before .before .before .before .loop .at in
+    let list = c .before .before .before .before .before .before .before .before .before .before .before .before .before .args .list .now in
+    let at = c .before .before .before .before .before .before .before .before .loop .at in
     let g = c .before .len .given .0 in
     nextOf (take (length list - at) (drop at list)) ≡ Entry (g .0) (g .1 .0) (g .1 .1 .0) (g .1 .1 .1 .0)
 first-is c = sym (c .before .before .before .next-entry .ensures) ∙ c .before .len .given .1
 
 sized : (c : tie.After-known-told Inv-loop μ-loop) →
-    (5 ≤ c .before .len .given .0 .0) × (c .before .before .before .before .before .before .loop .at + c .before .len .given .0 .0 ≤ length (c .before .before .before .before .before .before .before .before .before .before .before .args .list .now))
-sized c = turn-sized _ _ _ _ (c .before .before .before .before .before .before .loop .inv .0) (first-is c)
+    (5 ≤ c .before .len .given .0 .0) × (c .before .before .before .before .before .before .before .before .loop .at + c .before .len .given .0 .0 ≤ length (c .before .before .before .before .before .before .before .before .before .before .before .before .before .args .list .now))
+sized c = turn-sized _ _ _ _ (c .before .before .before .before .before .before .before .before .loop .inv .0) (first-is c)
 
 loop-holds : tie.Need-loop-holds Inv-loop μ-loop
 loop-holds c = (run-starts _ _ (c .before .before .before .before .pre), refl, refl, refl)
 
+sub-at-end : tie.Need-sub-at-end Inv-loop μ-loop
+sub-at-end c = omega (arith, c .loop .inv .0 .place-max)
+
+part-at-end-start : tie.Need-part-at-end-start Inv-loop μ-loop
+part-at-end-start c = omega (arith, c .loop .inv .0 .place-max)
+
+part-at-end-end : tie.Need-part-at-end-end Inv-loop μ-loop
+part-at-end-end c = search needs
+
+at-end-requires : tie.Need-at-end-requires Inv-loop μ-loop
+at-end-requires c κs = search needs
+
 sub-next-entry : tie.Need-sub-next-entry Inv-loop μ-loop
-sub-next-entry c = omega (arith, c .before .loop .inv .0 .place-max)
+sub-next-entry c = omega (arith, c .before .before .before .loop .inv .0 .place-max)
 
 part-next-entry-start : tie.Need-part-next-entry-start Inv-loop μ-loop
-part-next-entry-start c = omega (arith, c .before .loop .inv .0 .place-max)
+part-next-entry-start c = omega (arith, c .before .before .before .loop .inv .0 .place-max)
 
 part-next-entry-end : tie.Need-part-next-entry-end Inv-loop μ-loop
 part-next-entry-end c = search needs
@@ -51,6 +65,9 @@ next-entry-requires c κs = search needs
 
 enum-known-len : tie.Need-enum-known-len Inv-loop μ-loop
 enum-known-len c = search needs
+
+enum-told : tie.Need-enum-told Inv-loop μ-loop
+enum-told c = search needs
 
 same-length : tie.Need-same-length Inv-loop μ-loop
 same-length c = search needs
@@ -62,7 +79,7 @@ same-length-3 : tie.Need-same-length-3 Inv-loop μ-loop
 same-length-3 c = search needs
 
 returns : tie.Need-returns Inv-loop μ-loop
-returns c = turn-ends _ _ _ _ (c .before .before .before .before .loop .inv .0) (c .before .next-entry .ensures) (c .match .keys2)
+returns c = fault-ends _ _ _ _ (c .before .before .before .before .before .before .before .loop .inv .0) (sym (c .before .before .next-entry .ensures) ∙ c .enum-told .given .1)
 
 add-run-entry : tie.Need-add-run-entry Inv-loop μ-loop
 add-run-entry c = let z = sized c in omega arith
@@ -80,7 +97,7 @@ part-run-entry-end : tie.Need-part-run-entry-end Inv-loop μ-loop
 part-run-entry-end c = let z = sized c in omega arith
 
 run-entry-requires : tie.Need-run-entry-requires Inv-loop μ-loop
-run-entry-requires c κs = c .before .before .before .before .before .before .before .before .before .before .loop .inv .0 .sound
+run-entry-requires c κs = c .before .before .before .before .before .before .before .before .before .before .before .before .loop .inv .0 .sound
 
 add-at : tie.Need-add-at Inv-loop μ-loop
 add-at c = let z = sized (c .before .before .before .before .before .before .before .before .before .before .before) in omega arith
@@ -90,7 +107,7 @@ loop-less c = let z = sized (c .before .before .before .before .before .before .
 
 loop-again : tie.Need-loop-again Inv-loop μ-loop
 loop-again c =
-    let i = c .before .before .before .before .before .before .before .before .before .before .before .before .before .before .before .before .before .loop .inv in (
+    let i = c .before .before .before .before .before .before .before .before .before .before .before .before .before .before .before .before .before .before .before .loop .inv in (
       turn-runs _ _ _ _ (i .0) (first-is (c .before .before .before .before .before .before .before .before .before .before .before)) (c .before .before .before .before .before .before .run-entry .ensures),
       c .before .before .before .before .before .before .run-entry .kept .1 .1 .1 .1 .1 .1 .0 ∙ i .1,
       c .before .before .before .before .before .before .run-entry .kept .1 .1 .1 .1 .1 .1 .1 .0 ∙ i .2,
@@ -107,7 +124,7 @@ same-length-6 : tie.Need-same-length-6 Inv-loop μ-loop
 same-length-6 c = search needs
 
 returns-2 : tie.Need-returns-2 Inv-loop μ-loop
-returns-2 c = run-ends _ _ _ _ (c .before .loop .inv .0) (omega arith)
+returns-2 c = run-ends _ _ _ _ (c .before .before .before .loop .inv .0) (sym (c .before .at-end .ensures) ∙ not-false _ (c .if1 .left))
 
 pub run-list-spec : {M : Type 1} → statement M
 run-list-spec =
@@ -116,11 +133,16 @@ run-list-spec =
     Inv-loop
     μ-loop
     loop-holds
+    sub-at-end
+    part-at-end-start
+    part-at-end-end
+    at-end-requires
     sub-next-entry
     part-next-entry-start
     part-next-entry-end
     next-entry-requires
     enum-known-len
+    enum-told
     same-length
     same-length-2
     same-length-3
