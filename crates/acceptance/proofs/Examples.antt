@@ -11,14 +11,13 @@ use Rattle.timing.specs.Slot.{baseOf, extraOf, slotOf, wayOf, earliestOf, sendO
 use Rattle.handler.specs.Request.{perform, forNode, entryOf, batchOf, osOf, carryOut}
 use Rattle.book.specs.Book.{chained, bookOk, sceneOf}
 use Rattle.book.specs.Step.{stepTimeOk, lampFault, byteFault, stepFault}
-use Rattle.book.specs.Machine.{machineLevel, machineSeconds, machineLamps, machineEffect, machineStep}
 use Rattle.book.specs.Entry.{powerBytes, entryData, pnumOf, pcmdOf}
 use Rattle.book.specs.Join.{follows}
-use Rattle.scene.specs.Call.{outputRoom, addressOk, compileOf}
+use Rattle.scene.specs.Call.{outputRoom, addressOk, compileScene, compileOf}
 use Rattle.acceptance.specs.Examples.{WorkedExamples, OwnExamples}
 
 pub worked-examples : WorkedExamples
-unfolding bits bitmap actualLevel powerOk timeOk secondsOf lampAfter lampsAfter levelsBefore changeLamps lightsRequest around addByte sums nextOf readFrom baseOf extraOf slotOf wayOf earliestOf sendOf perform forNode batchOf osOf carryOut entryBytes entriesBytes chained bookOk sceneOf stepTimeOk lampFault byteFault stepFault powerBytes entryData pnumOf pcmdOf follows addressOk compileOf
+unfolding bits bitmap actualLevel powerOk timeOk secondsOf lampAfter lampsAfter levelsBefore changeLamps lightsRequest around addByte sums nextOf readFrom baseOf extraOf slotOf wayOf earliestOf sendOf perform forNode batchOf osOf carryOut entryBytes entriesBytes chained bookOk sceneOf stepTimeOk lampFault byteFault stepFault powerBytes entryData pnumOf pcmdOf follows addressOk compileScene compileOf
 worked-examples =
     record {
       set-answers = refl;
@@ -41,12 +40,10 @@ worked-examples =
     }
 
 pub own-examples : OwnExamples
-unfolding bits bitmap actualLevel powerOk timeOk secondsOf lampAfter lampsAfter levelsBefore changeLamps lightsRequest nextOf readFrom runItems errorsOf perform forNode entryOf batchOf osOf carryOut sceneOf stepTimeOk lampFault byteFault stepFault machineLevel machineSeconds machineLamps machineEffect machineStep
+unfolding bits bitmap actualLevel powerOk timeOk secondsOf lampAfter lampsAfter levelsBefore changeLamps lightsRequest nextOf readFrom runItems errorsOf perform forNode entryOf batchOf osOf carryOut
 own-examples =
     record {
       entry-errors = refl;
       batch-error = refl;
       unchanged = refl;
-      machine-table = refl;
-      machine-book = refl;
     }

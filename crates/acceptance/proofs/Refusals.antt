@@ -19,7 +19,7 @@ use Rattle.book.specs.Step.{stepFault, goodStep, badFrom}
 use Rattle.book.proofs.Groups.{all-weaken}
 use Rattle.book.proofs.Faults.{Good, no-bad}
 use Rattle.scene.specs.Compile.{compiled}
-use Rattle.scene.specs.Call.{CompileResult, output, outputRoom, refusedAt, written, addressOk, compileSteps, compileOf}
+use Rattle.scene.specs.Call.{CompileResult, output, outputRoom, refusedAt, written, addressOk, compileSteps, compileScene, compileOf}
 use Rattle.scene.proofs.Outputs.{Faultless, written-whole, compile-refused}
 use Rattle.acceptance.specs.SceneTheorem.{Addressable, NoFault, SceneRule, FirstBad, Refusals}
 
@@ -123,23 +123,23 @@ module _ (b : List ℕ) (k a h : ℕ) (out : List ℕ) where
 
   -- what each fault is answered with
   address-answer : ¬ Addressable a → compileOf b k a h out ≡ refusedAt 1 0 out
-  unfolding compileOf
+  unfolding compileOf compileScene
   address-answer n = by-test (addressOk a) (λ t. absurd (n (addressable a .1 t))) (λ t. rw t refl)
 
   book-answer : IllFormed → compileOf b k a h out ≡ refusedAt 6 0 out
-  unfolding compileOf
+  unfolding compileOf compileScene
   book-answer f = rw (addressable a .0 (f .0), f .1)
 
   number-answer : Unknown → compileOf b k a h out ≡ refusedAt 7 0 out
-  unfolding compileOf
+  unfolding compileOf compileScene
   number-answer f = rw (addressable a .0 (f .0), f .1, le-leb (countOf b) k (f .2))
 
   step-answer : (j : ℕ) → BadStep j → compileOf b k a h out ≡ refusedAt 8 j out
-  unfolding compileOf
+  unfolding compileOf compileScene
   step-answer j f = rw (addressable a .0 (f .0), f .1, lt-leb (countOf b) k (f .2), first-bad (sceneOf b k) j .1 (f .3))
 
   room-answer : NoRoom → compileOf b k a h out ≡ refusedAt 9 0 out
-  unfolding compileOf
+  unfolding compileOf compileScene
   room-answer f =
       let w = rule-faultless b k (f .1) in
       rw (addressable a .0 (f .0), w .book, lt-leb (countOf b) k (w .number), w .steps, lt-ltb (length out) outputRoom (f .2))
@@ -157,7 +157,7 @@ module _ (b : List ℕ) (k a h : ℕ) (out : List ℕ) where
       (no-room : NoRoom → P (refusedAt 9 0 out))
       (accepted : Accepted → P (written (output (compiled a h (sceneOf b k))) out)) where
     steps-cases : Addressable a → bookOk b ≡ true → k < countOf b → (o : Option ℕ) → badFrom 0 (sceneOf b k) ≡ o
-        → P (compileSteps o a h (sceneOf b k) out)
+        → P (compileSteps o (compiled a h (sceneOf b k)) out)
     steps-cases ad ok below (some j) e = bad-step j (ad, ok, below, first-bad (sceneOf b k) j .0 e)
     steps-cases ad ok below none e =
         let r : SceneRule b k =
@@ -165,7 +165,7 @@ module _ (b : List ℕ) (k a h : ℕ) (out : List ℕ) where
         by-cond P (ltb (length out) outputRoom) _ _ (λ t. no-room (ad, r, ltb-true _ _ t)) (λ t. accepted (ad, r, ltb-false _ _ t))
 
     pub compile-cases : P (compileOf b k a h out)
-    unfolding compileOf
+    unfolding compileOf compileScene
     compile-cases =
         by-cond P (not (addressOk a)) _ _
         (λ t. address (λ ad. let z : _≡_ {A = ℕ} 0 1 = cc (addressable a .0 ad, not-true (addressOk a) t) in absurd (omega arith)))

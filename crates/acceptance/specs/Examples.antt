@@ -5,31 +5,18 @@ use mathlib.Core.Path.{_≡_}
 use mathlib.Core.Bool.{false}
 use mathlib.Core.List.{List, [], _∷_, map}
 use lib.ListN.{length, getD, take, replicate}
-use Rattle.dpa.specs.declared.settings.Settings.{Settings}
 use Rattle.dpa.specs.Frame.{anyHwpid}
 use Rattle.dpa.specs.Pnum.{osPnum, lightsPnum}
-use Rattle.memory.specs.declared.block.Memory.the-variants.{Eeprom, External}
-use Rattle.memory.specs.Block.{sizeOf}
 use Rattle.lights.specs.Lamp.{lamp, off, actualLevel}
 use Rattle.checksum.specs.Sums.{sums, start, checksum}
 use Rattle.batch.specs.Batch.{item}
 use Rattle.timing.specs.declared.slot.Network.the-variants.{Std}
 use Rattle.timing.specs.Slot.{sendOf}
-use Rattle.node.specs.Node.{fresh}
-use Rattle.handler.specs.Request.{State, state, Outcome, carryOut}
-use Rattle.book.specs.declared.step.Step.{Step}
-use Rattle.book.specs.Book.{sceneOf}
-use Rattle.book.specs.Machine.{machineStep, machine}
+use Rattle.handler.specs.Request.{State, Outcome, carryOut}
+use Rattle.book.specs.Examples.{settings, freshState, book}
 use Rattle.scene.specs.Call.{outputRoom, written, compileOf}
 
--- node 1 as it is started, with memories of zeros
-abbrev pub settings : ℕ → ℕ → Settings
-settings lamps step = record { address = 1; hwpid = 0x2471; «dpa_value» = 0; «lamp_count» = lamps; step = step }
-
-abbrev pub freshState : ℕ → ℕ → State
-freshState lamps step = state (fresh (settings lamps step)) (replicate (sizeOf Eeprom) 0) (replicate (sizeOf External) 0)
-
--- a lights request and a batch at such a node
+-- a lights request and a batch at node 1 as it is started
 abbrev pub lights : ℕ → List ℕ → State → Outcome
 lights pcmd pdata st = carryOut (item lightsPnum pcmd 0x2471 pdata) st
 
@@ -69,10 +56,7 @@ setError entry = lights 0x00 (0x01 ∷ 0x00 ∷ 0x00 ∷ 0x00 ∷ entry) (freshS
 abbrev pub sumFrom : ℕ → List ℕ → ℕ
 sumFrom first bytes = checksum (sums (start first) bytes)
 
--- a scene book, and its scene 0 compiled
-abbrev pub book : List ℕ
-book = 0x01 ∷ 0x04 ∷ 0x00 ∷ 0x02 ∷ 0x00 ∷ 0x00 ∷ 0x0A ∷ 0x00 ∷ 0x00 ∷ 0x02 ∷ 0x64 ∷ 0x02 ∷ []
-
+-- scene 0 of the book, compiled
 abbrev pub bookOutput : List ℕ
 bookOutput =
     0x01 ∷ 0x13 ∷ 0x01 ∷ 0x00 ∷ 0x02 ∷ 0x05 ∷ 0xFF ∷ 0xFF ∷ 0x0C ∷ 0x71 ∷ 0x00 ∷ 0xFF ∷ 0xFF
@@ -111,19 +95,8 @@ refusedEntries =
     ∷ 0x00 ∷ []
     ) (freshState 3 1)
 
--- six steps at lamp 0, done singly, and the requested level after each: the machine starts from that, not from the actual level
-abbrev step : ℕ → ℕ → Step
-step kind value = record { kind = kind; target = 0; value = value; time = 0 }
-
-abbrev pub levelsDone : List Step → State → List ℕ
-levelsDone [] st = []
-levelsDone (s ∷ ss) st = getD (machineStep s st .node .lamps) 0 off .level ∷ levelsDone ss (machineStep s st)
-
 pub record OwnExamples : Type 0 where
   -- each entry's error is seen where the batch's own is 0, so "no entry is refused" says more than the batch's answer
   pub entry-errors : refusedEntries .entries ≡ 3 ∷ 7 ∷ 6 ∷ []
   pub batch-error : refusedEntries .error ≡ 0
   pub unchanged : refusedEntries .after ≡ freshState 3 1
-  -- the step machine on the worked table and on the worked book
-  pub machine-table : levelsDone (step 0 15 ∷ step 1 6 ∷ step 2 10 ∷ step 2 9 ∷ step 2 100 ∷ step 1 0 ∷ []) (freshState 1 10) ≡ sixLevels
-  pub machine-book : take 3 (machine (sceneOf book 0) (freshState 3 1) .node .lamps) ≡ lamp 10 0 ∷ lamp 0 0 ∷ lamp 100 120 ∷ []
