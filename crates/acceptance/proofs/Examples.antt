@@ -13,11 +13,11 @@ use Rattle.book.specs.Book.{chained, bookOk, sceneOf}
 use Rattle.book.specs.Step.{stepTimeOk, lampFault, byteFault, stepFault}
 use Rattle.book.specs.Entry.{powerBytes, entryData, pnumOf, pcmdOf}
 use Rattle.book.specs.Join.{follows}
-use Rattle.scene.specs.Call.{addressOk, compileOf}
+use Rattle.scene.specs.Call.{addressOk, compileScene, compileOf}
 use Rattle.acceptance.specs.Examples.{WorkedExamples}
 
 pub worked-examples : WorkedExamples
-unfolding bits bitmap actualLevel powerOk timeOk secondsOf lampAfter lampsAfter levelsBefore changeLamps lightsRequest around addByte sums nextOf readFrom baseOf extraOf slotOf wayOf earliestOf sendOf perform forNode batchOf osOf carryOut entryBytes entriesBytes chained bookOk sceneOf stepTimeOk lampFault byteFault stepFault powerBytes entryData pnumOf pcmdOf follows addressOk compileOf
+unfolding bits bitmap actualLevel powerOk timeOk secondsOf lampAfter lampsAfter levelsBefore changeLamps lightsRequest around addByte sums nextOf readFrom baseOf extraOf slotOf wayOf earliestOf sendOf perform forNode batchOf osOf carryOut entryBytes entriesBytes chained bookOk sceneOf stepTimeOk lampFault byteFault stepFault powerBytes entryData pnumOf pcmdOf follows addressOk compileScene compileOf
 worked-examples =
     record {
       set-answers = refl;

@@ -15,7 +15,7 @@ use Rattle.node.specs.Node.{shapeOk, lampsOk, nodeOk}
 use Rattle.handler.specs.Request.{State, state}
 use Rattle.book.specs.Book.{chained, bookOk, sceneOf}
 use Rattle.book.specs.Step.{stepTimeOk, lampFault, byteFault, stepFault}
-use Rattle.book.specs.Machine.{machineLevel, machineSeconds, machineLamps, machineEffect, machineStep, machine}
+use Rattle.book.specs.Machine.{wellFormed, machineLevel, machineSeconds, machineLamps, machineEffect, machineStep, machine}
 use Rattle.book.specs.Entry.{powerBytes, entryData, pnumOf, pcmdOf}
 use Rattle.book.specs.Join.{follows, entryLimit}
 use Rattle.scene.specs.Compile.{listLimit, batchesOf, compiled}
@@ -93,7 +93,7 @@ afterwards =
     (1 ∷ 0x21 ∷ 0x22 ∷ 4 ∷ []) (0x24 ∷ 0x23 ∷ [])
 
 machine-leaves : machine (sceneOf book 1) before ≡ afterwards
-unfolding sceneOf stepFault lampFault byteFault stepTimeOk machineLevel machineSeconds machineLamps machineEffect machineStep
+unfolding sceneOf stepTimeOk wellFormed machineLevel machineSeconds machineLamps machineEffect machineStep
 machine-leaves = refl
 
 -- both lists of requests succeed call by call

@@ -19,7 +19,7 @@ use Rattle.handler.proofs.Performing.{perform-eeprom, perform-ram}
 use Rattle.book.specs.declared.step.Step.{Step}
 use Rattle.book.specs.Machine.{machineEffect, machineStep, machine}
 use Rattle.book.specs.Entry.{values, pnumOf, pcmdOf}
-use Rattle.book.proofs.Faults.{Good, ram-good, eeprom-good}
+use Rattle.book.proofs.Faults.{Good, ram-good, eeprom-good, good-formed}
 
 -- a memory of a state, and the state with other bytes in it
 abbrev pub bytesOf : Memory → State → List ℕ
@@ -60,7 +60,7 @@ unfolding machineStep machineEffect pnumOf pcmdOf
 writes-ram =
     record {
       place = λ s g e. ram-good s g e .target-max;
-      singly = λ s st g e. rw (g, e);
+      singly = λ s st g e. rw (good-formed s .0 g, e);
       entry = λ d st. perform-ram 5 1 d st refl;
       address = refl;
       block = λ n h l. l;
@@ -71,7 +71,7 @@ unfolding machineStep machineEffect pnumOf pcmdOf
 writes-eeprom =
     record {
       place = λ s g e. eeprom-good s g (omega arith) .1 .target-max;
-      singly = λ s st g e. rw (g, e);
+      singly = λ s st g e. rw (good-formed s .0 g, e);
       entry = λ d st. perform-eeprom 3 1 d st refl;
       address = refl;
       block = λ n h l. h;

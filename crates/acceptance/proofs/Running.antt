@@ -19,7 +19,7 @@ use Rattle.book.specs.Book.{countOf, sceneOf}
 use Rattle.book.specs.Step.{stepFault}
 use Rattle.book.specs.Machine.{machine}
 use Rattle.scene.specs.Compile.{compiled}
-use Rattle.scene.specs.Call.{CompileResult, output, outputRoom, requestsIn, addressOk, refusedAt, compileOf}
+use Rattle.scene.specs.Call.{CompileResult, output, outputRoom, requestsIn, addressOk, refusedAt, compileScene, compileOf}
 use Rattle.book.proofs.Groups.{all-weaken}
 use Rattle.book.proofs.Faults.{Good, no-bad}
 use Rattle.scene.proofs.Outputs.{Faultless, refused-none, compile-refused, written-whole, buffer-back}
@@ -30,7 +30,7 @@ use Rattle.acceptance.proofs.Taken.{output-holds}
 
 -- a call that is not refused has room
 room-there : (b : List ℕ) (k a h : ℕ) (out : List ℕ) → addressOk a ≡ true → compileOf b k a h out .refusal ≡ 0 → outputRoom ≤ length out
-unfolding compileOf
+unfolding compileOf compileScene
 room-there b k a h out ad e =
     let f = refused-none b k a h out e in
     by-test (ltb (length out) outputRoom)

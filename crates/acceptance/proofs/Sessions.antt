@@ -6,17 +6,19 @@ use mathlib.Core.Bool.{true}
 use Prim.Native.Nat.{ℕ, suc, _≤_}
 use lib.ListN.{length}
 use Rattle.dpa.specs.declared.settings.Settings.{Settings}
+use Rattle.dpa.specs.Frame.{frame}
+use Rattle.dpa.specs.Pnum.{osPnum}
 use Rattle.batch.specs.Batch.{item, listBytes, All}
 use Rattle.handler.specs.Request.{State, StateRule, forNode, batchOf, carryOut, requestOf}
 use Rattle.book.specs.declared.step.Step.{Step}
 use Rattle.book.specs.Group.{joined}
 use Rattle.book.specs.Machine.{machine}
-use Rattle.scene.specs.Compile.{joinedItems, batchesOf, requestBytes, requestsOf}
+use Rattle.scene.specs.Compile.{Limits, joinedItems, batchesOf, requestBytes, requestsOf}
 use Rattle.book.proofs.Groups.{joined-append}
 use Rattle.book.proofs.Places.{machine-append, machine-stays}
 use Rattle.book.proofs.Faults.{Good}
 use Rattle.book.proofs.Runs.{Run, joining-keeps}
-use Rattle.scene.proofs.Lists.{Limits, Filling, fillings, filling-keeps}
+use Rattle.scene.proofs.Lists.{Filling, fillings, filling-keeps}
 use Rattle.scene.proofs.Sizes.{filling-fits}
 use Rattle.acceptance.specs.SceneTheorem.{Success, AllSucceed, afterCalls, DoneAsSteps}
 use Rattle.acceptance.proofs.Batches.{AllPerform, entries-perform, batch-performs}
@@ -41,7 +43,7 @@ module _ {entryMost listMost : ℕ} {front : List ℕ} (limits : Limits entryMos
       let own : forNode (st .node .settings) h ≡ true = ap (λ (n : Settings). forNode n h) e ∙ ours in
       let to : (a ≡ st .node .settings .address) ⊎ (a ≡ 255) = subst (λ (n : Settings). (a ≡ n .address) ⊎ (a ≡ 255)) (sym e) mine in
       let did = carried list st e ∙ batch-performs h (Run entryMost) performs runs st (b .entries) k own in
-      let short = filling-fits limits pcmd a h runs b .1 in
+      let short = filling-fits limits (frame a osPnum pcmd h) runs b .1 in
       record {
         success =
             subst (λ (n : Settings). Success pcmd a n (requestBytes pcmd front a h runs) st o) e

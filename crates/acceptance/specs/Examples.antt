@@ -5,24 +5,16 @@ use mathlib.Core.Path.{_≡_}
 use mathlib.Core.Bool.{false}
 use mathlib.Core.List.{List, [], _∷_, map}
 use lib.ListN.{length, getD, take, replicate}
-use Rattle.dpa.specs.declared.settings.Settings.{Settings}
 use Rattle.lights.specs.Lamp.{lamp, off, actualLevel}
 use Rattle.checksum.specs.Sums.{sums, start, checksum}
 use Rattle.batch.specs.Batch.{item}
 use Rattle.timing.specs.declared.slot.Network.the-variants.{Std}
 use Rattle.timing.specs.Slot.{sendOf}
-use Rattle.node.specs.Node.{fresh}
-use Rattle.handler.specs.Request.{State, state, Outcome, carryOut}
+use Rattle.handler.specs.Request.{State, Outcome, carryOut}
+use Rattle.book.specs.Examples.{settings, freshState, book}
 use Rattle.scene.specs.Call.{outputRoom, written, compileOf}
 
--- node 1 as it is started, with memories of zeros
-abbrev pub settings : ℕ → ℕ → Settings
-settings lamps step = record { address = 1; hwpid = 0x2471; «dpa_value» = 0; «lamp_count» = lamps; step = step }
-
-abbrev pub freshState : ℕ → ℕ → State
-freshState lamps step = state (fresh (settings lamps step)) (replicate 192 0) (replicate 16384 0)
-
--- a lights request and a batch at such a node
+-- a lights request and a batch at node 1 of the examples
 abbrev pub lights : ℕ → List ℕ → State → Outcome
 lights pcmd pdata st = carryOut (item 0x71 pcmd 0x2471 pdata) st
 
@@ -62,10 +54,7 @@ setError entry = lights 0x00 (0x01 ∷ 0x00 ∷ 0x00 ∷ 0x00 ∷ entry) (freshS
 abbrev pub sumFrom : ℕ → List ℕ → ℕ
 sumFrom first bytes = checksum (sums (start first) bytes)
 
--- a scene book, and its scene 0 compiled
-abbrev pub book : List ℕ
-book = 0x01 ∷ 0x04 ∷ 0x00 ∷ 0x02 ∷ 0x00 ∷ 0x00 ∷ 0x0A ∷ 0x00 ∷ 0x00 ∷ 0x02 ∷ 0x64 ∷ 0x02 ∷ []
-
+-- scene 0 of the scene book, compiled
 abbrev pub bookOutput : List ℕ
 bookOutput =
     0x01 ∷ 0x13 ∷ 0x01 ∷ 0x00 ∷ 0x02 ∷ 0x05 ∷ 0xFF ∷ 0xFF ∷ 0x0C ∷ 0x71 ∷ 0x00 ∷ 0xFF ∷ 0xFF
