@@ -14,7 +14,7 @@ use Rattle.batch.specs.Batch.{Item, reading, listError}
 use Rattle.batch.specs.declared.list.Listed.the-variants.{Sound, Broken}
 use Rattle.node.specs.declared.record.ReadOnly.{ReadOnly}
 use Rattle.handler.specs.declared.os.Carried.{Carried}
-use Rattle.handler.specs.Request.{State, perform, forNode, noReport, Outcome, plain, ran, batchOf, codeCheckOf, osOf, carryOut, delivered, deliver}
+use Rattle.handler.specs.Request.{State, perform, forNode, loadReport, noReport, Outcome, plain, ran, batchOf, codeCheckOf, osOf, carryOut, delivered, deliver}
 
 module _ (d : List ℕ) (st : State) where
   pub batch-empty : length d ≡ 0 → batchOf d st ≡ plain (refused st 5)
@@ -89,7 +89,7 @@ delivered-plain a o q =
 
 -- the code check's answer
 pub delivered-check : (st : State) (d : List ℕ) {b : Bool} {e n : ℕ} {out : List ℕ} (o : List ℕ) → laid b e n out ≡ layOut (codeCheck (st .external) d) o
-    → record { after = st; error = e; length = n; report = record { load = b }; out = out } ≡ deliver (codeCheckOf d st) o
+    → record { after = st; error = e; length = n; report = loadReport b; out = out } ≡ deliver (codeCheckOf d st) o
 unfolding codeCheckOf
 delivered-check st d o q =
-    ap (λ (l : Laid Bool). record { after = st; error = l .error; length = l .length; report = record { load = l .after }; out = l .out }) q
+    ap (λ (l : Laid Bool). record { after = st; error = l .error; length = l .length; report = loadReport (l .after); out = l .out }) q

@@ -13,7 +13,7 @@ use Rattle.checksum.specs.Check.{codeCheck}
 use Rattle.checksum.proofs.Checks.{check-harmless}
 use Rattle.batch.specs.Batch.{Item, reading, listError}
 use Rattle.node.specs.Node.{withLamps}
-use Rattle.handler.specs.Request.{State, nodeIs, memoryOf, withMemory, perform, forNode, entryOf, noReport, Outcome, plain, batchOf, codeCheckOf, carryOut, itemOf, Called, silent, refusalOf, requestOf}
+use Rattle.handler.specs.Request.{State, nodeIs, memoryOf, withMemory, perform, forNode, entryOf, loadReport, noReport, Outcome, plain, batchOf, codeCheckOf, carryOut, itemOf, Called, silent, refusalOf, requestOf}
 use Rattle.handler.proofs.Performing.{memory-same, perform-cases}
 use Rattle.handler.proofs.Carrying.{os-cases, carry-cases}
 use Rattle.handler.proofs.Taking.{call-refused, call-cases}
@@ -22,6 +22,7 @@ use Rattle.handler.proofs.Taking.{call-refused, call-cases}
 harmless-within : {S T : Type 0} (put : S → T) (s : S) (t : T) (a : Served S) → put s ≡ t → Harmless s a → Harmless t (within put a)
 harmless-within put s t a e h n = (ap put (h n .0) ∙ e, h n .1)
 
+-- a request to a peripheral that has an error changes nothing and has no data
 pub perform-harmless : (pnum pcmd : ℕ) (d : List ℕ) (st : State) → Harmless st (perform pnum pcmd d st)
 perform-harmless pnum pcmd d st =
     perform-cases pnum pcmd d st (λ (a : Served State). Harmless st a)
@@ -29,6 +30,7 @@ perform-harmless pnum pcmd d st =
     (harmless-within (λ ls. nodeIs st (withLamps (st .node) ls)) (st .node .lamps) st _ refl (lights.request-harmless (st .node .settings) d (st .node .lamps) pcmd))
     (λ e n. (refl, refl))
 
+-- an entry of a batch that has an error changes nothing and has no data
 pub entry-harmless : (i : Item) (st : State) → Harmless st (entryOf i st)
 unfolding entryOf
 entry-harmless i st =
@@ -50,7 +52,7 @@ check-clean : (d : List ℕ) (st : State) → Clean st (codeCheckOf d st)
 unfolding codeCheckOf
 check-clean d st n =
     let h = check-harmless (st .external) d n in
-    λ j. record { after = st; error = codeCheck (st .external) d .error; bytes = h .1 j; entries = []; report = record { load = h .0 j } }
+    λ j. record { after = st; error = codeCheck (st .external) d .error; bytes = h .1 j; entries = []; report = loadReport (h .0 j) }
 
 perform-clean : (pnum pcmd : ℕ) (d : List ℕ) (st : State) → Clean st (plain (perform pnum pcmd d st))
 perform-clean pnum pcmd d st n =

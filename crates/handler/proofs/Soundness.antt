@@ -43,12 +43,13 @@ memory-size Memory.Eeprom st h = h .eeprom-size
 memory-size Memory.Ram st h = node-ram (st .node) (h .node-ok)
 memory-size Memory.External st h = h .external-size
 
--- and other bytes of that size in one of them
+-- and keep the rule with other bytes of that size in one of them
 memory-rule : (m : Memory) (st : State) → StateRule st → (bytes : List ℕ) → length bytes ≡ sizeOf m → StateRule (withMemory m st bytes)
 memory-rule Memory.Eeprom st h bytes e = record { node-ok = h .node-ok; eeprom-size = e; external-size = h .external-size }
 memory-rule Memory.Ram st h bytes e = node-rule st h (ram-sound (st .node) bytes (h .node-ok) e)
 memory-rule Memory.External st h bytes e = record { node-ok = h .node-ok; eeprom-size = h .eeprom-size; external-size = e }
 
+-- under a request to a peripheral
 pub perform-sound : (pnum pcmd : ℕ) (d : List ℕ) (st : State) → StateRule st → Kept (perform pnum pcmd d st)
 perform-sound pnum pcmd d st h =
     perform-cases pnum pcmd d st Kept
@@ -56,11 +57,13 @@ perform-sound pnum pcmd d st h =
     (node-rule st h (lights-sound (st .node) pcmd d (h .node-ok)))
     (λ e. h)
 
+-- under an entry of a batch
 pub entry-sound : (i : Item) (st : State) → StateRule st → StateRule (entryAfter i st)
 unfolding entryOf
 entry-sound i st h =
     by-cond Kept (forNode (st .node .settings) (i .hwpid)) _ _ (λ _. perform-sound (i .pnum) (i .pcmd) (i .pdata) st h) (λ _. h)
 
+-- under every request that is carried out
 pub carry-sound : (i : Item) (st : State) → StateRule st → RuleAfter (carryOut i st)
 unfolding codeCheckOf
 carry-sound i st h =

@@ -94,9 +94,12 @@ entryAfter i st = entryOf i st .after
 abbrev pub entryError : Item → State → ℕ
 entryError i st = entryOf i st .error
 
--- nothing to report
+-- a load mark to report, and nothing to report
+abbrev pub loadReport : Bool → Report
+loadReport mark = record { load = mark }
+
 abbrev pub noReport : Report
-noReport = record { load = false }
+noReport = loadReport false
 
 -- What a request does: the state afterwards, ErrN, the answer's data, the ErrN of each entry of a batch in order, and
 -- what is reported beside the answer. ErrN stand here whether they are sent or not.
@@ -128,7 +131,7 @@ batchOf pdata st =
 -- OS 02, PCMD 0A: nothing changes, and the load mark is the check's
 unfoldable pub codeCheckOf : List ℕ → State → Outcome
 codeCheckOf pdata st =
-    outcome (within (λ _. st) (codeCheck (st .external) pdata)) [] (record { load = codeCheck (st .external) pdata .after })
+    outcome (within (λ _. st) (codeCheck (st .external) pdata)) [] (loadReport (codeCheck (st .external) pdata .after))
 
 -- OS 02
 unfoldable pub osOf : ℕ → List ℕ → State → Outcome

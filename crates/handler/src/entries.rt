@@ -22,7 +22,7 @@ pub fn for_node(settings: Settings, hwpid: u16) -> bool
     hwpid == Frame::ANY_HWPID
 }
 
-// One entry. Nobody is told its answer, which goes to an array of its own.
+// One entry. Its answer is not sent: the data goes to a scratch buffer.
 fn run_entry(
     fixed: ReadOnly,
     lamps: [Lamp; 32],

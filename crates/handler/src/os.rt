@@ -82,7 +82,8 @@ pub fn os(
     }
     if pcmd == CODE_CHECK {
         let checked = code_check(external, pdata, out);
-        let report = Report { load: checked.load };
+        let mut report = Report::NONE;
+        report.load = checked.load;
         return Carried {
             error: checked.error,
             report,

@@ -80,7 +80,7 @@ fn carry_out(
     of_peripheral(reply)
 }
 
-// A broadcast is carried out and never answered: its data goes to an array of its own.
+// A broadcast is carried out and never answered: its data goes to a scratch buffer.
 fn take_broadcast(
     fixed: ReadOnly,
     lamps: [Lamp; 32],
@@ -115,7 +115,7 @@ fn take_broadcast(
     }
 }
 
-// A request to this node: the data part behind the header is lent on, then the header goes in front.
+// A request to this node: the data part after the header is lent on, then the header is written in front of it.
 fn take_own(
     fixed: ReadOnly,
     lamps: [Lamp; 32],
