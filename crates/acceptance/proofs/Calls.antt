@@ -11,10 +11,13 @@ use borrow.Author.Tests.{eq-eqb, ne-eqb, le-ltb, le-leb}
 use Rattle.dpa.specs.declared.settings.Settings.{Settings}
 use Rattle.dpa.specs.declared.frame.Frame.{Frame}
 use Rattle.dpa.specs.Lists.{over}
-use Rattle.dpa.specs.Frame.{frame, headerBytes, headerOf, headerSize, longestFrame, frameFits, responseHeader}
+use Rattle.dpa.specs.Frame.{frame, headerBytes, headerOf, headerSize, longestFrame, responseHeaderSize, longestResponse, broadcastNadr, frameFits, responseHeader}
+use Rattle.dpa.specs.Pnum.{osPnum}
 use Rattle.dpa.proofs.Bool.{both}
 use Rattle.dpa.proofs.Headers.{read-written}
 use Rattle.dpa.proofs.Ranges.{settings-facts}
+use Rattle.memory.specs.declared.block.Memory.the-variants.{Eeprom, External}
+use Rattle.memory.specs.Block.{sizeOf}
 use Rattle.batch.specs.Batch.{Item, item, All}
 use Rattle.handler.specs.Request.{State, StateRule, itemOf, noReport, Outcome, carryOut, Called, broadcast, respond, requestRefusal, refusalOf, requestOf}
 use Rattle.node.proofs.Nodes.{node-settings}
@@ -24,47 +27,47 @@ use Rattle.acceptance.specs.SceneTheorem.{Success}
 use Rattle.acceptance.proofs.Batches.{finished}
 
 -- a sound node with its memories, a frame and room: no refusal
-not-refused : (f : List ℕ) (st : State) (o : List ℕ) → StateRule st → headerSize ≤ length f → length f ≤ longestFrame → 64 ≤ length o → refusalOf f st o ≡ 0
+not-refused : (f : List ℕ) (st : State) (o : List ℕ) → StateRule st → headerSize ≤ length f → length f ≤ longestFrame → longestResponse ≤ length o → refusalOf f st o ≡ 0
 unfolding requestRefusal frameFits
 not-refused f st o k lo hi room =
     rw (
       k .node-ok,
       both (le-leb headerSize (length f) lo) (le-leb (length f) longestFrame hi),
-      le-ltb (length o) 64 room,
-      eq-eqb (length (st .eeprom)) 192 (k .eeprom-size),
-      eq-eqb (length (st .external)) 16384 (k .external-size),
+      le-ltb (length o) longestResponse room,
+      eq-eqb (length (st .eeprom)) (sizeOf Eeprom) (k .eeprom-size),
+      eq-eqb (length (st .external)) (sizeOf External) (k .external-size),
     )
 
--- carried out in silence for 255, with a response for the node's address
+-- carried out in silence for all, with a response for the node's address
 abbrev takenAs : ℕ → Settings → Item → Outcome → List ℕ → Called
-takenAs a s i x o = cond (eqb a 255) (broadcast x o) (respond s i x o)
+takenAs a s i x o = cond (eqb a broadcastNadr) (broadcast x o) (respond s i x o)
 
--- a frame for the node's address or 255 that is not refused
+-- a frame for the node's address or for all that is not refused
 taken-as : (f : List ℕ) (st : State) (o : List ℕ) → StateRule st → refusalOf f st o ≡ 0
-    → (a : ℕ) → headerOf f .nadr ≡ a → (a ≡ st .node .settings .address) ⊎ (a ≡ 255)
+    → (a : ℕ) → headerOf f .nadr ≡ a → (a ≡ st .node .settings .address) ⊎ (a ≡ broadcastNadr)
     → requestOf f st o ≡ takenAs a (st .node .settings) (itemOf f) (carryOut (itemOf f) st) o
 taken-as f st o k z a e (inl own) =
     let most = settings-facts (st .node .settings) (node-settings (st .node) (k .node-ok)) .address-max in
-    rw (ne-eqb a 255 (λ q. omega arith)) (call-taken f st o z ∙ taken-own f st o (λ q. omega arith) (e ∙ own))
-taken-as f st o k z a e (inr all) = rw (eq-eqb a 255 all) (call-taken f st o z ∙ taken-broadcast f st o (e ∙ all))
+    rw (ne-eqb a broadcastNadr (λ q. omega arith)) (call-taken f st o z ∙ taken-own f st o (λ q. omega arith) (e ∙ own))
+taken-as f st o k z a e (inr all) = rw (eq-eqb a broadcastNadr all) (call-taken f st o z ∙ taken-broadcast f st o (e ∙ all))
 
 -- what is then left, without an error and without data
 left-by : (s : Settings) (i : Item) (end : State) (es o : List ℕ) (b : Bool)
     → let c : Called = cond b (broadcast (finished end es) o) (respond s i (finished end es) o) in
-    (c .refusal ≡ 0) × (c .length ≡ cond b 0 8) × (c .response ≡ cond b o (over (responseHeader s (i .pnum) (i .pcmd) 0) o))
-    × (c .report ≡ noReport) × (c .after ≡ end)
-left-by s i end es o true = (refl, refl, refl, refl, refl)
-left-by s i end es o false = (refl, refl, refl, refl, refl)
+    (c .refusal ≡ 0) × (c .length ≡ cond b 0 responseHeaderSize) × (c .response ≡ cond b o (over (responseHeader s (i .pnum) (i .pcmd) 0) o))
+    × (c .report ≡ noReport) × (c .addressed ≡ true) × (c .after ≡ end)
+left-by s i end es o true = (refl, refl, refl, refl, refl, refl)
+left-by s i end es o false = (refl, refl, refl, refl, refl, refl)
 
 module _ (pcmd a h : ℕ) (pdata : List ℕ) (st : State) (o : List ℕ) (k : StateRule st)
-    (short : length (headerBytes (frame a 2 pcmd h) ++ pdata) ≤ longestFrame) (room : 64 ≤ length o)
-    (mine : (a ≡ st .node .settings .address) ⊎ (a ≡ 255))
-    {end : State} {es : List ℕ} (did : carryOut (item 2 pcmd h pdata) st ≡ finished end es) where
+    (short : length (headerBytes (frame a osPnum pcmd h) ++ pdata) ≤ longestFrame) (room : longestResponse ≤ length o)
+    (mine : (a ≡ st .node .settings .address) ⊎ (a ≡ broadcastNadr))
+    {end : State} {es : List ℕ} (did : carryOut (item osPnum pcmd h pdata) st ≡ finished end es) where
   abbrev request : List ℕ
-  request = headerBytes (frame a 2 pcmd h) ++ pdata
+  request = headerBytes (frame a osPnum pcmd h) ++ pdata
 
-  back : headerOf request ≡ frame a 2 pcmd h
-  back = read-written (frame a 2 pcmd h) pdata
+  back : headerOf request ≡ frame a osPnum pcmd h
+  back = read-written (frame a osPnum pcmd h) pdata
 
   -- the request is the one that was carried out
   request-did : carryOut (itemOf request) st ≡ finished end es
@@ -77,7 +80,7 @@ module _ (pcmd a h : ℕ) (pdata : List ℕ) (st : State) (o : List ℕ) (k : St
 
   -- the call leaves what carrying out leaves
   pub call-leaves : requestOf request st o .after ≡ end
-  call-leaves = ap (λ (c : Called). c .after) call-as ∙ left-by (st .node .settings) (itemOf request) end es o (eqb a 255) .4
+  call-leaves = ap (λ (c : Called). c .after) call-as ∙ left-by (st .node .settings) (itemOf request) end es o (eqb a broadcastNadr) .5
 
   -- which is a sound node with its memories
   pub call-sound : StateRule (requestOf request st o .after)
@@ -86,7 +89,7 @@ module _ (pcmd a h : ℕ) (pdata : List ℕ) (st : State) (o : List ℕ) (k : St
   -- no entry has an error: the call succeeds
   pub call-succeeds : All (λ (e : ℕ). e ≡ 0) es → Success pcmd a (st .node .settings) request st o
   call-succeeds none =
-      let is = left-by (st .node .settings) (itemOf request) end es o (eqb a 255) in
+      let is = left-by (st .node .settings) (itemOf request) end es o (eqb a broadcastNadr) in
       record {
         refusal = ap (λ (c : Called). c .refusal) call-as ∙ is .0;
         error = ap (λ (x : Outcome). x .error) request-did;
@@ -94,4 +97,5 @@ module _ (pcmd a h : ℕ) (pdata : List ℕ) (st : State) (o : List ℕ) (k : St
         length = ap (λ (c : Called). c .length) call-as ∙ is .1;
         response = ap (λ (c : Called). c .response) call-as ∙ is .2;
         report = ap (λ (c : Called). c .report) call-as ∙ is .3;
+        addressed = ap (λ (c : Called). c .addressed) call-as ∙ is .4;
       }

@@ -6,18 +6,18 @@ use Rattle.lights.specs.Bits.{bits, bitmap}
 use Rattle.lights.specs.Lamp.{actualLevel}
 use Rattle.lights.specs.Lights.{powerOk, timeOk, secondsOf, lampAfter, lampsAfter, levelsBefore, changeLamps, lightsRequest}
 use Rattle.checksum.specs.Sums.{around, addByte, sums}
-use Rattle.batch.specs.Batch.{entryBytes, entriesBytes, nextOf, readFrom}
+use Rattle.batch.specs.Batch.{entryBytes, entriesBytes, nextOf, readFrom, runItems, errorsOf}
 use Rattle.timing.specs.Slot.{baseOf, extraOf, slotOf, wayOf, earliestOf, sendOf}
-use Rattle.handler.specs.Request.{perform, forNode, batchOf, osOf, carryOut}
+use Rattle.handler.specs.Request.{perform, forNode, entryOf, batchOf, osOf, carryOut}
 use Rattle.book.specs.Book.{chained, bookOk, sceneOf}
 use Rattle.book.specs.Step.{stepTimeOk, lampFault, byteFault, stepFault}
 use Rattle.book.specs.Entry.{powerBytes, entryData, pnumOf, pcmdOf}
 use Rattle.book.specs.Join.{follows}
-use Rattle.scene.specs.Call.{addressOk, compileOf}
-use Rattle.acceptance.specs.Examples.{WorkedExamples}
+use Rattle.scene.specs.Call.{outputRoom, addressOk, compileScene, compileOf}
+use Rattle.acceptance.specs.Examples.{WorkedExamples, OwnExamples}
 
 pub worked-examples : WorkedExamples
-unfolding bits bitmap actualLevel powerOk timeOk secondsOf lampAfter lampsAfter levelsBefore changeLamps lightsRequest around addByte sums nextOf readFrom baseOf extraOf slotOf wayOf earliestOf sendOf perform forNode batchOf osOf carryOut entryBytes entriesBytes chained bookOk sceneOf stepTimeOk lampFault byteFault stepFault powerBytes entryData pnumOf pcmdOf follows addressOk compileOf
+unfolding bits bitmap actualLevel powerOk timeOk secondsOf lampAfter lampsAfter levelsBefore changeLamps lightsRequest around addByte sums nextOf readFrom baseOf extraOf slotOf wayOf earliestOf sendOf perform forNode batchOf osOf carryOut entryBytes entriesBytes chained bookOk sceneOf stepTimeOk lampFault byteFault stepFault powerBytes entryData pnumOf pcmdOf follows addressOk compileScene compileOf
 worked-examples =
     record {
       set-answers = refl;
@@ -36,5 +36,14 @@ worked-examples =
       batch-00 = refl;
       batch-04-00 = refl;
       wait-340 = refl;
-      book-compiles = λ out room. rw (le-ltb (length out) 4096 room);
+      book-compiles = λ out room. rw (le-ltb (length out) outputRoom room);
+    }
+
+pub own-examples : OwnExamples
+unfolding bits bitmap actualLevel powerOk timeOk secondsOf lampAfter lampsAfter levelsBefore changeLamps lightsRequest nextOf readFrom runItems errorsOf perform forNode entryOf batchOf osOf carryOut
+own-examples =
+    record {
+      entry-errors = refl;
+      batch-error = refl;
+      unchanged = refl;
     }

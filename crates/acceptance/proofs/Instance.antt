@@ -1,13 +1,16 @@
--- What the scene theorem asks for can be met: by a node with lit lamps, running timers and filled memories, and a book with
--- steps of every kind. Then what the theorem says of them, in figures.
+-- What condition 3 is given can be met: by a node with lit lamps, running timers and filled memories, and a book with steps
+-- of every kind. Then what it says of them, in figures.
 use mathlib.Core.Path.{_≡_, refl, _∙_}
 use mathlib.Core.Logic.{inl, inr}
 use mathlib.Core.List.{List, [], _∷_, _++_, map}
 use Prim.Native.Nat.{ℕ}
 use native.Mathlib.Omega.{arith}
-use lib.ListN.{length, replicate}
+use lib.ListN.{length, replicate, length-replicate}
+use Rattle.dpa.specs.Frame.{broadcastNadr, anyHwpid}
 use Rattle.dpa.specs.Lists.{allBelow}
 use Rattle.dpa.specs.Settings.{stepOk, settingsOk}
+use Rattle.memory.specs.declared.block.Memory.the-variants.{External}
+use Rattle.memory.specs.Block.{sizeOf}
 use Rattle.batch.specs.Batch.{entryBytes, entriesBytes}
 use Rattle.lights.specs.declared.lamp.Lamp.{Lamp}
 use Rattle.lights.specs.Lamp.{lamp, off, lampOk, lampZero, lampFits}
@@ -15,12 +18,14 @@ use Rattle.node.specs.Node.{shapeOk, lampsOk, nodeOk}
 use Rattle.handler.specs.Request.{State, state}
 use Rattle.book.specs.Book.{chained, bookOk, sceneOf}
 use Rattle.book.specs.Step.{stepTimeOk, lampFault, byteFault, stepFault}
-use Rattle.book.specs.Machine.{machineLevel, machineSeconds, machineLamps, machineEffect, machineStep, machine}
+use Rattle.book.specs.Machine.{wellFormed, machineLevel, machineSeconds, machineLamps, machineEffect, machineStep, machine}
 use Rattle.book.specs.Entry.{powerBytes, entryData, pnumOf, pcmdOf}
 use Rattle.book.specs.Join.{follows, entryLimit}
 use Rattle.scene.specs.Compile.{listLimit, batchesOf, compiled}
-use Rattle.acceptance.specs.SceneTheorem.{Given, DoneAsSteps, afterCalls}
-use Rattle.acceptance.proofs.Scenes.{scene-theorem}
+use Rattle.scene.specs.Call.{outputRoom, requestsIn, compileOf}
+use Rattle.acceptance.specs.SceneTheorem.{Addressable, SceneRule, Given, DoneAsSteps, afterCalls}
+use Rattle.acceptance.proofs.Refusals.{compile-refusals}
+use Rattle.acceptance.proofs.Scenes.{condition-3}
 
 -- five lamps on step 10; the RAM's and the EEPROM's last bytes stand apart
 abbrev nodeWith : List Lamp → List ℕ → List ℕ → State
@@ -29,7 +34,7 @@ nodeWith lamps ram eeprom =
       settings = record { address = 7; hwpid = 0x2471; «dpa_value» = 3; «lamp_count» = 5; step = 10 };
       lamps = lamps ++ replicate 27 off;
       ram = replicate 44 0xAA ++ ram;
-    }) (replicate 190 0x55 ++ eeprom) (replicate 16384 0x11)
+    }) (replicate 190 0x55 ++ eeprom) (replicate (sizeOf External) 0x11)
 
 abbrev before : State
 before =
@@ -50,32 +55,35 @@ abbrev buffers : ℕ → List ℕ
 buffers k = k ∷ replicate 63 0xEE
 
 -- every hypothesis holds, for its own address and profile
-pub given-own : Given before buffers book 1 7 0x2471
-unfolding nodeOk shapeOk settingsOk stepOk lampsOk allBelow lampFits lampOk lampZero bookOk chained sceneOf stepFault lampFault byteFault stepTimeOk
+pub given-own : Given before buffers 7 0x2471
+unfolding nodeOk shapeOk settingsOk stepOk lampsOk allBelow lampFits lampOk lampZero
 given-own =
     record {
       sound = record { node-ok = refl; eeprom-size = refl; external-size = refl };
       room = λ k. omega arith;
-      well-formed = refl;
-      known = omega arith;
-      no-fault = (refl, (refl, (refl, (refl, (refl, (refl, (refl, (refl, (refl, (refl, tt))))))))));
       address = inl refl;
       profile = inl refl;
     }
 
 -- and for those of all nodes
-pub given-all : Given before buffers book 1 255 0xFFFF
-given-all =
-    let g = given-own in
+pub given-all : Given before buffers broadcastNadr anyHwpid
+given-all = let g = given-own in record { sound = g .sound; room = g .room; address = inr refl; profile = inr refl }
+
+pub faultless : SceneRule book 1
+unfolding bookOk chained sceneOf stepFault lampFault byteFault stepTimeOk
+faultless =
     record {
-      sound = g .sound;
-      room = g .room;
-      well-formed = g .well-formed;
-      known = g .known;
-      no-fault = g .no-fault;
-      address = inr refl;
-      profile = inr refl;
+      well-formed = refl;
+      known = omega arith;
+      no-fault = (refl, (refl, (refl, (refl, (refl, (refl, (refl, (refl, (refl, (refl, tt))))))))));
     }
+
+-- an output buffer that held other bytes; both compile calls are accepted
+abbrev out : List ℕ
+out = replicate outputRoom 0xCC
+
+accepted : (a h : ℕ) → Addressable a → compileOf book 1 a h out .refusal ≡ 0
+accepted a h ad = compile-refusals book 1 a h out .none .1 (ad, faultless, omega (arith, length-replicate {A = ℕ} outputRoom 0xCC))
 
 -- it compiles to two requests, of five entries and of one
 pub two-requests : length (compiled 7 0x2471 (sceneOf book 1)) ≡ 2
@@ -93,15 +101,22 @@ afterwards =
     (1 ∷ 0x21 ∷ 0x22 ∷ 4 ∷ []) (0x24 ∷ 0x23 ∷ [])
 
 machine-leaves : machine (sceneOf book 1) before ≡ afterwards
-unfolding sceneOf stepFault lampFault byteFault stepTimeOk machineLevel machineSeconds machineLamps machineEffect machineStep
+unfolding sceneOf stepTimeOk wellFormed machineLevel machineSeconds machineLamps machineEffect machineStep
 machine-leaves = refl
 
 -- both lists of requests succeed call by call
 pub done-own : DoneAsSteps 0x05 7 buffers (compiled 7 0x2471 (sceneOf book 1)) (sceneOf book 1) before
-done-own = scene-theorem before buffers book 1 7 0x2471 given-own
+done-own = condition-3 .requests before buffers book 1 7 0x2471 given-own faultless
 
-pub done-all : DoneAsSteps 0x05 255 buffers (compiled 255 0xFFFF (sceneOf book 1)) (sceneOf book 1) before
-done-all = scene-theorem before buffers book 1 255 0xFFFF given-all
+pub done-all : DoneAsSteps 0x05 broadcastNadr buffers (compiled broadcastNadr anyHwpid (sceneOf book 1)) (sceneOf book 1) before
+done-all = condition-3 .requests before buffers book 1 broadcastNadr anyHwpid given-all faultless
+
+-- and so do those in the output buffer
+pub buffer-own : DoneAsSteps 0x05 7 buffers (requestsIn (compileOf book 1 7 0x2471 out .buffer)) (sceneOf book 1) before
+buffer-own = condition-3 .buffer before buffers book 1 7 0x2471 out given-own (accepted 7 0x2471 (inl (omega arith, omega arith)))
+
+pub buffer-all : DoneAsSteps 0x05 broadcastNadr buffers (requestsIn (compileOf book 1 broadcastNadr anyHwpid out .buffer)) (sceneOf book 1) before
+buffer-all = condition-3 .buffer before buffers book 1 broadcastNadr anyHwpid out given-all (accepted broadcastNadr anyHwpid (inr refl))
 
 -- and the node ends with these lamps, timers and bytes
 pub calls-leave : afterCalls buffers (compiled 7 0x2471 (sceneOf book 1)) before ≡ afterwards

@@ -29,7 +29,7 @@ use Rattle.book.specs.declared.step.Step.{Step}
 use Rattle.book.specs.Step.{stepTimeOk}
 use Rattle.book.specs.Machine.{machineLevel, machineSeconds, machineLamp, machineLamps, machineEffect, machineStep, machine}
 use Rattle.book.specs.Entry.{bitmapOf, fourBytes, powerBytes, powersBytes, pnumOf, pcmdOf}
-use Rattle.book.proofs.Faults.{Good, LampGood, lamp-good}
+use Rattle.book.proofs.Faults.{Good, LampGood, lamp-good, good-formed}
 
 -- ---- binary digits
 
@@ -235,7 +235,7 @@ module _ (k : ℕ) (lamp : k < 3) where
       → machineStep s st ≡ nodeIs st (withLamps (st .node) (taken targetOf changeOf (commandOf k) (st .node .settings .«lamp_count») 0 s (st .node .lamps)))
   unfolding machineStep machineEffect machineLamps
   machine-lamp-step s st g e =
-      rw (g, machine-lamp s (getD (st .node .lamps) (s .target) off) g e, e, lt-ltb k 3 lamp, sub-zero (s .target))
+      rw (good-formed s .0 g, machine-lamp s (getD (st .node .lamps) (s .target) off) g e, e, lt-ltb k 3 lamp, sub-zero (s .target))
 
   -- the step machine over such steps
   pub machine-lamp-run : (i : ℕ) (ss : List Step) (st : State) → LampRun k i ss

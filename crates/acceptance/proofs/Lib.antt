@@ -4,6 +4,7 @@ pub mod Runs
 pub mod Batches
 pub mod Calls
 pub mod Sessions
+pub mod Refusals
 pub mod Scenes
 pub mod Instance
 pub mod Examples

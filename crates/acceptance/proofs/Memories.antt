@@ -17,7 +17,7 @@ use Rattle.handler.proofs.Performing.{memory-same, perform-memory}
 use Rattle.book.specs.declared.step.Step.{Step}
 use Rattle.book.specs.Machine.{machineEffect, machineStep, machine}
 use Rattle.book.specs.Entry.{values, pnumOf, pcmdOf}
-use Rattle.book.proofs.Faults.{Good, ram-good, eeprom-good}
+use Rattle.book.proofs.Faults.{Good, ram-good, eeprom-good, good-formed}
 
 bytes-with : (m : Memory) (st : State) (bytes : List ℕ) → memoryOf m (withMemory m st bytes) ≡ bytes
 bytes-with Memory.Eeprom st bytes = refl
@@ -42,7 +42,7 @@ unfolding machineStep machineEffect pnumOf pcmdOf
 writes-ram =
     record {
       place = λ s g e. ram-good s g e .target-max;
-      singly = λ s st g e. rw (g, e);
+      singly = λ s st g e. rw (good-formed s .0 g, e);
       entry = λ d st. perform-memory 5 1 d st Ram refl;
       address = refl;
       block = λ n h l. l;
@@ -53,7 +53,7 @@ unfolding machineStep machineEffect pnumOf pcmdOf
 writes-eeprom =
     record {
       place = λ s g e. eeprom-good s g (omega arith) .1 .target-max;
-      singly = λ s st g e. rw (g, e);
+      singly = λ s st g e. rw (good-formed s .0 g, e);
       entry = λ d st. perform-memory 3 1 d st Eeprom refl;
       address = refl;
       block = λ n h l. h;

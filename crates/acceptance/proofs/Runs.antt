@@ -22,7 +22,7 @@ use Rattle.book.specs.Entry.{entryData, pnumOf, pcmdOf, joinedItem}
 use Rattle.book.specs.Join.{follows}
 use Rattle.book.proofs.Faults.{eeprom-good}
 use Rattle.book.proofs.Runs.{Linked, Run}
-use Rattle.scene.proofs.Lists.{Limits}
+use Rattle.scene.specs.Compile.{Limits}
 use Rattle.acceptance.proofs.Lamps.{LampRun, entry-lamp-run}
 use Rattle.acceptance.proofs.Memories.{Writes, writes-ram, writes-eeprom, ByteRun, entry-byte-run}
 

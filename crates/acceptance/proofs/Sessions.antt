@@ -6,17 +6,19 @@ use mathlib.Core.Bool.{true}
 use Prim.Native.Nat.{ℕ, suc, _≤_}
 use lib.ListN.{length}
 use Rattle.dpa.specs.declared.settings.Settings.{Settings}
-use Rattle.batch.specs.Batch.{item, listBytes, All}
+use Rattle.dpa.specs.Frame.{longestResponse, broadcastNadr, frame}
+use Rattle.dpa.specs.Pnum.{osPnum}
+use Rattle.batch.specs.Batch.{Item, item, listBytes, All}
 use Rattle.handler.specs.Request.{State, StateRule, forNode, batchOf, carryOut, requestOf}
 use Rattle.book.specs.declared.step.Step.{Step}
 use Rattle.book.specs.Group.{joined}
 use Rattle.book.specs.Machine.{machine}
-use Rattle.scene.specs.Compile.{joinedItems, batchesOf, requestBytes, requestsOf}
+use Rattle.scene.specs.Compile.{Limits, joinedItems, batchesOf, requestBytes, requestsOf}
 use Rattle.book.proofs.Groups.{joined-append}
 use Rattle.book.proofs.Places.{machine-append, machine-stays}
 use Rattle.book.proofs.Faults.{Good}
 use Rattle.book.proofs.Runs.{Run, joining-keeps}
-use Rattle.scene.proofs.Lists.{Limits, Filling, fillings, filling-keeps}
+use Rattle.scene.proofs.Lists.{Filling, fillings, filling-keeps}
 use Rattle.scene.proofs.Sizes.{filling-fits}
 use Rattle.acceptance.specs.SceneTheorem.{Success, AllSucceed, afterCalls, DoneAsSteps}
 use Rattle.acceptance.proofs.Batches.{AllPerform, entries-perform, batch-performs}
@@ -28,20 +30,22 @@ pub record Done (pcmd a : ℕ) (s : Settings) (request : List ℕ) (steps : List
   pub after : requestOf request st o .after ≡ machine steps st
   pub sound : StateRule (requestOf request st o .after)
 
--- Two limits; a PCMD of OS 02 and bytes in front of the list, which a node with settings s carries out as the list alone.
+-- Two limits; a PCMD of OS 02 and bytes in front of a list of entries, which a node with settings s carries out as the list
+-- alone. Only lists that can be read are asked about.
 module _ {entryMost listMost : ℕ} {front : List ℕ} (limits : Limits entryMost listMost front) (pcmd a h : ℕ) (s : Settings)
-    (mine : (a ≡ s .address) ⊎ (a ≡ 255)) (ours : forNode s h ≡ true)
-    (carried : (list : List ℕ) (st : State) → st .node .settings ≡ s → carryOut (item 2 pcmd h (front ++ list)) st ≡ batchOf list st)
+    (mine : (a ≡ s .address) ⊎ (a ≡ broadcastNadr)) (ours : forNode s h ≡ true)
+    (carried : (items : List Item) (st : State) → st .node .settings ≡ s
+    → carryOut (item osPnum pcmd h (front ++ listBytes items)) st ≡ batchOf (listBytes items) st)
     (performs : AllPerform h (Run entryMost)) where
   -- a request of entries that joining and filling make
   pub request-done : (runs : List (List Step)) (st : State) (o : List ℕ) → Filling entryMost listMost h runs
-      → StateRule st → st .node .settings ≡ s → 64 ≤ length o → Done pcmd a s (requestBytes pcmd front a h runs) (joined runs) st o
+      → StateRule st → st .node .settings ≡ s → longestResponse ≤ length o → Done pcmd a s (requestBytes pcmd front a h runs) (joined runs) st o
   request-done runs st o b k e room =
       let list = listBytes (joinedItems h runs) in
       let own : forNode (st .node .settings) h ≡ true = ap (λ (n : Settings). forNode n h) e ∙ ours in
-      let to : (a ≡ st .node .settings .address) ⊎ (a ≡ 255) = subst (λ (n : Settings). (a ≡ n .address) ⊎ (a ≡ 255)) (sym e) mine in
-      let did = carried list st e ∙ batch-performs h (Run entryMost) performs runs st (b .entries) k own in
-      let short = filling-fits limits pcmd a h runs b .1 in
+      let to : (a ≡ st .node .settings .address) ⊎ (a ≡ broadcastNadr) = subst (λ (n : Settings). (a ≡ n .address) ⊎ (a ≡ broadcastNadr)) (sym e) mine in
+      let did = carried (joinedItems h runs) st e ∙ batch-performs h (Run entryMost) performs runs st (b .entries) k own in
+      let short = filling-fits limits (frame a osPnum pcmd h) runs b .1 in
       record {
         success =
             subst (λ (n : Settings). Success pcmd a n (requestBytes pcmd front a h runs) st o) e
@@ -52,7 +56,7 @@ module _ {entryMost listMost : ℕ} {front : List ℕ} (limits : Limits entryMos
       }
 
   requests-done : (bs : List (List (List Step))) (buffers : ℕ → List ℕ) (st : State)
-      → All (Filling entryMost listMost h) bs → StateRule st → st .node .settings ≡ s → ((k : ℕ) → 64 ≤ length (buffers k))
+      → All (Filling entryMost listMost h) bs → StateRule st → st .node .settings ≡ s → ((k : ℕ) → longestResponse ≤ length (buffers k))
       → AllSucceed pcmd a s buffers (map (requestBytes pcmd front a h) bs) st
       × (afterCalls buffers (map (requestBytes pcmd front a h) bs) st ≡ machine (joined (joined bs)) st)
   requests-done [] buffers st b k e room = (tt, refl)
@@ -70,7 +74,7 @@ module _ {entryMost listMost : ℕ} {front : List ℕ} (limits : Limits entryMos
 
   -- steps of which none is bad
   pub steps-done : (steps : List Step) (buffers : ℕ → List ℕ) (st : State)
-      → All Good steps → StateRule st → st .node .settings ≡ s → ((k : ℕ) → 64 ≤ length (buffers k))
+      → All Good steps → StateRule st → st .node .settings ≡ s → ((k : ℕ) → longestResponse ≤ length (buffers k))
       → DoneAsSteps pcmd a buffers (requestsOf entryMost listMost pcmd front a h steps) steps st
   steps-done steps buffers st good k e room =
       let bs = batchesOf entryMost listMost h steps in

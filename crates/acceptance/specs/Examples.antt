@@ -1,33 +1,27 @@
 -- Document 01, "Worked examples": all that are marked P, of the meanings that the contracts give the calls, under one
--- statement. proofs/Examples computes them.
+-- statement. Then examples that are ours. proofs/Examples computes them.
 use Prim.Native.Nat.{ℕ, _≤_}
 use mathlib.Core.Path.{_≡_}
 use mathlib.Core.Bool.{false}
 use mathlib.Core.List.{List, [], _∷_, map}
 use lib.ListN.{length, getD, take, replicate}
-use Rattle.dpa.specs.declared.settings.Settings.{Settings}
+use Rattle.dpa.specs.Frame.{anyHwpid}
+use Rattle.dpa.specs.Pnum.{osPnum, lightsPnum}
 use Rattle.lights.specs.Lamp.{lamp, off, actualLevel}
 use Rattle.checksum.specs.Sums.{sums, start, checksum}
 use Rattle.batch.specs.Batch.{item}
 use Rattle.timing.specs.declared.slot.Network.the-variants.{Std}
 use Rattle.timing.specs.Slot.{sendOf}
-use Rattle.node.specs.Node.{fresh}
-use Rattle.handler.specs.Request.{State, state, Outcome, carryOut}
+use Rattle.handler.specs.Request.{State, Outcome, carryOut}
+use Rattle.book.specs.Examples.{settings, freshState, book}
 use Rattle.scene.specs.Call.{outputRoom, written, compileOf}
 
--- node 1 as it is started, with memories of zeros
-abbrev pub settings : ℕ → ℕ → Settings
-settings lamps step = record { address = 1; hwpid = 0x2471; «dpa_value» = 0; «lamp_count» = lamps; step = step }
-
-abbrev pub freshState : ℕ → ℕ → State
-freshState lamps step = state (fresh (settings lamps step)) (replicate 192 0) (replicate 16384 0)
-
--- a lights request and a batch at such a node
+-- a lights request and a batch at node 1 as it is started
 abbrev pub lights : ℕ → List ℕ → State → Outcome
-lights pcmd pdata st = carryOut (item 0x71 pcmd 0x2471 pdata) st
+lights pcmd pdata st = carryOut (item lightsPnum pcmd 0x2471 pdata) st
 
 abbrev pub batch : List ℕ → State → Outcome
-batch pdata st = carryOut (item 0x02 0x05 0x2471 pdata) st
+batch pdata st = carryOut (item osPnum 0x05 0x2471 pdata) st
 
 -- three lamps, step 1: a set, then a raise
 abbrev pub afterSet : Outcome
@@ -62,10 +56,7 @@ setError entry = lights 0x00 (0x01 ∷ 0x00 ∷ 0x00 ∷ 0x00 ∷ entry) (freshS
 abbrev pub sumFrom : ℕ → List ℕ → ℕ
 sumFrom first bytes = checksum (sums (start first) bytes)
 
--- a scene book, and its scene 0 compiled
-abbrev pub book : List ℕ
-book = 0x01 ∷ 0x04 ∷ 0x00 ∷ 0x02 ∷ 0x00 ∷ 0x00 ∷ 0x0A ∷ 0x00 ∷ 0x00 ∷ 0x02 ∷ 0x64 ∷ 0x02 ∷ []
-
+-- scene 0 of the book, compiled
 abbrev pub bookOutput : List ℕ
 bookOutput =
     0x01 ∷ 0x13 ∷ 0x01 ∷ 0x00 ∷ 0x02 ∷ 0x05 ∷ 0xFF ∷ 0xFF ∷ 0x0C ∷ 0x71 ∷ 0x00 ∷ 0xFF ∷ 0xFF
@@ -90,4 +81,22 @@ pub record WorkedExamples : Type 0 where
   -- hops 2 and 3, PData 5 and 20, delay 20
   pub wait-340 : sendOf 2 5 20 3 20 Std false ≡ record { refusal = 0; milliseconds = 340 }
   -- scene 0 for address 1, HWPID left out, in any buffer with room
-  pub book-compiles : (out : List ℕ) → outputRoom ≤ length out → compileOf book 0 1 0xFFFF out ≡ written bookOutput out
+  pub book-compiles : (out : List ℕ) → outputRoom ≤ length out → compileOf book 0 1 anyHwpid out ≡ written bookOutput out
+
+-- ---- examples that are ours, not document 01's
+
+-- a batch of three entries: OS 02 inside a batch, a profile that is not the node's, a set with power byte 65 hex
+abbrev pub refusedEntries : Outcome
+refusedEntries =
+    batch (
+    0x05 ∷ 0x02 ∷ 0x05 ∷ 0xFF ∷ 0xFF
+    ∷ 0x05 ∷ 0x71 ∷ 0x3E ∷ 0x00 ∷ 0x00
+    ∷ 0x0A ∷ 0x71 ∷ 0x00 ∷ 0xFF ∷ 0xFF ∷ 0x01 ∷ 0x00 ∷ 0x00 ∷ 0x00 ∷ 0x65
+    ∷ 0x00 ∷ []
+    ) (freshState 3 1)
+
+pub record OwnExamples : Type 0 where
+  -- each entry's error is seen where the batch's own is 0, so "no entry is refused" says more than the batch's answer
+  pub entry-errors : refusedEntries .entries ≡ 3 ∷ 7 ∷ 6 ∷ []
+  pub batch-error : refusedEntries .error ≡ 0
+  pub unchanged : refusedEntries .after ≡ freshState 3 1

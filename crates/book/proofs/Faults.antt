@@ -1,5 +1,5 @@
--- What a step that is not bad keeps, and when a scene has no bad step.
-use mathlib.Core.Bool.{true}
+-- What a step that is not bad keeps, that the step machine does it, and when a scene has no bad step.
+use mathlib.Core.Bool.{Bool, true, false, cond, _&&_}
 use mathlib.Core.List.{List, [], _∷_}
 use mathlib.Core.Logic.{_↔_}
 use mathlib.Core.Option.{Option, none, some}
@@ -7,13 +7,14 @@ use mathlib.Core.Path.{_≡_, refl}
 use Prim.Native.Nat.{ℕ, suc, _≤_, _<_}
 use native.Mathlib.Omega.{arith}
 use lib.Dec.{ltb, leb, eqb}
-use borrow.Author.Tests.{eqb-true, eq-eqb, ne-eqb, ltb-false, leb-false, lt-ltb, le-ltb}
-use Rattle.dpa.proofs.Bool.{by-test, second-taken, first-taken}
+use borrow.Author.Tests.{eqb-true, eq-eqb, ne-eqb, ltb-true, ltb-false, leb-true, leb-false, lt-ltb, le-ltb, lt-leb, le-leb}
+use Rattle.dpa.proofs.Bool.{by-test, both, and-left, and-right, second-taken, first-taken}
 use Rattle.memory.specs.Block.{sizeOf}
 use Rattle.memory.specs.declared.block.Memory.the-variants.{Eeprom, Ram}
 use Rattle.batch.specs.Batch.{All}
 use Rattle.book.specs.declared.step.Step.{Step}
-use Rattle.book.specs.Step.{stepTimeOk, lampFault, byteFault, stepFault, goodStep, badFrom}
+use Rattle.book.specs.Step.{ramKind, eepromKind, isLamp, stepTimeOk, lampFault, byteFault, stepFault, goodStep, badFrom}
+use Rattle.book.specs.Machine.{lampFormed, byteFormed, wellFormed}
 
 abbrev pub Good : Step → Type 0
 Good s = goodStep s ≡ true
@@ -44,24 +45,76 @@ byte-parts size s e =
     record { target-max = leb-false size (s .target) (t .0); no-time = eqb-true (s .time) 0 (m .0) }
 
 -- a good step by its kind
-pub lamp-good : (s : Step) → Good s → s .kind < 3 → LampGood s
+pub lamp-good : (s : Step) → Good s → s .kind < ramKind → LampGood s
 unfolding stepFault
-lamp-good s g h = let f : stepFault s ≡ 0 = eqb-true _ _ g in lamp-parts s (rw (lt-ltb (s .kind) 3 h) at f)
+lamp-good s g h = let f : stepFault s ≡ 0 = eqb-true _ _ g in lamp-parts s (rw (lt-ltb (s .kind) ramKind h) at f)
 
-pub ram-good : (s : Step) → Good s → s .kind ≡ 3 → ByteGood (sizeOf Ram) s
+pub ram-good : (s : Step) → Good s → s .kind ≡ ramKind → ByteGood (sizeOf Ram) s
 unfolding stepFault
 ram-good s g h =
     let f : stepFault s ≡ 0 = eqb-true _ _ g in
-    byte-parts (sizeOf Ram) s (rw (le-ltb (s .kind) 3 (omega arith), eq-eqb (s .kind) 3 h) at f)
+    byte-parts (sizeOf Ram) s (rw (le-ltb (s .kind) ramKind (omega arith), eq-eqb (s .kind) ramKind h) at f)
 
 -- a good step of no lamp and not of RAM is one of EEPROM
-pub eeprom-good : (s : Step) → Good s → 3 < s .kind → (s .kind ≡ 4) × ByteGood (sizeOf Eeprom) s
+pub eeprom-good : (s : Step) → Good s → ramKind < s .kind → (s .kind ≡ eepromKind) × ByteGood (sizeOf Eeprom) s
 unfolding stepFault
 eeprom-good s g h =
     let f : stepFault s ≡ 0 = eqb-true _ _ g in
-    let e = rw (le-ltb (s .kind) 3 (omega arith), ne-eqb (s .kind) 3 (λ z. omega arith)) at f in
-    let k = first-taken (eqb (s .kind) 4) (byteFault (sizeOf Eeprom) s) 1 0 (λ z. omega arith) e in
-    (eqb-true (s .kind) 4 (k .0), byte-parts (sizeOf Eeprom) s (k .1))
+    let e = rw (le-ltb (s .kind) ramKind (omega arith), ne-eqb (s .kind) ramKind (λ z. omega arith)) at f in
+    let k = first-taken (eqb (s .kind) eepromKind) (byteFault (sizeOf Eeprom) s) 1 0 (λ z. omega arith) e in
+    (eqb-true (s .kind) eepromKind (k .0), byte-parts (sizeOf Eeprom) s (k .1))
+
+-- ---- the step machine's rule
+
+lamp-formed : (s : Step) → LampGood s → lampFormed s ≡ true
+lamp-formed s p = both (both (lt-ltb _ _ (p .target-max)) (le-leb _ _ (p .value-max))) (p .time-valid)
+
+byte-formed : (size : ℕ) (s : Step) → ByteGood size s → byteFormed size s ≡ true
+byte-formed size s p = both (lt-ltb _ _ (p .target-max)) (eq-eqb _ _ (p .no-time))
+
+formed-lamp : (s : Step) → lampFormed s ≡ true → lampFault s ≡ 0
+unfolding lampFault
+formed-lamp s e =
+    let f : (ltb (s .target) 32 && leb (s .value) 100) ≡ true = and-left _ _ e in
+    rw (
+      lt-leb 32 (s .target) (ltb-true _ _ (and-left _ _ f)),
+      le-ltb 100 (s .value) (leb-true _ _ (and-right (ltb (s .target) 32) _ f)),
+      and-right (ltb (s .target) 32 && leb (s .value) 100) _ e,
+    )
+
+formed-byte : (size : ℕ) (s : Step) → byteFormed size s ≡ true → byteFault size s ≡ 0
+unfolding byteFault
+formed-byte size s e = rw (lt-leb size (s .target) (ltb-true _ _ (and-left _ _ e)), and-right (ltb (s .target) size) _ e)
+
+only-first : (b x : Bool) → cond b x false ≡ true → b ≡ true
+only-first true x e = refl
+only-first false x e = e
+
+-- a well-formed step of no lamp and not of RAM is one of EEPROM
+pub formed-eeprom : (s : Step) → wellFormed s ≡ true → isLamp (s .kind) ≡ false → eqb (s .kind) ramKind ≡ false → eqb (s .kind) eepromKind ≡ true
+unfolding wellFormed
+formed-eeprom s g l r = only-first (eqb (s .kind) eepromKind) (byteFormed (sizeOf Eeprom) s) (rw (l, r) at g)
+
+-- exactly the steps that the compiler accepts are well-formed for the step machine
+pub good-formed : (s : Step) → Good s ↔ (wellFormed s ≡ true)
+unfolding wellFormed stepFault
+good-formed s =
+    by-test (isLamp (s .kind))
+    (λ l. (
+      λ g. rw l (lamp-formed s (lamp-good s g (ltb-true _ _ l))),
+      λ f. rw (l, formed-lamp s (rw l at f)),
+    ))
+    (λ l. by-test (eqb (s .kind) ramKind)
+    (λ r. (
+      λ g. rw (l, r) (byte-formed (sizeOf Ram) s (ram-good s g (eqb-true _ _ r))),
+      λ f. rw (l, r, formed-byte (sizeOf Ram) s (rw (l, r) at f)),
+    ))
+    (λ r. by-test (eqb (s .kind) eepromKind)
+    (λ e. (
+      λ g. rw (l, r, e) (byte-formed (sizeOf Eeprom) s (eeprom-good s g (omega (arith, eqb-true (s .kind) eepromKind e)) .1)),
+      λ f. rw (l, r, e, formed-byte (sizeOf Eeprom) s (rw (l, r, e) at f)),
+    ))
+    (λ e. (λ g. rw (l, r, e) (rw (l, r, e) at g), λ f. rw (l, r, e) (rw (l, r, e) at f)))))
 
 bad-told : {j : ℕ} → _≡_ {A = Option ℕ} (some j) none → ⊥
 bad-told e = let z : _≡_ {A = ℕ} 0 1 = cc in absurd (omega arith)

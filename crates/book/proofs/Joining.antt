@@ -7,17 +7,18 @@ use native.Mathlib.Nat.{add-comm, sub-zero}
 use native.Mathlib.Numerals.{add-one}
 use native.Mathlib.Omega.{arith}
 use lib.ListN.{length, drop, getD, take, drop-of-length-le}
-use lib.Dec.{eqb, ltb, leb}
+use lib.Dec.{eqb, leb}
 use lib.Seq.{take-suc, getD-drop, drop-drop}
 use borrow.Author.Tests.{le-leb, lt-leb, leb-true}
 use Rattle.dpa.proofs.Bool.{by-test, by-cond, and-right}
 use Rattle.dpa.proofs.Lists.{to-end}
 use Rattle.book.specs.declared.step.Step.{Step}
-use Rattle.book.specs.Book.{stepsIn}
+use Rattle.book.specs.Book.{stepLength, stepsIn}
+use Rattle.book.specs.Step.{isLamp}
 use Rattle.book.specs.Group.{grow}
 use Rattle.book.specs.Entry.{runData, entryData, powerBytes}
 use Rattle.book.specs.Join.{joins, entriesOf, follows, lastOf}
-use Rattle.book.specs.Run.{stepAt, stepSize, powerSize, firstSize, joinedSize, FirstRun}
+use Rattle.book.specs.Run.{stepAt, stepSize, powerSize, firstSize, oneStepMax, joinedSize, FirstRun}
 use Rattle.book.proofs.Sizes.{data-length}
 use Rattle.book.proofs.Groups.{begin, joined-on, left-off}
 
@@ -26,21 +27,21 @@ none = record { kind = 0; target = 0; value = 0; time = 0 }
 
 pub steps-length : (n : ℕ) (bs : List ℕ) → length (stepsIn n bs) ≡ n
 steps-length zero bs = refl
-steps-length (suc n) bs = ap suc (steps-length n (drop 4 bs))
+steps-length (suc n) bs = ap suc (steps-length n (drop stepLength bs))
 
 -- ---- the steps of the bytes
-pub next : (bs : List ℕ) (i : ℕ) → stepAt (drop 4 bs) i ≡ stepAt bs (suc i)
+pub next : (bs : List ℕ) (i : ℕ) → stepAt (drop stepLength bs) i ≡ stepAt bs (suc i)
 next bs i =
-    let e0 : 4 * suc i ≡ 4 + 4 * i = omega arith in
-    let e1 : 4 * suc i + 1 ≡ 4 + (4 * i + 1) = omega arith in
-    let e2 : 4 * suc i + 2 ≡ 4 + (4 * i + 2) = omega arith in
-    let e3 : 4 * suc i + 3 ≡ 4 + (4 * i + 3) = omega arith in
-    rw (e1, e2, e3, e0, getD-drop 4 bs (4 * i) 0, getD-drop 4 bs (4 * i + 1) 0, getD-drop 4 bs (4 * i + 2) 0, getD-drop 4 bs (4 * i + 3) 0)
+    let e0 : stepLength * suc i ≡ stepLength + stepLength * i = omega arith in
+    let e1 : stepLength * suc i + 1 ≡ stepLength + (stepLength * i + 1) = omega arith in
+    let e2 : stepLength * suc i + 2 ≡ stepLength + (stepLength * i + 2) = omega arith in
+    let e3 : stepLength * suc i + 3 ≡ stepLength + (stepLength * i + 3) = omega arith in
+    rw (e1, e2, e3, e0, getD-drop stepLength bs (stepLength * i) 0, getD-drop stepLength bs (stepLength * i + 1) 0, getD-drop stepLength bs (stepLength * i + 2) 0, getD-drop stepLength bs (stepLength * i + 3) 0)
 
 pub steps-at : (n : ℕ) (bs : List ℕ) (i : ℕ) → i < n → getD (stepsIn n bs) i none ≡ stepAt bs i
 steps-at zero bs i h = absurd (omega arith)
 steps-at (suc n) bs zero h = refl
-steps-at (suc n) bs (suc i) h = steps-at n (drop 4 bs) i (omega arith) ∙ next bs i
+steps-at (suc n) bs (suc i) h = steps-at n (drop stepLength bs) i (omega arith) ∙ next bs i
 
 -- ---- joining along a scene's steps
 last-at : (p : Step) (ss : List Step) (k : ℕ) → k ≤ length ss → lastOf p (take k ss) ≡ getD (p ∷ ss) k none
@@ -69,14 +70,14 @@ pub size-one : (ss : List Step) → 0 < length ss → length (runData (take 1 ss
 unfolding entryData powerBytes stepSize powerSize firstSize
 size-one [] h = absurd (omega arith)
 size-one (p ∷ ss) h =
-    by-test (ltb (p .kind) 3)
+    by-test (isLamp (p .kind))
     (λ e. rw e (by-test (eqb (p .time) 0) (λ t. rw t) (λ t. rw t)))
     (λ e. rw e)
 
 step-pos : (k : ℕ) (s : Step) → 1 ≤ stepSize k s
 unfolding stepSize powerSize
 step-pos k s =
-    by-cond (λ (m : ℕ). 1 ≤ m) (ltb k 3) _ _
+    by-cond (λ (m : ℕ). 1 ≤ m) (isLamp k) _ _
     (λ _. by-cond (λ (m : ℕ). 1 ≤ m) (eqb (s .time) 0) _ _ (λ _. omega arith) (λ _. omega arith)) (λ _. omega arith)
 
 -- ---- joined_size
@@ -100,7 +101,7 @@ module _ (entryMost : ℕ) where
       (1 ≤ k) × (k ≤ n) × (size ≤ entryMost) × (size ≡ length (runData (take k (stepsIn n a))))
       × (entriesOf entryMost (stepsIn n a) ≡ grow (joins entryMost) (take k (stepsIn n a)) (drop k (stepsIn n a)))
 
-  pub run-start : 6 ≤ entryMost → (n : ℕ) (a : List ℕ) (size : ℕ) → 0 < n → size ≡ firstSize (stepAt a 0) → size ≤ 6 → At n a 1 size
+  pub run-start : oneStepMax ≤ entryMost → (n : ℕ) (a : List ℕ) (size : ℕ) → 0 < n → size ≡ firstSize (stepAt a 0) → size ≤ oneStepMax → At n a 1 size
   run-start six n a size h e small =
       let ss = stepsIn n a in
       let long : 0 < length ss = omega (arith, steps-length n a) in
@@ -148,23 +149,23 @@ module _ (entryMost : ℕ) where
         (λ b. absurd (z (given ∙ rw b)))
 
 -- ---- the steps from step d on
-pub steps-drop : (n d : ℕ) (a : List ℕ) → d ≤ n → stepsIn (n - d) (drop (4 * d) a) ≡ drop d (stepsIn n a)
+pub steps-drop : (n d : ℕ) (a : List ℕ) → d ≤ n → stepsIn (n - d) (drop (stepLength * d) a) ≡ drop d (stepsIn n a)
 steps-drop n zero a h = rw (sub-zero n)
 steps-drop zero (suc d) a h = absurd (omega arith)
 steps-drop (suc n) (suc d) a h =
     let e : suc n - suc d ≡ n - d = omega arith in
-    let f : 4 * suc d ≡ 4 + 4 * d = omega arith in
-    rw (e, f, ← (drop-drop (4 * d) 4 a)) (steps-drop n d (drop 4 a) (omega arith))
+    let f : stepLength * suc d ≡ stepLength + stepLength * d = omega arith in
+    rw (e, f, ← (drop-drop (stepLength * d) stepLength a)) (steps-drop n d (drop stepLength a) (omega arith))
 
 pub run-part : (entryMost n d : ℕ) (a : List ℕ) (k size : ℕ) → d ≤ n
-    → FirstRun entryMost (stepsIn (n - d) (take (length a - 4 * d) (drop (4 * d) a))) k size → FirstRun entryMost (drop d (stepsIn n a)) k size
-run-part entryMost n d a k size h f = rw (to-end (4 * d) a, steps-drop n d a h) at f
+    → FirstRun entryMost (stepsIn (n - d) (take (length a - stepLength * d) (drop (stepLength * d) a))) k size → FirstRun entryMost (drop d (stepsIn n a)) k size
+run-part entryMost n d a k size h f = rw (to-end (stepLength * d) a, steps-drop n d a h) at f
 
 -- the first k steps
 steps-take : (n k : ℕ) (a : List ℕ) → k ≤ n → take k (stepsIn n a) ≡ stepsIn k a
 steps-take n zero a h = refl
 steps-take zero (suc k) a h = absurd (omega arith)
-steps-take (suc n) (suc k) a h = ap (λ (l : List Step). stepAt a 0 ∷ l) (steps-take n k (drop 4 a) (omega arith))
+steps-take (suc n) (suc k) a h = ap (λ (l : List Step). stepAt a 0 ∷ l) (steps-take n k (drop stepLength a) (omega arith))
 
-pub steps-part : (n i k : ℕ) (a : List ℕ) → i + k ≤ n → take k (drop i (stepsIn n a)) ≡ stepsIn k (drop (4 * i) a)
-steps-part n i k a h = rw (← (steps-drop n i a (omega arith))) (steps-take (n - i) k (drop (4 * i) a) (omega arith))
+pub steps-part : (n i k : ℕ) (a : List ℕ) → i + k ≤ n → take k (drop i (stepsIn n a)) ≡ stepsIn k (drop (stepLength * i) a)
+steps-part n i k a h = rw (← (steps-drop n i a (omega arith))) (steps-take (n - i) k (drop (stepLength * i) a) (omega arith))

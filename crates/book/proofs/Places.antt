@@ -13,18 +13,18 @@ use Rattle.lights.specs.Lamp.{off}
 use Rattle.lights.specs.declared.lamp.Lamp.{Lamp}
 use Rattle.handler.specs.Request.{State}
 use Rattle.book.specs.declared.step.Step.{Step}
-use Rattle.book.specs.Step.{goodStep}
-use Rattle.book.specs.Machine.{machineLamp, machineLamps, machineEffect, machineStep, machine}
-use Rattle.book.proofs.Faults.{eeprom-good}
+use Rattle.book.specs.Step.{ramKind, eepromKind, isLamp}
+use Rattle.book.specs.Machine.{wellFormed, machineLamp, machineLamps, machineEffect, machineStep, machine}
+use Rattle.book.proofs.Faults.{formed-eeprom}
 
 -- lamp k of a node with `count` lamps after a step, from lamp k before it
 unfoldable pub lampPlace : Step → ℕ → ℕ → Lamp → Lamp
 lampPlace s count k l =
-    cond (goodStep s && (ltb (s .kind) 3 && (ltb (s .target) count && eqb k (s .target)))) (machineLamp s l) l
+    cond (wellFormed s && (isLamp (s .kind) && (ltb (s .target) count && eqb k (s .target)))) (machineLamp s l) l
 
 -- byte k of the memory that this kind writes, from byte k before
 unfoldable pub bytePlace : ℕ → Step → ℕ → ℕ → ℕ
-bytePlace kind s k b = cond (goodStep s && (eqb (s .kind) kind && eqb k (s .target))) (s .value) b
+bytePlace kind s k b = cond (wellFormed s && (eqb (s .kind) kind && eqb k (s .target))) (s .value) b
 
 set-place : {A : Type 0} (l : List A) (i k : ℕ) (a d : A) → k < length l → getD (set l i a) k d ≡ cond (eqb k i) a (getD l k d)
 set-place l i k a d h =
@@ -48,47 +48,46 @@ module _ (s : Step) (st : State) where
   step-lamp k h =
       let n = st .node in
       let t = s .target in
-      by-test (goodStep s)
-      (λ g. rw g (by-test (ltb (s .kind) 3)
+      by-test (wellFormed s)
+      (λ g. rw g (by-test (isLamp (s .kind))
       (λ e. rw e (by-test (ltb t (n .settings .«lamp_count»))
       (λ c. rw c (by-test (eqb k t)
       (λ q. let z : k ≡ t = eqb-true k t q in rw (q, z) (getD-set-same (n .lamps) t (machineLamp s (getD (n .lamps) t off)) off (rw z at h)))
       (λ q. rw q (getD-set-other (n .lamps) t k (machineLamp s (getD (n .lamps) t off)) off (eqb-false k t q)))))
       (λ c. rw c)))
-      (λ e. rw e (by-test (eqb (s .kind) 3) (λ r. rw r) (λ r. rw r)))))
+      (λ e. rw e (by-test (eqb (s .kind) ramKind) (λ r. rw r) (λ r. rw r)))))
       (λ g. rw g)
 
   -- a byte of RAM
-  pub step-ram : (k : ℕ) → k < length (st .node .ram) → getD (machineStep s st .node .ram) k 0 ≡ bytePlace 3 s k (getD (st .node .ram) k 0)
+  pub step-ram : (k : ℕ) → k < length (st .node .ram) → getD (machineStep s st .node .ram) k 0 ≡ bytePlace ramKind s k (getD (st .node .ram) k 0)
   unfolding machineStep machineEffect bytePlace
   step-ram k h =
-      by-test (goodStep s)
-      (λ g. rw g (by-test (ltb (s .kind) 3)
-      (λ e. rw (e, ne-eqb (s .kind) 3 (λ z. omega (arith, ltb-true (s .kind) 3 e))))
-      (λ e. rw e (by-test (eqb (s .kind) 3)
+      by-test (wellFormed s)
+      (λ g. rw g (by-test (isLamp (s .kind))
+      (λ e. rw (e, ne-eqb (s .kind) ramKind (λ z. omega (arith, ltb-true (s .kind) ramKind e))))
+      (λ e. rw e (by-test (eqb (s .kind) ramKind)
       (λ r. rw r (set-place (st .node .ram) (s .target) k (s .value) 0 h))
       (λ r. rw r)))))
       (λ g. rw g)
 
   -- a byte of EEPROM
-  pub step-eeprom : (k : ℕ) → k < length (st .eeprom) → getD (machineStep s st .eeprom) k 0 ≡ bytePlace 4 s k (getD (st .eeprom) k 0)
+  pub step-eeprom : (k : ℕ) → k < length (st .eeprom) → getD (machineStep s st .eeprom) k 0 ≡ bytePlace eepromKind s k (getD (st .eeprom) k 0)
   unfolding machineStep machineEffect bytePlace
   step-eeprom k h =
-      by-test (goodStep s)
-      (λ g. rw g (by-test (ltb (s .kind) 3)
-      (λ e. rw (e, ne-eqb (s .kind) 4 (λ z. omega (arith, ltb-true (s .kind) 3 e))))
-      (λ e. rw e (by-test (eqb (s .kind) 3)
-      (λ r. rw (r, ne-eqb (s .kind) 4 (λ z. omega (arith, eqb-true (s .kind) 3 r))))
-      (λ r. let q = eeprom-good s g (omega (arith, ltb-false (s .kind) 3 e, eqb-false (s .kind) 3 r)) in
-      rw (r, eq-eqb (s .kind) 4 (q .0)) (set-place (st .eeprom) (s .target) k (s .value) 0 h))))))
+      by-test (wellFormed s)
+      (λ g. rw g (by-test (isLamp (s .kind))
+      (λ e. rw (e, ne-eqb (s .kind) eepromKind (λ z. omega (arith, ltb-true (s .kind) ramKind e))))
+      (λ e. rw e (by-test (eqb (s .kind) ramKind)
+      (λ r. rw (r, ne-eqb (s .kind) eepromKind (λ z. omega (arith, eqb-true (s .kind) ramKind r))))
+      (λ r. rw (r, formed-eeprom s g e r) (set-place (st .eeprom) (s .target) k (s .value) 0 h))))))
       (λ g. rw g)
 
   -- the rest
   pub step-stays : Stays st (machineStep s st)
   unfolding machineStep machineEffect machineLamps
   step-stays =
-      by-cond (Stays st) (goodStep s) _ _
-      (λ _. by-cond (Stays st) (ltb (s .kind) 3) _ _
+      by-cond (Stays st) (wellFormed s) _ _
+      (λ _. by-cond (Stays st) (isLamp (s .kind)) _ _
       (λ _. record {
         settings = refl;
         external = refl;
@@ -97,7 +96,7 @@ module _ (s : Step) (st : State) where
         ram-length = refl;
         eeprom-length = refl;
       })
-      (λ _. by-cond (Stays st) (eqb (s .kind) 3) _ _
+      (λ _. by-cond (Stays st) (eqb (s .kind) ramKind) _ _
       (λ _. record { settings = refl; external = refl; lamps-length = refl; ram-length = length-set (st .node .ram) (s .target) (s .value); eeprom-length = refl })
       (λ _. record { settings = refl; external = refl; lamps-length = refl; ram-length = refl; eeprom-length = length-set (st .eeprom) (s .target) (s .value) })))
       (λ _. record { settings = refl; external = refl; lamps-length = refl; ram-length = refl; eeprom-length = refl })

@@ -4,14 +4,16 @@ use mathlib.Core.List.{List, [], _∷_, _++_}
 use mathlib.Core.Path.{_≡_}
 use Prim.Native.Nat.{ℕ, _≤_}
 use native.Mathlib.Omega.{arith}
-use lib.Dec.{eqb, ltb}
+use lib.Dec.{eqb}
 use lib.ListN.{length}
 use borrow.Author.Tests.{leb-true}
 use Rattle.dpa.proofs.Bool.{by-test, and-left, and-right}
 use Rattle.batch.specs.Batch.{All}
 use Rattle.book.specs.declared.step.Step.{Step}
+use Rattle.book.specs.Step.{isLamp}
 use Rattle.book.specs.Entry.{powerBytes, entryData}
 use Rattle.book.specs.Join.{lastOf, follows, joins, entriesOf}
+use Rattle.book.specs.Run.{oneStepMax}
 use Rattle.book.specs.Group.{joined}
 use Rattle.book.proofs.Groups.{all-group, joined-group}
 use Rattle.book.proofs.Faults.{Good}
@@ -31,14 +33,14 @@ linked-snoc p [] x l g f = (g, f, tt)
 linked-snoc p (s ∷ ss) x l g f = (l .0, l .1, linked-snoc s ss x (l .2) g f)
 
 -- an entry of one step is short
-one-length : (s : Step) → length (entryData s []) ≤ 6
+one-length : (s : Step) → length (entryData s []) ≤ oneStepMax
 unfolding entryData powerBytes
 one-length s =
-    by-test (ltb (s .kind) 3)
+    by-test (isLamp (s .kind))
     (λ e. rw e (by-test (eqb (s .time) 0) (λ t. rw t (omega arith)) (λ t. rw t (omega arith))))
     (λ e. rw e (omega arith))
 
-module _ (entryMost : ℕ) (six : 6 ≤ entryMost) where
+module _ (entryMost : ℕ) (one : oneStepMax ≤ entryMost) where
   run-one : (s : Step) → Good s → Run entryMost (s ∷ [])
   run-one s g = (g, tt, omega (arith, one-length s))
 

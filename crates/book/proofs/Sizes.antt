@@ -3,10 +3,11 @@ use mathlib.Core.List.{List, [], _∷_, _++_}
 use mathlib.Core.Path.{_≡_, refl}
 use Prim.Native.Nat.{_+_}
 use native.Mathlib.Omega.{arith}
-use lib.Dec.{eqb, ltb}
+use lib.Dec.{eqb}
 use lib.ListN.{length, length-append}
 use Rattle.dpa.proofs.Bool.{by-test}
 use Rattle.book.specs.declared.step.Step.{Step}
+use Rattle.book.specs.Step.{isLamp}
 use Rattle.book.specs.Entry.{powerBytes, powersBytes, values, entryData, runData}
 use Rattle.book.specs.Run.{powerSize, stepSize}
 
@@ -27,6 +28,6 @@ values-more (s ∷ ss) x = omega (arith, values-more ss x)
 pub data-length : (p : Step) (ps : List Step) (x : Step) → length (runData ((p ∷ ps) ++ (x ∷ []))) ≡ length (runData (p ∷ ps)) + stepSize (p .kind) x
 unfolding entryData stepSize
 data-length p ps x =
-    by-test (ltb (p .kind) 3)
+    by-test (isLamp (p .kind))
     (λ e. rw e (omega (arith, powers-length (p ∷ ps) x)))
     (λ e. rw e (omega (arith, values-more (p ∷ ps) x)))

@@ -1,4 +1,5 @@
--- Laws of writing one run of bytes behind another.
+-- Laws of writing one run of bytes after another.
+use mathlib.Core.Bool.{true, false}
 use mathlib.Core.List.{List, [], _∷_, _++_, append-assoc, append-nil}
 use mathlib.Core.Path.{_≡_, refl, sym, ap, _∙_}
 use Prim.Native.Nat.{ℕ, zero, suc, _+_, _*_, _^_, _≤_, _<_}
@@ -7,10 +8,11 @@ use native.Mathlib.Numerals.{add-one}
 use native.Mathlib.Omega.{arith}
 use lib.ListN.{length, getD, take, drop, set, length-append, take-append-drop}
 use lib.Seq.{sets, length-sets, take-suc, drop-cons, take-all, length-take-le}
-use borrow.Author.Tests.{eq-eqb, ne-eqb, lt-ltb, le-ltb}
+use borrow.Author.Tests.{eq-eqb, ne-eqb}
 use Rattle.batch.specs.Batch.{entryBytes}
 use Rattle.book.specs.declared.step.Step.{Step}
 use Rattle.book.specs.Book.{stepsIn}
+use Rattle.book.specs.Step.{isLamp}
 use Rattle.book.specs.Entry.{powerBytes, powersBytes, values, bitmapOf, fourBytes, joinedItem, entryData, runData}
 use Rattle.book.specs.Run.{stepAt, headBytes}
 use Rattle.book.proofs.Joining.{steps-length, none, steps-at}
@@ -52,7 +54,7 @@ room n a i h =
       length-append (powerBytes (stepAt a i)) (powersBytes (drop (suc i) ss)),
     )
 
--- ---- the loop of write_powers: i steps are written, and w is the place behind them
+-- ---- the loop of write_powers: i steps are written, and w is the place after them
 abbrev pub Put : ℕ → List ℕ → List ℕ → ℕ → ℕ → ℕ → List ℕ → Type 0
 Put n a old at i w out =
     (i ≤ n) × (w ≡ at + length (powersBytes (take i (stepsIn n a)))) × (out ≡ sets old at (powersBytes (take i (stepsIn n a))))
@@ -127,7 +129,7 @@ map-end n a i m q h =
     let t : take i (stepsIn n a) ≡ stepsIn n a = take-all i (stepsIn n a) (omega (arith, steps-length n a)) in
     rw t at (q .1)
 
--- ---- one run of bytes behind another
+-- ---- one run of bytes after another
 pub put-two : (out out′ out″ xs ys zs : List ℕ) (at w r : ℕ) → out′ ≡ sets out at xs → w ≡ at + length xs → out″ ≡ sets out′ w ys
     → r ≡ w + length ys → zs ≡ xs ++ ys
     → (r ≡ at + length zs) × (out″ ≡ sets out at zs)
@@ -138,16 +140,16 @@ pub sets-keep : (out out′ xs : List ℕ) (at : ℕ) → out′ ≡ sets out at
 sets-keep out out′ xs at e = ap length e ∙ length-sets out at xs
 
 -- ---- an entry's PData by its kind, and an entry's bytes
-pub data-lamp : (n : ℕ) (a : List ℕ) → 0 < n → stepAt a 0 .kind < 3
+pub data-lamp : (n : ℕ) (a : List ℕ) → 0 < n → isLamp (stepAt a 0 .kind) ≡ true
     → runData (stepsIn n a) ≡ fourBytes (bitmapOf (stepsIn n a)) ++ powersBytes (stepsIn n a)
 unfolding entryData
 data-lamp zero a h k = absurd (omega arith)
-data-lamp (suc n) a h k = rw (lt-ltb (stepAt a 0 .kind) 3 k)
+data-lamp (suc n) a h k = rw k
 
-pub data-mem : (n : ℕ) (a : List ℕ) → 0 < n → 3 ≤ stepAt a 0 .kind → runData (stepsIn n a) ≡ (stepAt a 0 .target ∷ []) ++ values (stepsIn n a)
+pub data-mem : (n : ℕ) (a : List ℕ) → 0 < n → isLamp (stepAt a 0 .kind) ≡ false → runData (stepsIn n a) ≡ (stepAt a 0 .target ∷ []) ++ values (stepsIn n a)
 unfolding entryData
 data-mem zero a h k = absurd (omega arith)
-data-mem (suc n) a h k = rw (le-ltb (stepAt a 0 .kind) 3 k)
+data-mem (suc n) a h k = rw k
 
 pub values-count : (n : ℕ) (a : List ℕ) → length (values (stepsIn n a)) ≡ n
 values-count n a = values-length (stepsIn n a) ∙ steps-length n a

@@ -8,14 +8,28 @@ use Rattle.dpa.specs.Number.{wordAt}
 use Rattle.book.specs.declared.contents.Content.{Content}
 use Rattle.book.specs.declared.step.Step.{Step}
 
+-- at most this many scenes in a book, and steps in a scene
+abbrev pub scenesMax : ℕ
+scenesMax = 16
+
+abbrev pub stepsMax : ℕ
+stepsMax = 64
+
+-- bytes of a contents entry, and of a step
+abbrev pub contentLength : ℕ
+contentLength = 3
+
+abbrev pub stepLength : ℕ
+stepLength = 4
+
 -- a contents entry: where a scene's body starts, and how many steps it has
 abbrev pub content : ℕ → ℕ → Content
 content o n = record { offset = o; steps = n }
 
--- n contents entries of three bytes
+-- n contents entries
 abbrev pub contentsIn : ℕ → List ℕ → List Content
 contentsIn zero bs = []
-contentsIn (suc n) bs = content (wordAt bs 0) (getD bs 2 0) ∷ contentsIn n (drop 3 bs)
+contentsIn (suc n) bs = content (wordAt bs 0) (getD bs 2 0) ∷ contentsIn n (drop contentLength bs)
 
 -- the count of scenes, and their contents entries
 abbrev pub countOf : List ℕ → ℕ
@@ -24,22 +38,22 @@ countOf b = getD b 0 0
 abbrev pub contentsOf : List ℕ → List Content
 contentsOf b = contentsIn (countOf b) (drop 1 b)
 
--- the first body starts at `start`, each next where the last ended, the last ends at `end`; at most 64 steps each
+-- the first body starts at `start`, each next where the last ended, the last ends at `end`; none has too many steps
 unfoldable pub chained : ℕ → List Content → ℕ → Bool
 chained start [] end = eqb start end
-chained start (c ∷ cs) end = (eqb (c .offset) start && leb (c .steps) 64) && chained (start + 4 * c .steps) cs end
+chained start (c ∷ cs) end = (eqb (c .offset) start && leb (c .steps) stepsMax) && chained (start + stepLength * c .steps) cs end
 
--- at most 16 scenes, contents that lie in the book, and bodies that fill the rest of it
+-- not too many scenes, contents that lie in the book, and bodies that fill the rest of it
 unfoldable pub bookOk : List ℕ → Bool
 bookOk b =
-    leb 1 (length b) && leb (countOf b) 16 && leb (1 + 3 * countOf b) (length b)
-    && chained (1 + 3 * countOf b) (contentsOf b) (length b)
+    leb 1 (length b) && leb (countOf b) scenesMax && leb (1 + contentLength * countOf b) (length b)
+    && chained (1 + contentLength * countOf b) (contentsOf b) (length b)
 
--- n steps of four bytes
+-- n steps
 abbrev pub stepsIn : ℕ → List ℕ → List Step
 stepsIn zero bs = []
 stepsIn (suc n) bs =
-    record { kind = getD bs 0 0; target = getD bs 1 0; value = getD bs 2 0; time = getD bs 3 0 } ∷ stepsIn n (drop 4 bs)
+    record { kind = getD bs 0 0; target = getD bs 1 0; value = getD bs 2 0; time = getD bs 3 0 } ∷ stepsIn n (drop stepLength bs)
 
 -- the steps of scene k
 unfoldable pub sceneOf : List ℕ → ℕ → List Step

@@ -2,13 +2,14 @@
 use mathlib.Core.Bool.{cond}
 use mathlib.Core.List.{List, [], _∷_, _++_}
 use Prim.Native.Nat.{ℕ, _+_, _^_}
-use lib.Dec.{ltb, eqb}
+use lib.Dec.{eqb}
 use Rattle.dpa.specs.Number.{low, high}
 use Rattle.dpa.specs.Pnum.{lightsPnum}
 use Rattle.memory.specs.declared.block.Memory.the-variants.{Eeprom, Ram}
 use Rattle.memory.specs.Block.{memoryPnum}
 use Rattle.batch.specs.Batch.{Item, item}
 use Rattle.book.specs.declared.step.Step.{Step}
+use Rattle.book.specs.Step.{ramKind, isLamp}
 
 -- lamp k's bit for each step
 abbrev pub bitmapOf : List Step → ℕ
@@ -34,7 +35,7 @@ values (s ∷ ss) = s .value ∷ values ss
 -- the PData of the joined steps s ∷ ss: bitmap and powers for lamps, address and values for a memory
 unfoldable pub entryData : Step → List Step → List ℕ
 entryData s ss =
-    cond (ltb (s .kind) 3)
+    cond (isLamp (s .kind))
     (fourBytes (bitmapOf (s ∷ ss)) ++ powersBytes (s ∷ ss))
     (s .target ∷ values (s ∷ ss))
 
@@ -48,11 +49,11 @@ kindOf (s ∷ ss) = s .kind
 
 -- lights, RAM or EEPROM
 unfoldable pub pnumOf : ℕ → ℕ
-pnumOf k = cond (ltb k 3) lightsPnum (cond (eqb k 3) (memoryPnum Ram) (memoryPnum Eeprom))
+pnumOf k = cond (isLamp k) lightsPnum (cond (eqb k ramKind) (memoryPnum Ram) (memoryPnum Eeprom))
 
 -- set, raise, lower, or a memory's write
 unfoldable pub pcmdOf : ℕ → ℕ
-pcmdOf k = cond (ltb k 3) k 0x01
+pcmdOf k = cond (isLamp k) k 0x01
 
 -- the entry of joined steps for the profile h
 abbrev pub joinedItem : ℕ → List Step → Item

@@ -5,6 +5,7 @@ use Prim.Native.Nat.{ℕ, suc}
 use lib.Dec.{ltb, leb, eqb}
 use lib.ListN.{length}
 use Rattle.book.specs.declared.step.Step.{Step}
+use Rattle.book.specs.Step.{isLamp}
 use Rattle.book.specs.Entry.{runData}
 use Rattle.book.specs.Group.{group}
 
@@ -20,7 +21,7 @@ lastOf d (s ∷ ss) = lastOf s ss
 unfoldable pub follows : Step → Step → Bool
 follows p s =
     eqb (s .kind) (p .kind)
-    && cond (ltb (p .kind) 3) (ltb (p .target) (s .target)) (eqb (s .target) (suc (p .target)))
+    && cond (isLamp (p .kind)) (ltb (p .target) (s .target)) (eqb (s .target) (suc (p .target)))
 
 -- s joins the entry of the steps before it, whose PData stays at most `most`
 abbrev pub joins : ℕ → List Step → Step → Bool

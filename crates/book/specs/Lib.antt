@@ -5,3 +5,4 @@ pub mod Group
 pub mod Entry
 pub mod Join
 pub mod Run
+pub mod Examples

@@ -1,22 +1,44 @@
 -- Document 01, "Scenes": the step machine, which does steps singly. It is written from its own paragraph; with the lights
 -- request it shares the records and the replacing of their fields alone (`changed`, `off`, `withLamps`, `nodeIs`).
-use mathlib.Core.Bool.{cond, _||_}
+use mathlib.Core.Bool.{Bool, false, cond, _&&_, _||_}
 use mathlib.Core.List.{List, [], _∷_}
 use Prim.Native.Nat.{ℕ, _+_, _-_, _*_, _%_, min}
-use lib.Dec.{ltb, eqb}
+use lib.Dec.{ltb, leb, eqb}
 use lib.ListN.{getD, set}
+use Rattle.memory.specs.Block.{sizeOf}
+use Rattle.memory.specs.declared.block.Memory.the-variants.{Eeprom, Ram}
 use Rattle.lights.specs.Lamp.{changed, off}
 use Rattle.lights.specs.declared.lamp.Lamp.{Lamp}
 use Rattle.node.specs.Node.{withLamps, withRam}
 use Rattle.handler.specs.Request.{State, nodeIs, eepromIs}
 use Rattle.book.specs.declared.step.Step.{Step}
-use Rattle.book.specs.Step.{goodStep}
+use Rattle.book.specs.Step.{setKind, raiseKind, ramKind, eepromKind, isLamp, stepTimeOk}
 
--- the requested level: kind 0 the value, 1 the value more but at most 100, 2 the value less but at least 0
+-- ---- which steps are not bad. The machine has its own rule: it may do steps that the compiler refuses (`stepFault`).
+
+-- a lamp step: target under 32, value at most 100, time 0 or a valid time byte
+abbrev pub lampFormed : Step → Bool
+lampFormed s = ltb (s .target) 32 && leb (s .value) 100 && stepTimeOk (s .time)
+
+-- a step that writes a byte of a memory of this size: target in the memory, time 0
+abbrev pub byteFormed : ℕ → Step → Bool
+byteFormed size s = ltb (s .target) size && eqb (s .time) 0
+
+-- any other step is bad
+unfoldable pub wellFormed : Step → Bool
+wellFormed s =
+    cond (isLamp (s .kind)) (lampFormed s)
+    (cond (eqb (s .kind) ramKind) (byteFormed (sizeOf Ram) s)
+    (cond (eqb (s .kind) eepromKind) (byteFormed (sizeOf Eeprom) s)
+    false))
+
+-- ---- what a step does
+
+-- the requested level: set the value, raise the value more but at most 100, lower the value less but at least 0
 unfoldable pub machineLevel : ℕ → ℕ → ℕ → ℕ
 machineLevel kind level value =
-    cond (eqb kind 0) value
-    (cond (eqb kind 1) (min 100 (level + value))
+    cond (eqb kind setKind) value
+    (cond (eqb kind raiseKind) (min 100 (level + value))
     (level - value))
 
 -- the seconds: 0 for time 0 or new level 0, else 60 times a time up to 7F hex, else its low seven bits
@@ -44,13 +66,13 @@ machineByte s bytes = set bytes (s .target) (s .value)
 unfoldable pub machineEffect : Step → State → State
 machineEffect s st =
     let n = st .node in
-    cond (ltb (s .kind) 3) (nodeIs st (withLamps n (machineLamps s (n .settings .«lamp_count») (n .lamps))))
-    (cond (eqb (s .kind) 3) (nodeIs st (withRam n (machineByte s (n .ram))))
+    cond (isLamp (s .kind)) (nodeIs st (withLamps n (machineLamps s (n .settings .«lamp_count») (n .lamps))))
+    (cond (eqb (s .kind) ramKind) (nodeIs st (withRam n (machineByte s (n .ram))))
     (eepromIs st (machineByte s (st .eeprom))))
 
 -- a bad step changes nothing
 unfoldable pub machineStep : Step → State → State
-machineStep s st = cond (goodStep s) (machineEffect s st) st
+machineStep s st = cond (wellFormed s) (machineEffect s st) st
 
 -- steps in order
 abbrev pub machine : List Step → State → State

@@ -1,4 +1,4 @@
--- Document 01, "Scenes": which steps are bad, and by which part.
+-- Document 01, "Scenes": the kinds of steps, which steps are bad, and by which part.
 use mathlib.Core.Bool.{Bool, cond, not, _||_}
 use mathlib.Core.List.{List, [], _∷_}
 use mathlib.Core.Option.{Option, none, some}
@@ -8,11 +8,33 @@ use Rattle.memory.specs.Block.{sizeOf}
 use Rattle.memory.specs.declared.block.Memory.the-variants.{Eeprom, Ram}
 use Rattle.book.specs.declared.step.Step.{Step}
 
+-- ---- the kinds: set, raise or lower a lamp; write a byte of RAM or of EEPROM
+abbrev pub setKind : ℕ
+setKind = 0
+
+abbrev pub raiseKind : ℕ
+raiseKind = 1
+
+abbrev pub lowerKind : ℕ
+lowerKind = 2
+
+abbrev pub ramKind : ℕ
+ramKind = 3
+
+abbrev pub eepromKind : ℕ
+eepromKind = 4
+
+-- the kinds of lamp steps are the first three
+abbrev pub isLamp : ℕ → Bool
+isLamp k = ltb k ramKind
+
+-- ---- faults
+
 -- a lamp step's time: 0 for none, else all but 80 hex
 unfoldable pub stepTimeOk : ℕ → Bool
 stepTimeOk t = eqb t 0 || not (eqb (t % 128) 0)
 
--- the part of a step of kind 0, 1 or 2 that is bad: 2 target, 3 value, 4 time; 0 for none
+-- the part of a lamp step that is bad: 2 target, 3 value, 4 time; 0 for none
 unfoldable pub lampFault : Step → ℕ
 lampFault s =
     cond (leb 32 (s .target)) 2
@@ -30,9 +52,9 @@ byteFault size s =
 -- the same of any step; 1 is the kind
 unfoldable pub stepFault : Step → ℕ
 stepFault s =
-    cond (ltb (s .kind) 3) (lampFault s)
-    (cond (eqb (s .kind) 3) (byteFault (sizeOf Ram) s)
-    (cond (eqb (s .kind) 4) (byteFault (sizeOf Eeprom) s)
+    cond (isLamp (s .kind)) (lampFault s)
+    (cond (eqb (s .kind) ramKind) (byteFault (sizeOf Ram) s)
+    (cond (eqb (s .kind) eepromKind) (byteFault (sizeOf Eeprom) s)
     1))
 
 abbrev pub goodStep : Step → Bool

@@ -1,7 +1,10 @@
 // The bytes of an entry of joined steps.
+use crate::kind::WRITE_RAM;
+use crate::kind::is_lamp;
 use crate::power::bitmap_of;
 use crate::power::write_bitmap;
 use crate::power::write_powers;
+use crate::step::STEP_LENGTH;
 use crate::step::step_at;
 use batch::entry::HEAD;
 use dpa::pnum;
@@ -9,15 +12,15 @@ ghost use mathlib.Core.Path.{_≡_};
 ghost use Prim.Native.Nat.{_+_, _*_, _≤_, _<_};
 ghost use lib.ListN.{length, drop};
 ghost use lib.Seq.{sets};
+ghost use Rattle.dpa.specs.Frame.{pdataMax};
 ghost use Rattle.batch.specs.Batch.{entryBytes};
-ghost use Rattle.book.specs.Book.{stepsIn};
+ghost use Rattle.book.specs.Book.{stepsMax, stepLength, stepsIn};
 ghost use Rattle.book.specs.Entry.{values, runData, pnumOf, pcmdOf, joinedItem};
-ghost use Rattle.book.specs.Join.{entryLimit};
 ghost use Rattle.book.specs.Run.{Writable, headBytes};
 
 // The values of `count` steps.
 fn write_values(body: &[u8], count: usize, out: &mut [u8], at: usize) -> usize
-    requires { ⌜ (4 * count ≤ length (now body)) × (count ≤ 64) × (at + count ≤ length (now out)) ⌝ }
+    requires { ⌜ (stepLength * count ≤ length (now body)) × (count ≤ stepsMax) × (at + count ≤ length (now out)) ⌝ }
     ensures { λ r. ⌜ (r ≡ at + count) × (now (out .exit) ≡ sets (now (out .entry)) at (values (stepsIn count (now (body .entry))))) ⌝ }
 {
     let mut i: usize = 0;
@@ -32,21 +35,25 @@ fn write_values(body: &[u8], count: usize, out: &mut [u8], at: usize) -> usize
 fn pnum_of(kind: u8) -> u8
     ensures { λ r. ⌜ r ≡ pnumOf kind ⌝ }
 {
-    if kind < 3 {
+    if is_lamp(kind) {
         return pnum::LIGHTS;
     }
-    if kind == 3 { pnum::RAM } else { pnum::EEPROM }
+    if kind == WRITE_RAM {
+        pnum::RAM
+    } else {
+        pnum::EEPROM
+    }
 }
 
 fn pcmd_of(kind: u8) -> u8
     ensures { λ r. ⌜ r ≡ pcmdOf kind ⌝ }
 {
-    if kind < 3 { kind } else { 1 }
+    if is_lamp(kind) { kind } else { 1 }
 }
 
 // An entry's five bytes in front of its PData.
 fn write_head(kind: u8, hwpid: u16, size: usize, out: &mut [u8], at: usize) -> usize
-    requires { ⌜ (at + 5 ≤ length (now out)) × (size ≤ entryLimit) ⌝ }
+    requires { ⌜ (at + 5 ≤ length (now out)) × (size ≤ pdataMax) ⌝ }
     ensures { λ r. ⌜ (r ≡ at + 5) × (now (out .exit) ≡ sets (now (out .entry)) at (headBytes kind hwpid size)) ⌝ }
 {
     out[at] = (HEAD + size) as u8;
@@ -59,14 +66,14 @@ fn write_head(kind: u8, hwpid: u16, size: usize, out: &mut [u8], at: usize) -> u
 
 // The PData of an entry of `count` joined steps.
 fn write_pdata(body: &[u8], count: usize, out: &mut [u8], at: usize) -> usize
-    requires { ⌜ (4 * count ≤ length (now body)) × (0 < count) × (count ≤ 64) × (at + length (runData (stepsIn count (now body))) ≤ length (now out))
+    requires { ⌜ (stepLength * count ≤ length (now body)) × (0 < count) × (count ≤ stepsMax) × (at + length (runData (stepsIn count (now body))) ≤ length (now out))
         × Writable (now body) count ⌝ }
     ensures { λ r. ⌜ (r ≡ at + length (runData (stepsIn count (now (body .entry)))))
         × (now (out .exit) ≡ sets (now (out .entry)) at (runData (stepsIn count (now (body .entry))))) ⌝ }
 {
     let step = step_at(body, 0);
     let kind = step.kind;
-    if kind < 3 {
+    if is_lamp(kind) {
         let bitmap = bitmap_of(body, count);
         let end = write_bitmap(bitmap, out, at);
         return write_powers(body, count, out, end);
@@ -84,7 +91,7 @@ fn write_entry(
     out: &mut [u8],
     at: usize,
 ) -> usize
-    requires { ⌜ (4 * count ≤ length (now body)) × (0 < count) × (count ≤ 64) × (size ≤ entryLimit)
+    requires { ⌜ (stepLength * count ≤ length (now body)) × (0 < count) × (count ≤ stepsMax) × (size ≤ pdataMax)
         × (size ≡ length (runData (stepsIn count (now body)))) × (at + 5 + size ≤ length (now out)) × Writable (now body) count ⌝ }
     ensures { λ r. ⌜ (r ≡ at + 5 + size)
         × (now (out .exit) ≡ sets (now (out .entry)) at (entryBytes (joinedItem hwpid (stepsIn count (now (body .entry)))))) ⌝ }
@@ -104,12 +111,12 @@ pub fn write_entry_at(
     out: &mut [u8],
     at: usize,
 ) -> usize
-    requires { ⌜ (4 * (done + taken) ≤ length (now body)) × (0 < taken) × (done + taken ≤ 64) × (size ≤ entryLimit)
-        × (size ≡ length (runData (stepsIn taken (drop (4 * done) (now body))))) × (at + 5 + size ≤ length (now out))
-        × Writable (drop (4 * done) (now body)) taken ⌝ }
+    requires { ⌜ (stepLength * (done + taken) ≤ length (now body)) × (0 < taken) × (done + taken ≤ stepsMax) × (size ≤ pdataMax)
+        × (size ≡ length (runData (stepsIn taken (drop (stepLength * done) (now body))))) × (at + 5 + size ≤ length (now out))
+        × Writable (drop (stepLength * done) (now body)) taken ⌝ }
     ensures { λ r. ⌜ (r ≡ at + 5 + size)
-        × (now (out .exit) ≡ sets (now (out .entry)) at (entryBytes (joinedItem hwpid (stepsIn taken (drop (4 * done) (now (body .entry))))))) ⌝ }
+        × (now (out .exit) ≡ sets (now (out .entry)) at (entryBytes (joinedItem hwpid (stepsIn taken (drop (stepLength * done) (now (body .entry))))))) ⌝ }
 {
-    let from = 4 * done;
+    let from = STEP_LENGTH * done;
     write_entry(&body[from..], taken, hwpid, size, out, at)
 }

@@ -1,23 +1,22 @@
 // Steps joined into entries.
+use crate::kind::is_lamp;
+use crate::step::STEP_LENGTH;
 use crate::step::Step;
 use crate::step::step_at;
 use dpa::number::wide;
 ghost use mathlib.Core.Path.{_≡_};
 ghost use Prim.Native.Nat.{_+_, _*_, _-_, _≤_, _<_};
 ghost use lib.ListN.{length, drop};
-ghost use Rattle.book.specs.Book.{stepsIn};
-ghost use Rattle.book.specs.Join.{follows, entryLimit};
-ghost use Rattle.book.specs.Run.{stepAt, stepSize, firstSize, joinedSize, FirstRun};
-
-// The longest PData of an entry.
-pub const LIMIT: usize = 50;
+ghost use Rattle.book.specs.Book.{stepsMax, stepLength, stepsIn};
+ghost use Rattle.book.specs.Join.{follows};
+ghost use Rattle.book.specs.Run.{EntryLimit, stepAt, stepSize, firstSize, joinedSize, FirstRun};
 
 // Whether a step may join an entry whose last step is `before`.
 fn may_follow(before: Step, step: Step) -> bool
     ensures { λ r. ⌜ r ≡ follows before step ⌝ }
 {
     if step.kind == before.kind {
-        if before.kind < 3 {
+        if is_lamp(before.kind) {
             before.target < step.target
         } else {
             wide(step.target) == wide(before.target) + 1
@@ -31,7 +30,7 @@ fn may_follow(before: Step, step: Step) -> bool
 fn step_size(kind: u8, step: Step) -> usize
     ensures { λ r. ⌜ (r ≡ stepSize kind step) × (r ≤ 2) ⌝ }
 {
-    if kind < 3 {
+    if is_lamp(kind) {
         if step.time == 0 { 1 } else { 2 }
     } else {
         1
@@ -43,43 +42,44 @@ fn first_size(step: Step) -> usize
     ensures { λ r. ⌜ (r ≡ firstSize step) × (r ≤ 6) ⌝ }
 {
     let kind = step.kind;
-    if kind < 3 {
+    if is_lamp(kind) {
         step_size(kind, step) + 4
     } else {
         step_size(kind, step) + 1
     }
 }
 
-// The length of an entry's PData of `size` bytes with the step behind its `taken` steps added, or 0 where that step does not join it.
-fn joined_size(body: &[u8], taken: usize, kind: u8, size: usize) -> usize
-    requires { ⌜ (0 < taken) × (4 * taken + 4 ≤ length (now body)) × (size ≤ entryLimit) × (taken ≤ 64) ⌝ }
-    ensures { λ r. ⌜ r ≡ joinedSize entryLimit (stepAt (now (body .entry)) (taken - 1)) (stepAt (now (body .entry)) taken) kind size ⌝ }
+// The length of an entry's PData of `size` bytes with the step after its `taken` steps added, or 0 where that step does not join it.
+fn joined_size(body: &[u8], taken: usize, kind: u8, size: usize, most: usize) -> usize
+    requires { ⌜ (0 < taken) × (stepLength * taken + stepLength ≤ length (now body)) × (size ≤ most) × (taken ≤ stepsMax) × EntryLimit most ⌝ }
+    ensures { λ r. ⌜ r ≡ joinedSize most (stepAt (now (body .entry)) (taken - 1)) (stepAt (now (body .entry)) taken) kind size ⌝ }
 {
     let before = step_at(body, taken - 1);
     let step = step_at(body, taken);
     let more = step_size(kind, step) + size;
-    if LIMIT < more {
+    if most < more {
         return 0;
     }
     if may_follow(before, step) { more } else { 0 }
 }
 
-// The first entry of a scene: its steps, and the length of its PData.
+// An entry: its steps, and the length of its PData.
 pub struct Run {
     pub steps: usize,
     pub size: usize,
 }
 
-pub fn run_of(body: &[u8], count: usize) -> Run
-    requires { ⌜ (4 * count ≤ length (now body)) × (0 < count) × (count ≤ 64) ⌝ }
-    ensures { λ r. ⌜ FirstRun entryLimit (stepsIn count (now (body .entry))) (r .steps) (r .size) ⌝ }
+// The first entry of a scene, with at most `most` bytes of PData.
+pub fn run_of(body: &[u8], count: usize, most: usize) -> Run
+    requires { ⌜ (stepLength * count ≤ length (now body)) × (0 < count) × (count ≤ stepsMax) × EntryLimit most ⌝ }
+    ensures { λ r. ⌜ FirstRun most (stepsIn count (now (body .entry))) (r .steps) (r .size) ⌝ }
 {
     let first = step_at(body, 0);
     let kind = first.kind;
     let mut size = first_size(first);
     let mut taken: usize = 1;
     while taken < count {
-        let more = joined_size(body, taken, kind, size);
+        let more = joined_size(body, taken, kind, size, most);
         if more == 0 {
             return Run { steps: taken, size };
         }
@@ -90,10 +90,10 @@ pub fn run_of(body: &[u8], count: usize) -> Run
 }
 
 // The entry that begins at step `done`.
-pub fn run_from(body: &[u8], count: usize, done: usize) -> Run
-    requires { ⌜ (4 * count ≤ length (now body)) × (done < count) × (count ≤ 64) ⌝ }
-    ensures { λ r. ⌜ FirstRun entryLimit (drop done (stepsIn count (now (body .entry)))) (r .steps) (r .size) ⌝ }
+pub fn run_from(body: &[u8], count: usize, done: usize, most: usize) -> Run
+    requires { ⌜ (stepLength * count ≤ length (now body)) × (done < count) × (count ≤ stepsMax) × EntryLimit most ⌝ }
+    ensures { λ r. ⌜ FirstRun most (drop done (stepsIn count (now (body .entry)))) (r .steps) (r .size) ⌝ }
 {
-    let from = 4 * done;
-    run_of(&body[from..], count - done)
+    let from = STEP_LENGTH * done;
+    run_of(&body[from..], count - done, most)
 }

@@ -3,5 +3,6 @@ pub mod contents;
 pub mod entry;
 pub mod fault;
 pub mod join;
+pub mod kind;
 pub mod power;
 pub mod step;

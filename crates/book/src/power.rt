@@ -5,11 +5,11 @@ ghost use mathlib.Core.Path.{_≡_};
 ghost use Prim.Native.Nat.{_+_, _*_, _^_, _≤_, _<_};
 ghost use lib.ListN.{length};
 ghost use lib.Seq.{sets};
-ghost use Rattle.book.specs.Book.{stepsIn};
+ghost use Rattle.book.specs.Book.{stepsMax, stepLength, stepsIn};
 ghost use Rattle.book.specs.Entry.{powerBytes, powersBytes, bitmapOf, fourBytes};
 ghost use Rattle.book.specs.Run.{Lamps};
 
-// Writes a step's power byte, and its time byte if it has one; returns the place behind them.
+// Writes a step's power byte, and its time byte if it has one; returns the place after them.
 fn write_power(step: Step, out: &mut [u8], at: usize) -> usize
     requires { ⌜ (step .value ≤ 100) × (at + length (powerBytes step) ≤ length (now out)) ⌝ }
     ensures { λ r. ⌜ (r ≡ at + length (powerBytes step)) × (now (out .exit) ≡ sets (now (out .entry)) at (powerBytes step)) ⌝ }
@@ -25,7 +25,7 @@ fn write_power(step: Step, out: &mut [u8], at: usize) -> usize
 
 // The power bytes of `count` steps.
 pub fn write_powers(body: &[u8], count: usize, out: &mut [u8], at: usize) -> usize
-    requires { ⌜ (4 * count ≤ length (now body)) × (count ≤ 64) × (at + length (powersBytes (stepsIn count (now body))) ≤ length (now out))
+    requires { ⌜ (stepLength * count ≤ length (now body)) × (count ≤ stepsMax) × (at + length (powersBytes (stepsIn count (now body))) ≤ length (now out))
         × Lamps (now body) count ⌝ }
     ensures { λ r. ⌜ (r ≡ at + length (powersBytes (stepsIn count (now (body .entry)))))
         × (now (out .exit) ≡ sets (now (out .entry)) at (powersBytes (stepsIn count (now (body .entry))))) ⌝ }
@@ -49,7 +49,7 @@ fn power_of_two(exponent: u8) -> u64
 
 // The bitmap of `count` lamp steps.
 pub fn bitmap_of(body: &[u8], count: usize) -> u64
-    requires { ⌜ (4 * count ≤ length (now body)) × (count ≤ 64) × Lamps (now body) count ⌝ }
+    requires { ⌜ (stepLength * count ≤ length (now body)) × (count ≤ stepsMax) × Lamps (now body) count ⌝ }
     ensures { λ r. ⌜ r ≡ bitmapOf (stepsIn count (now (body .entry))) ⌝ }
 {
     let mut bitmap: u64 = 0;

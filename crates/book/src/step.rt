@@ -1,5 +1,8 @@
 // One step of a scene, and what is bad about it.
 use crate::fault;
+use crate::kind::WRITE_EEPROM;
+use crate::kind::WRITE_RAM;
+use crate::kind::is_lamp;
 use dpa::number::wide;
 use memory::block::Memory;
 use memory::block::size_of;
@@ -10,11 +13,16 @@ ghost use Prim.Native.Nat.{_+_, _*_, _≤_};
 ghost use lib.ListN.{length};
 ghost use lib.Dec.{ltb};
 ghost use Rattle.memory.specs.Block.{sizeOf};
-ghost use Rattle.book.specs.Book.{stepsIn};
+ghost use Rattle.book.specs.Book.{stepsMax, stepLength, stepsIn};
 ghost use Rattle.book.specs.Step.{lampFault, byteFault, stepFault, badFrom};
 ghost use Rattle.book.specs.Run.{stepAt};
 
-// Kinds: 0 set, 1 raise, 2 lower a lamp; 3 writes a byte of RAM, 4 one of EEPROM.
+// The steps that a scene has at most.
+pub const STEPS_MAX: usize = 64;
+
+// The bytes of a step.
+pub const STEP_LENGTH: usize = 4;
+
 #[repr(C)]
 pub struct Step {
     pub kind: u8,
@@ -25,14 +33,14 @@ pub struct Step {
 
 // Step i of a scene's body.
 pub fn step_at(body: &[u8], i: usize) -> Step
-    requires { ⌜ 4 * i + 4 ≤ length (now body) ⌝ }
+    requires { ⌜ stepLength * i + stepLength ≤ length (now body) ⌝ }
     ensures { λ r. ⌜ r ≡ stepAt (now (body .entry)) i ⌝ }
 {
     Step {
-        kind: body[4 * i],
-        target: body[4 * i + 1],
-        value: body[4 * i + 2],
-        time: body[4 * i + 3],
+        kind: body[STEP_LENGTH * i],
+        target: body[STEP_LENGTH * i + 1],
+        value: body[STEP_LENGTH * i + 2],
+        time: body[STEP_LENGTH * i + 3],
     }
 }
 
@@ -70,13 +78,13 @@ fn byte_fault(memory: Memory, step: Step) -> u8
 pub fn step_fault(step: Step) -> u8
     ensures { λ r. ⌜ r ≡ stepFault step ⌝ }
 {
-    if step.kind < 3 {
+    if is_lamp(step.kind) {
         return lamp_fault(step);
     }
-    if step.kind == 3 {
+    if step.kind == WRITE_RAM {
         return byte_fault(Memory::Ram, step);
     }
-    if step.kind == 4 {
+    if step.kind == WRITE_EEPROM {
         return byte_fault(Memory::Eeprom, step);
     }
     fault::KIND
@@ -84,7 +92,7 @@ pub fn step_fault(step: Step) -> u8
 
 // The number of the first bad step, or `count`.
 pub fn first_bad(body: &[u8], count: usize) -> usize
-    requires { ⌜ (4 * count ≤ length (now body)) × (count ≤ 64) ⌝ }
+    requires { ⌜ (stepLength * count ≤ length (now body)) × (count ≤ stepsMax) ⌝ }
     ensures { λ r. ⌜ (r ≤ count) × (badFrom 0 (stepsIn count (now (body .entry))) ≡ cond (ltb r count) (some r) none) ⌝ }
 {
     let mut i: usize = 0;

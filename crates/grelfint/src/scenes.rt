@@ -3,6 +3,7 @@ use scene::compile::CompileAnswer;
 use scene::compile::compile;
 use scene::compile::compile_default;
 ghost use mathlib.Core.Path.{_≡_};
+ghost use Rattle.dpa.specs.Frame.{anyHwpid};
 ghost use Rattle.scene.specs.Call.{compileOf, compiledAs};
 
 #[no_mangle]
@@ -25,7 +26,7 @@ pub extern "C" fn grelfint_compile_default(
     address: u16,
     out: &mut [u8],
 ) -> CompileAnswer
-    ensures { λ r. ⌜ compiledAs r (now (out .exit)) ≡ compileOf (now (book .entry)) scene address 0xFFFF (now (out .entry)) ⌝ }
+    ensures { λ r. ⌜ compiledAs r (now (out .exit)) ≡ compileOf (now (book .entry)) scene address anyHwpid (now (out .entry)) ⌝ }
 {
     compile_default(book, scene, address, out)
 }

@@ -1,4 +1,4 @@
--- Laws of filling: what is left to write behind an open list, and the list that the next entry goes into.
+-- Laws of filling: what is left to write after an open list, and the list that the next entry goes into.
 use mathlib.Core.Bool.{true}
 use mathlib.Core.List.{List, [], _∷_, _++_, map, append-assoc, append-nil}
 use mathlib.Core.Path.{_≡_, refl, sym, ap, _∙_}
@@ -18,20 +18,19 @@ use Rattle.book.specs.Run.{FirstRun}
 use Rattle.book.proofs.Faults.{Good}
 use Rattle.book.proofs.Groups.{grow-in, grow-out}
 use Rattle.book.proofs.Runs.{Run, runs, joining-keeps}
-use Rattle.scene.specs.Compile.{joinedItems, listOf, fills, batchesOf}
+use Rattle.scene.specs.Compile.{Limits, joinedItems, listOf, fills, batchesOf}
 use Rattle.scene.specs.Call.{lengths}
 use Rattle.scene.specs.Fill.{takes, nextSize, turnBytes, turnLength}
-use Rattle.scene.proofs.Lists.{Limits}
 use Rattle.scene.proofs.Sizes.{entries-snoc, list-snoc, list-one}
 
--- all bytes behind an open list's entries, where these entries are left
+-- all bytes after an open list's entries, where these entries are left
 abbrev pub bytesLeft : ℕ → List ℕ → ℕ → ℕ → List (List Step) → List ℕ
 bytesLeft listMost head h size [] = 0 ∷ []
 bytesLeft listMost head h size (r ∷ rs) =
     let more = length (runData r) in
     turnBytes listMost head size more ++ (entryBytes (joinedItem h r) ++ bytesLeft listMost head h (nextSize listMost size more) rs)
 
--- the length bytes of its request and of those behind it
+-- the length bytes of its request and of those after it
 abbrev pub lengthsLeft : ℕ → ℕ → ℕ → List (List Step) → List ℕ
 lengthsLeft listMost head size [] = (size + head) ∷ []
 lengthsLeft listMost head size (r ∷ rs) =

@@ -2,26 +2,19 @@
 use mathlib.Core.Bool.{true}
 use mathlib.Core.List.{List, [], _∷_, _++_}
 use mathlib.Core.Path.{_≡_}
-use Prim.Native.Nat.{ℕ, _+_, _≤_}
+use Prim.Native.Nat.{ℕ, _≤_}
 use native.Mathlib.Omega.{arith}
 use lib.ListN.{length, length-append}
 use borrow.Author.Tests.{leb-true}
-use Rattle.dpa.specs.Frame.{pdataMax}
 use Rattle.batch.specs.Batch.{All, entriesBytes, entryBytes}
 use Rattle.book.specs.declared.step.Step.{Step}
 use Rattle.book.specs.Join.{entriesOf, entryLimit}
+use Rattle.book.specs.Run.{EntryLimit}
 use Rattle.book.specs.Group.{joined}
 use Rattle.book.proofs.Groups.{all-snoc, all-group, joined-group}
 use Rattle.book.proofs.Faults.{Good}
 use Rattle.book.proofs.Runs.{Run, runs}
-use Rattle.scene.specs.Compile.{fills, listOf, batchesOf, listLimit}
-
--- what the limits and the bytes in front of the lists keep: an entry has room for a step, a list for an entry, and a frame
--- for a list
-pub record Limits (entryMost listMost : ℕ) (front : List ℕ) : Type 0 where
-  pub entry : 6 ≤ entryMost
-  pub list : entryMost + 6 ≤ listMost
-  pub frame : length front + listMost ≤ pdataMax
+use Rattle.scene.specs.Compile.{Limits, fills, listOf, batchesOf, listLimit}
 
 -- the entries of a list that is at most `listMost`
 pub record Filling (entryMost listMost h : ℕ) (rs : List (List Step)) : Type 0 where
@@ -44,7 +37,11 @@ module _ {entryMost listMost : ℕ} {front : List ℕ} (l : Limits entryMost lis
       all-group (fills listMost h) (Filling entryMost listMost h) (Run entryMost) filling-one filling-more (entriesOf entryMost ss)
       (runs entryMost (l .entry) ss a)
 
--- the paper's limits
+-- an entry's limit on its own
+pub entry-limit : {entryMost listMost : ℕ} {front : List ℕ} → Limits entryMost listMost front → EntryLimit entryMost
+entry-limit l = record { step = l .entry; frame = omega (arith, l .list, l .frame) }
+
+-- the limits of a batch
 pub limits : Limits entryLimit listLimit []
 limits = record { entry = omega arith; list = omega arith; frame = omega arith }
 

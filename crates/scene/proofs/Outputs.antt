@@ -10,22 +10,26 @@ use lib.ListN.{length, length-append, length-map, drop}
 use lib.Seq.{take-append-seam, drop-append-seam, take-at, drop-at, sets}
 use lib.Dec.{ltb, leb}
 use borrow.Author.Tests.{leb-false, lt-leb, le-ltb, not-false}
-use Rattle.dpa.specs.Frame.{longestFrame}
+use Rattle.dpa.specs.declared.frame.Frame.{Frame}
+use Rattle.dpa.specs.Frame.{longestFrame, frame}
+use Rattle.dpa.specs.Pnum.{osPnum}
 use Rattle.dpa.proofs.Bool.{by-cond}
 use Rattle.dpa.proofs.Lists.{front}
 use Rattle.batch.specs.Batch.{All}
 use Rattle.book.specs.declared.step.Step.{Step}
 use Rattle.book.specs.Group.{joined}
-use Rattle.book.specs.Join.{joins, entriesOf}
-use Rattle.book.specs.Book.{countOf, bookOk, sceneOf}
+use Rattle.book.specs.Join.{joins, entriesOf, entryLimit}
+use Rattle.book.specs.Book.{stepsMax, countOf, bookOk, sceneOf}
 use Rattle.book.specs.Step.{badFrom}
 use Rattle.book.proofs.Faults.{Good, no-bad}
 use Rattle.book.proofs.Groups.{length-group}
 use Rattle.book.proofs.Books.{scene-length}
-use Rattle.scene.specs.Compile.{fills, batchesOf, requestBytes, requestsOf, compiled}
-use Rattle.scene.specs.Call.{lengths, output, cut, requestsIn, outputRoom, CompileResult, written, addressOk, compileSteps, compileOf}
+use Rattle.scene.specs.declared.fill.Most.{Most}
+use Rattle.scene.specs.Compile.{listLimit, Limits, fills, batchesOf, requestWith, compiled}
+use Rattle.scene.specs.Call.{lengths, output, cut, requestsIn, outputRoom, CompileResult, written, addressOk, compileSteps, compileScene, compileOf}
+use Rattle.scene.specs.Fill.{requestsWith}
 use Rattle.scene.proofs.Sizes.{Frame-sized, requests-fit}
-use Rattle.scene.proofs.Lists.{Limits, limits}
+use Rattle.scene.proofs.Lists.{limits}
 
 -- ---- the requests are read back
 
@@ -58,23 +62,23 @@ joined-length : (rs : List (List ℕ)) → All Frame-sized rs → length (joined
 joined-length [] a = omega arith
 joined-length (r ∷ rs) a = omega (arith, a .0 .1, length-append r (joined rs), joined-length rs (a .1))
 
--- there are no more requests than steps
-pub requests-few : (entryMost listMost pcmd : ℕ) (front : List ℕ) (a h : ℕ) (ss : List Step)
-    → length (requestsOf entryMost listMost pcmd front a h ss) ≤ length ss
-requests-few entryMost listMost pcmd front a h ss =
-    omega (
-      arith,
-      length-map (batchesOf entryMost listMost h ss) (requestBytes pcmd front a h),
-      length-group (fills listMost h) (entriesOf entryMost ss),
-      length-group (joins entryMost) ss,
-    )
+module _ (most : Most) (head : Frame) (front : List ℕ) where
+  -- there are no more requests than steps
+  pub requests-few : (ss : List Step) → length (requestsWith most head front ss) ≤ length ss
+  requests-few ss =
+      omega (
+        arith,
+        length-map (batchesOf (most .entry) (most .list) (head .hwpid) ss) (requestWith head front),
+        length-group (fills (most .list) (head .hwpid)) (entriesOf (most .entry) ss),
+        length-group (joins (most .entry)) ss,
+      )
 
--- at most 64 requests, each no longer than a frame
-pub output-fits : {entryMost listMost : ℕ} {front : List ℕ} → Limits entryMost listMost front → (pcmd a h : ℕ) (ss : List Step)
-    → length ss ≤ 64 → All Good ss → length (output (requestsOf entryMost listMost pcmd front a h ss)) ≤ outputRoom
-output-fits {entryMost} {listMost} {front} l pcmd a h ss n g =
-    let rs = requestsOf entryMost listMost pcmd front a h ss in
-    omega (arith, output-length rs, joined-length rs (requests-fit l pcmd a h ss g), requests-few entryMost listMost pcmd front a h ss)
+  -- at most `stepsMax` requests, each no longer than a frame
+  pub output-fits : Limits (most .entry) (most .list) front → (ss : List Step) → length ss ≤ stepsMax → All Good ss
+      → length (output (requestsWith most head front ss)) ≤ outputRoom
+  output-fits l ss n g =
+      let rs = requestsWith most head front ss in
+      omega (arith, output-length rs, joined-length rs (requests-fit l head ss g), requests-few ss)
 
 -- ---- what is refused
 
@@ -86,46 +90,64 @@ pub record Faultless (b : List ℕ) (k : ℕ) : Type 0 where
 
 -- every output fits its buffer
 pub scene-fits : (b : List ℕ) (k a h : ℕ) → Faultless b k → length (output (compiled a h (sceneOf b k))) ≤ outputRoom
-scene-fits b k a h f = output-fits limits 0x05 a h (sceneOf b k) (scene-length b k (f .book)) (no-bad (sceneOf b k) .0 (f .steps))
+scene-fits b k a h f =
+    output-fits (record { entry = entryLimit; list = listLimit }) (frame a osPnum 0x05 h) [] limits (sceneOf b k) (scene-length b k (f .book))
+    (no-bad (sceneOf b k) .0 (f .steps))
+
+-- a scene made into any requests
+module _ (b : List ℕ) (k : ℕ) (requests : List Step → List (List ℕ)) (out : List ℕ) where
+  -- with room and without faults nothing is refused: the output is written
+  pub scene-written : outputRoom ≤ length out → Faultless b k → compileScene b k requests out ≡ written (output (requests (sceneOf b k))) out
+  unfolding compileScene
+  scene-written room f = rw (f .book, lt-leb (countOf b) k (f .number), f .steps, le-ltb (length out) outputRoom room)
+
+  abbrev Whole : CompileResult → Type 0
+  Whole r = r .refusal ≡ 0 → Faultless b k
+
+  steps-whole : bookOk b ≡ true → k < countOf b → (o : Option ℕ) → badFrom 0 (sceneOf b k) ≡ o → Whole (compileSteps o (requests (sceneOf b k)) out)
+  steps-whole ok below (some j) e = λ z. absurd (omega arith)
+  steps-whole ok below none e = λ z. record { book = ok; number = below; steps = e }
+
+  -- what is not refused has no faults
+  pub scene-whole : Whole (compileScene b k requests out)
+  unfolding compileScene
+  scene-whole =
+      by-cond Whole (not (bookOk b)) _ _ (λ _ z. absurd (omega arith))
+      (λ ok. by-cond Whole (leb (countOf b) k) _ _ (λ _ z. absurd (omega arith))
+      (λ below. steps-whole (not-false _ ok) (leb-false _ _ below) (badFrom 0 (sceneOf b k)) refl))
+
+  abbrev Unwritten : CompileResult → Type 0
+  Unwritten r = (r .refusal ≡ 0 → ⊥) → (r .length ≡ 0) × (r .buffer ≡ out)
+
+  steps-unwritten : (o : Option ℕ) → Unwritten (compileSteps o (requests (sceneOf b k)) out)
+  steps-unwritten (some j) = λ _. (refl, refl)
+  steps-unwritten none = by-cond Unwritten (ltb (length out) outputRoom) _ _ (λ _ _. (refl, refl)) (λ _ n. absurd (n refl))
+
+  -- what is refused has no output, and the buffer stays
+  pub scene-unwritten : Unwritten (compileScene b k requests out)
+  unfolding compileScene
+  scene-unwritten =
+      by-cond Unwritten (not (bookOk b)) _ _ (λ _ _. (refl, refl))
+      (λ _. by-cond Unwritten (leb (countOf b) k) _ _ (λ _ _. (refl, refl)) (λ _. steps-unwritten (badFrom 0 (sceneOf b k))))
 
 module _ (b : List ℕ) (k a h : ℕ) (out : List ℕ) where
   -- with address and room in range, a call without faults is not refused: it writes the output
   pub written-whole : addressOk a ≡ true → outputRoom ≤ length out → Faultless b k
       → compileOf b k a h out ≡ written (output (compiled a h (sceneOf b k))) out
   unfolding compileOf
-  written-whole ad room f =
-      rw (ad, f .book, lt-leb (countOf b) k (f .number), f .steps, le-ltb (length out) outputRoom room)
-
-  abbrev Whole : CompileResult → Type 0
-  Whole r = r .refusal ≡ 0 → Faultless b k
-
-  steps-whole : bookOk b ≡ true → k < countOf b → (o : Option ℕ) → badFrom 0 (sceneOf b k) ≡ o → Whole (compileSteps o a h (sceneOf b k) out)
-  steps-whole ok below (some j) e = λ z. absurd (omega arith)
-  steps-whole ok below none e = λ z. record { book = ok; number = below; steps = e }
+  written-whole ad room f = rw ad (scene-written b k (compiled a h) out room f)
 
   -- a call that is not refused has no faults
   pub refused-none : compileOf b k a h out .refusal ≡ 0 → Faultless b k
   unfolding compileOf
   refused-none =
-      by-cond Whole (not (addressOk a)) _ _ (λ _ z. absurd (omega arith))
-      (λ _. by-cond Whole (not (bookOk b)) _ _ (λ _ z. absurd (omega arith))
-      (λ ok. by-cond Whole (leb (countOf b) k) _ _ (λ _ z. absurd (omega arith))
-      (λ below. steps-whole (not-false _ ok) (leb-false _ _ below) (badFrom 0 (sceneOf b k)) refl)))
-
-  abbrev Unwritten : CompileResult → Type 0
-  Unwritten r = (r .refusal ≡ 0 → ⊥) → (r .length ≡ 0) × (r .buffer ≡ out)
-
-  steps-unwritten : (o : Option ℕ) → Unwritten (compileSteps o a h (sceneOf b k) out)
-  steps-unwritten (some j) = λ _. (refl, refl)
-  steps-unwritten none = by-cond Unwritten (ltb (length out) outputRoom) _ _ (λ _ _. (refl, refl)) (λ _ n. absurd (n refl))
+      by-cond (Whole b k (compiled a h) out) (not (addressOk a)) _ _ (λ _ z. absurd (omega arith)) (λ _. scene-whole b k (compiled a h) out)
 
   -- a refused call has no output, and the buffer stays
   pub compile-refused : (compileOf b k a h out .refusal ≡ 0 → ⊥) → (compileOf b k a h out .length ≡ 0) × (compileOf b k a h out .buffer ≡ out)
   unfolding compileOf
   compile-refused =
-      by-cond Unwritten (not (addressOk a)) _ _ (λ _ _. (refl, refl))
-      (λ _. by-cond Unwritten (not (bookOk b)) _ _ (λ _ _. (refl, refl))
-      (λ _. by-cond Unwritten (leb (countOf b) k) _ _ (λ _ _. (refl, refl)) (λ _. steps-unwritten (badFrom 0 (sceneOf b k)))))
+      by-cond (Unwritten b k (compiled a h) out) (not (addressOk a)) _ _ (λ _ _. (refl, refl)) (λ _. scene-unwritten b k (compiled a h) out)
 
   -- refusal 0 exactly without faults, where address and room are in range
   pub refusal-exact : addressOk a ≡ true → outputRoom ≤ length out → (compileOf b k a h out .refusal ≡ 0) ↔ Faultless b k

@@ -7,8 +7,9 @@ use lib.ListN.{length, take, drop, set, length-append, length-drop, drop-of-leng
 use lib.Seq.{sets, length-sets, set-comm}
 use Rattle.batch.specs.Batch.{entryBytes}
 use Rattle.batch.proofs.RoundTrip.{entry-length}
+use Rattle.dpa.specs.declared.frame.Frame.{Frame}
 use Rattle.book.specs.declared.step.Step.{Step}
-use Rattle.book.specs.Book.{stepsIn}
+use Rattle.book.specs.Book.{stepsMax, stepsIn}
 use Rattle.book.specs.Group.{joined}
 use Rattle.book.specs.Entry.{joinedItem}
 use Rattle.book.specs.Join.{entriesOf}
@@ -16,12 +17,12 @@ use Rattle.book.specs.Run.{FirstRun, AllGood}
 use Rattle.book.proofs.Writing.{sets-append, put-two}
 use Rattle.book.proofs.Joining.{steps-length}
 use Rattle.book.proofs.Books.{good-steps}
-use Rattle.scene.specs.Compile.{compiled}
+use Rattle.scene.specs.declared.fill.Most.{Most}
+use Rattle.scene.specs.Compile.{Limits}
 use Rattle.scene.specs.Call.{lengths, output, outputRoom}
-use Rattle.scene.specs.Fill.{nextSize, turnBytes, turnLength}
+use Rattle.scene.specs.Fill.{requestsWith, nextSize, turnBytes, turnLength}
 use Rattle.scene.proofs.Filling.{bytesLeft, lengthsLeft, next-small, bytes-next, lengths-next}
 use Rattle.scene.proofs.Outputs.{lengths-length, output-length, output-fits}
-use Rattle.scene.proofs.Lists.{Limits, limits}
 
 -- `all` written from `at` is what `rest` written on from w makes of `out`
 pub record Left (old : List ℕ) (at : ℕ) (all out : List ℕ) (w : ℕ) (rest : List ℕ) : Type 0 where
@@ -49,7 +50,7 @@ module _ (old : List ℕ) (at : ℕ) (all out : List ℕ) (w : ℕ) (rest : List
   left-end out′ w′ eo ew = (omega (arith, l .place), eo ∙ sym (l .bytes))
 
 -- ---- the loops over a scene's entries: a list of `size` bytes is open, and step `done` is next. `left` tells what is left
--- to write behind an open list where these entries are left.
+-- to write after an open list where these entries are left.
 pub record Open (entryMost listMost : ℕ) (left : ℕ → List (List Step) → List ℕ) (ss : List Step) (old : List ℕ) (at done size : ℕ)
     (out : List ℕ) (w : ℕ) : Type 0 where
   pub within : done ≤ length ss
@@ -147,5 +148,6 @@ output-written old out out′ rs count w r ec eo ew fo fr =
       fo ∙ rw (eo, v, ec, set-sets old (length rs) 0 (lengths rs)) (sym (sets-append (set old 0 (length rs)) 1 (lengths rs) (joined rs))),
     )
 
-pub short : (n : ℕ) (a : List ℕ) → AllGood a n → n ≤ 64 → (ad h : ℕ) → length (output (compiled ad h (stepsIn n a))) ≤ outputRoom
-short n a g l ad h = output-fits limits 0x05 ad h (stepsIn n a) (omega (arith, steps-length n a)) (good-steps n a g)
+pub short : (most : Most) (head : Frame) (front : List ℕ) → Limits (most .entry) (most .list) front → (n : ℕ) (a : List ℕ) → AllGood a n → n ≤ stepsMax
+    → length (output (requestsWith most head front (stepsIn n a))) ≤ outputRoom
+short most head front l n a g m = output-fits most head front l (stepsIn n a) (omega (arith, steps-length n a)) (good-steps n a g)

@@ -4,14 +4,15 @@ use mathlib.Core.Path.{_≡_, sym, ap, _∙_}
 use Prim.Native.Nat.{ℕ, _+_, _≤_}
 use native.Mathlib.Omega.{arith}
 use lib.ListN.{length, length-append}
+use Rattle.dpa.specs.declared.frame.Frame.{Frame}
 use Rattle.dpa.specs.Frame.{headerSize, longestFrame}
 use Rattle.batch.specs.Batch.{All, entryBytes, entriesBytes}
 use Rattle.batch.proofs.RoundTrip.{entry-length}
 use Rattle.book.specs.declared.step.Step.{Step}
 use Rattle.book.specs.Entry.{runData, joinedItem}
 use Rattle.book.proofs.Faults.{Good}
-use Rattle.scene.specs.Compile.{joinedItems, listOf, batchesOf, requestBytes, requestsOf}
-use Rattle.scene.proofs.Lists.{Limits, Filling, fillings}
+use Rattle.scene.specs.Compile.{Limits, joinedItems, listOf, batchesOf, requestWith}
+use Rattle.scene.proofs.Lists.{Filling, fillings}
 
 -- an entry more in a list
 pub entries-snoc : (h : ℕ) (rs : List (List Step)) (r : List Step)
@@ -39,25 +40,25 @@ unfolding entriesBytes entryBytes
 list-one h r = simp length-append (omega arith)
 
 -- a header, bytes in front of the list, the list
-pub request-length : (pcmd : ℕ) (front : List ℕ) (a h : ℕ) (rs : List (List Step))
-    → length (requestBytes pcmd front a h rs) ≡ headerSize + (length front + length (listOf h rs))
-request-length pcmd front a h rs = omega (arith, length-append front (listOf h rs))
+pub request-length : (head : Frame) (front : List ℕ) (rs : List (List Step))
+    → length (requestWith head front rs) ≡ headerSize + (length front + length (listOf (head .hwpid) rs))
+request-length head front rs = omega (arith, length-append front (listOf (head .hwpid) rs))
 
 abbrev pub Frame-sized : List ℕ → Type 0
 Frame-sized r = (headerSize ≤ length r) × (length r ≤ longestFrame)
 
 -- every request fits a frame
-module _ {entryMost listMost : ℕ} {front : List ℕ} (l : Limits entryMost listMost front) (pcmd a h : ℕ) where
-  pub filling-fits : (rs : List (List Step)) → Filling entryMost listMost h rs → Frame-sized (requestBytes pcmd front a h rs)
+module _ {entryMost listMost : ℕ} {front : List ℕ} (l : Limits entryMost listMost front) (head : Frame) where
+  pub filling-fits : (rs : List (List Step)) → Filling entryMost listMost (head .hwpid) rs → Frame-sized (requestWith head front rs)
   filling-fits rs b =
-      let n = request-length pcmd front a h rs in
+      let n = request-length head front rs in
       let s = b .size in
       let f = l .frame in
       (omega arith, omega arith)
 
-  pub requests-fit : (ss : List Step) → All Good ss → All Frame-sized (requestsOf entryMost listMost pcmd front a h ss)
-  requests-fit ss g = each (batchesOf entryMost listMost h ss) (fillings l h ss g)
+  pub requests-fit : (ss : List Step) → All Good ss → All Frame-sized (map (requestWith head front) (batchesOf entryMost listMost (head .hwpid) ss))
+  requests-fit ss g = each (batchesOf entryMost listMost (head .hwpid) ss) (fillings l (head .hwpid) ss g)
     where
-      each : (bs : List (List (List Step))) → All (Filling entryMost listMost h) bs → All Frame-sized (map (requestBytes pcmd front a h) bs)
+      each : (bs : List (List (List Step))) → All (Filling entryMost listMost (head .hwpid)) bs → All Frame-sized (map (requestWith head front) bs)
       each [] a = tt
       each (b ∷ bs) a = (filling-fits b (a .0), each bs (a .1))

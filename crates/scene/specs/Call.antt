@@ -62,17 +62,20 @@ written o out = record { refusal = 0; step = 0; length = length o; buffer = over
 unfoldable pub addressOk : ℕ → Bool
 addressOk a = eqb a broadcastNadr || nodeAddress a
 
--- steps of which this one is the first bad one
-abbrev pub compileSteps : Option ℕ → ℕ → ℕ → List Step → List ℕ → CompileResult
-compileSteps (some j) a h ss out = refusedAt 8 j out
-compileSteps none a h ss out =
+-- steps of which this one is the first bad one, and the requests that they are made into
+abbrev pub compileSteps : Option ℕ → List (List ℕ) → List ℕ → CompileResult
+compileSteps (some j) requests out = refusedAt 8 j out
+compileSteps none requests out =
     cond (ltb (length out) outputRoom) (refusedAt 9 0 out)
-    (written (output (compiled a h ss)) out)
+    (written (output requests) out)
+
+-- a book, a scene's number, the requests that steps are made into, and the output buffer
+unfoldable pub compileScene : List ℕ → ℕ → (List Step → List (List ℕ)) → List ℕ → CompileResult
+compileScene b k requests out =
+    cond (not (bookOk b)) (refusedAt 6 0 out)
+    (cond (leb (countOf b) k) (refusedAt 7 0 out)
+    (compileSteps (badFrom 0 (sceneOf b k)) (requests (sceneOf b k)) out))
 
 -- a book, a scene's number, an address, a profile, and the output buffer
 unfoldable pub compileOf : List ℕ → ℕ → ℕ → ℕ → List ℕ → CompileResult
-compileOf b k a h out =
-    cond (not (addressOk a)) (refusedAt 1 0 out)
-    (cond (not (bookOk b)) (refusedAt 6 0 out)
-    (cond (leb (countOf b) k) (refusedAt 7 0 out)
-    (compileSteps (badFrom 0 (sceneOf b k)) a h (sceneOf b k) out)))
+compileOf b k a h out = cond (not (addressOk a)) (refusedAt 1 0 out) (compileScene b k (compiled a h) out)

@@ -1,15 +1,18 @@
 -- Document 01, "Scenes": entries filled into batches, batches as requests.
 use mathlib.Core.List.{List, map, [], _∷_, _++_}
 use mathlib.Core.Bool.{Bool}
-use Prim.Native.Nat.{ℕ}
+use Prim.Native.Nat.{ℕ, _+_, _≤_}
 use lib.Dec.{leb}
 use lib.ListN.{length}
+use Rattle.dpa.specs.declared.frame.Frame.{Frame}
 use Rattle.dpa.specs.Frame.{pdataMax, frame, headerBytes}
+use Rattle.dpa.specs.Pnum.{osPnum}
 use Rattle.batch.specs.Batch.{Item, listBytes}
 use Rattle.book.specs.declared.step.Step.{Step}
 use Rattle.book.specs.Entry.{joinedItem}
 use Rattle.book.specs.Group.{group}
 use Rattle.book.specs.Join.{entryLimit, entriesOf}
+use Rattle.book.specs.Run.{oneStepMax}
 
 -- ---- lists and filling, for any two limits
 
@@ -35,9 +38,20 @@ batchesOf entryMost listMost h ss = group (fills listMost h) (entriesOf entryMos
 
 -- ---- requests
 
--- OS 02 with this PCMD: the header, bytes in front of the list, the list
+-- what the limits and the bytes in front of the lists keep: an entry has room for a step, a list for an entry, and a frame
+-- for a list
+pub record Limits (entryMost listMost : ℕ) (front : List ℕ) : Type 0 where
+  pub entry : oneStepMax ≤ entryMost
+  pub list : entryMost + 6 ≤ listMost
+  pub frame : length front + listMost ≤ pdataMax
+
+-- the header, bytes in front of the list, the list
+abbrev pub requestWith : Frame → List ℕ → List (List Step) → List ℕ
+requestWith head front runs = headerBytes head ++ (front ++ listOf (head .hwpid) runs)
+
+-- OS 02 with this PCMD
 abbrev pub requestBytes : ℕ → List ℕ → ℕ → ℕ → List (List Step) → List ℕ
-requestBytes pcmd front a h runs = headerBytes (frame a 0x02 pcmd h) ++ (front ++ listOf h runs)
+requestBytes pcmd front a h runs = requestWith (frame a osPnum pcmd h) front runs
 
 -- the requests of a scene within two limits, with any PCMD and any bytes in front of the lists
 abbrev pub requestsOf : ℕ → ℕ → ℕ → List ℕ → ℕ → ℕ → List Step → List (List ℕ)

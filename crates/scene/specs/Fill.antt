@@ -1,13 +1,21 @@
 -- What inner functions compute while a scene is compiled, for any two limits and any bytes in front of a list.
-use mathlib.Core.List.{List, [], _∷_, _++_}
+use mathlib.Core.List.{List, map, [], _∷_, _++_}
 use mathlib.Core.Bool.{Bool, cond}
 use mathlib.Core.Path.{_≡_}
-use Prim.Native.Nat.{ℕ, _+_}
+use Prim.Native.Nat.{ℕ, _+_, _*_}
 use lib.ListN.{length}
 use lib.Dec.{leb}
+use Rattle.dpa.specs.declared.frame.Frame.{Frame}
 use Rattle.book.specs.declared.step.Step.{Step}
+use Rattle.book.specs.Book.{stepsMax}
 use Rattle.book.specs.Entry.{runData}
 use Rattle.book.specs.Join.{entriesOf}
+use Rattle.scene.specs.declared.fill.Most.{Most}
+use Rattle.scene.specs.Compile.{requestWith, batchesOf}
+
+-- ---- the requests of steps within these limits, with this header and these bytes in front of each list
+abbrev pub requestsWith : Most → Frame → List ℕ → List Step → List (List ℕ)
+requestsWith most head front ss = map (requestWith head front) (batchesOf (most .entry) (most .list) (head .hwpid) ss)
 
 -- ---- an open list of `size` bytes, its closing zero counted, and an entry with `more` bytes of PData that comes next
 
@@ -34,7 +42,7 @@ runBytes (r ∷ rs) = length r ∷ length (runData r) ∷ runBytes rs
 
 -- two bytes for each step that a scene has at most
 abbrev pub keptRoom : ℕ
-keptRoom = 128
+keptRoom = 2 * stepsMax
 
 -- bytes that begin with those of these steps' entries
 pub record KeepsEntries (entryMost : ℕ) (ss : List Step) (kept : List ℕ) : Type 0 where

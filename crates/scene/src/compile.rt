@@ -1,18 +1,29 @@
 // The compile call.
+use crate::fill::Most;
 use crate::request::write_output;
 use book::contents::book_ok;
 use book::contents::content_at;
 use book::step::first_bad;
 use dpa::frame::Frame;
 use dpa::number::wide;
+use dpa::pnum;
 use dpa::refusal;
 use dpa::settings::LAST_ADDRESS;
+use handler::os::BATCH;
 ghost use mathlib.Core.Path.{_≡_};
 ghost use Prim.Native.Nat.{_*_, _≤_};
 ghost use lib.ListN.{length};
-ghost use Rattle.book.specs.Book.{stepsIn};
+ghost use Rattle.dpa.specs.Frame.{anyHwpid};
+ghost use Rattle.book.specs.Book.{stepsMax, stepLength, stepsIn};
 ghost use Rattle.book.specs.Step.{badFrom};
-ghost use Rattle.scene.specs.Call.{addressOk, compileSteps, compileOf, compiledAs};
+ghost use Rattle.scene.specs.Compile.{Limits};
+ghost use Rattle.scene.specs.Call.{addressOk, compileSteps, compileScene, compileOf, compiledAs};
+ghost use Rattle.scene.specs.Fill.{requestsWith};
+
+// A batch: the longest PData of an entry, and the longest list.
+const ENTRY_LIMIT: usize = 50;
+
+const LIST_LIMIT: usize = Frame::PDATA_MAX;
 
 // The bytes that an output buffer has at least.
 pub const ROOM: usize = 4096;
@@ -51,13 +62,15 @@ fn address_ok(address: u16) -> bool
 fn compile_steps(
     body: &[u8],
     count: usize,
-    address: u16,
-    hwpid: u16,
+    most: Most,
+    head: Frame,
+    front: &[u8],
     out: &mut [u8],
 ) -> CompileAnswer
-    requires { ⌜ (4 * count ≤ length (now body)) × (count ≤ 64) ⌝ }
+    requires { ⌜ (stepLength * count ≤ length (now body)) × (count ≤ stepsMax) × Limits (most .entry) (most .list) (now front) ⌝ }
     ensures { λ r. ⌜ compiledAs r (now (out .exit))
-        ≡ compileSteps (badFrom 0 (stepsIn count (now (body .entry)))) address hwpid (stepsIn count (now (body .entry))) (now (out .entry)) ⌝ }
+        ≡ compileSteps (badFrom 0 (stepsIn count (now (body .entry)))) (requestsWith most head (now (front .entry)) (stepsIn count (now (body .entry))))
+        (now (out .entry)) ⌝ }
 {
     let bad = first_bad(body, count);
     if bad < count {
@@ -66,7 +79,7 @@ fn compile_steps(
     if out.len() < ROOM {
         return refused(refusal::OUTPUT, 0);
     }
-    let length = write_output(body, count, address, hwpid, out);
+    let length = write_output(body, count, most, head, front, out);
     CompileAnswer {
         refusal: refusal::NONE,
         step: 0,
@@ -74,13 +87,19 @@ fn compile_steps(
     }
 }
 
-// A scene of a book as requests for an address and a hardware profile.
-pub fn compile(book: &[u8], scene: usize, address: u16, hwpid: u16, out: &mut [u8]) -> CompileAnswer
-    ensures { λ r. ⌜ compiledAs r (now (out .exit)) ≡ compileOf (now (book .entry)) scene address hwpid (now (out .entry)) ⌝ }
+// A scene of a book as requests with a header and bytes in front of each list, within limits.
+fn compile_scene(
+    book: &[u8],
+    scene: usize,
+    most: Most,
+    head: Frame,
+    front: &[u8],
+    out: &mut [u8],
+) -> CompileAnswer
+    requires { ⌜ Limits (most .entry) (most .list) (now front) ⌝ }
+    ensures { λ r. ⌜ compiledAs r (now (out .exit))
+        ≡ compileScene (now (book .entry)) scene (requestsWith most head (now (front .entry))) (now (out .entry)) ⌝ }
 {
-    if !address_ok(address) {
-        return refused(refusal::NODE, 0);
-    }
     if !book_ok(book) {
         return refused(refusal::BOOK, 0);
     }
@@ -91,12 +110,32 @@ pub fn compile(book: &[u8], scene: usize, address: u16, hwpid: u16, out: &mut [u
     let content = content_at(book, scene);
     let from = content.offset;
     let count = content.steps;
-    compile_steps(&book[from..], count, address, hwpid, out)
+    compile_steps(&book[from..], count, most, head, front, out)
+}
+
+// A scene of a book as batches for an address and a hardware profile.
+pub fn compile(book: &[u8], scene: usize, address: u16, hwpid: u16, out: &mut [u8]) -> CompileAnswer
+    ensures { λ r. ⌜ compiledAs r (now (out .exit)) ≡ compileOf (now (book .entry)) scene address hwpid (now (out .entry)) ⌝ }
+{
+    if !address_ok(address) {
+        return refused(refusal::NODE, 0);
+    }
+    let most = Most {
+        entry: ENTRY_LIMIT,
+        list: LIST_LIMIT,
+    };
+    let head = Frame {
+        nadr: address,
+        pnum: pnum::OS,
+        pcmd: BATCH,
+        hwpid,
+    };
+    compile_scene(book, scene, most, head, &[], out)
 }
 
 // The same with the profile that every node takes.
 pub fn compile_default(book: &[u8], scene: usize, address: u16, out: &mut [u8]) -> CompileAnswer
-    ensures { λ r. ⌜ compiledAs r (now (out .exit)) ≡ compileOf (now (book .entry)) scene address 0xFFFF (now (out .entry)) ⌝ }
+    ensures { λ r. ⌜ compiledAs r (now (out .exit)) ≡ compileOf (now (book .entry)) scene address anyHwpid (now (out .entry)) ⌝ }
 {
     compile(book, scene, address, Frame::ANY_HWPID, out)
 }

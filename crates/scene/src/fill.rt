@@ -1,21 +1,25 @@
 // Entries filled into lists, and the lengths of the lists' requests.
 use batch::entry::HEAD;
 use book::join::run_from;
+use book::step::STEPS_MAX;
 use dpa::frame::Frame;
 ghost use mathlib.Core.Path.{_≡_};
-ghost use Prim.Native.Nat.{ℕ, _+_, _*_, _≤_};
+ghost use Prim.Native.Nat.{_+_, _*_, _≤_};
 ghost use lib.ListN.{length};
 ghost use lib.Seq.{sets};
-ghost use Rattle.dpa.specs.Frame.{headerSize};
-ghost use Rattle.book.specs.Book.{stepsIn};
-ghost use Rattle.book.specs.Join.{entryLimit};
+ghost use Rattle.dpa.specs.declared.frame.Frame.{Frame};
+ghost use Rattle.dpa.specs.Frame.{pdataMax, longestFrame};
+ghost use Rattle.book.specs.Book.{stepsMax, stepLength, stepsIn};
 ghost use Rattle.book.specs.Run.{AllGood};
-ghost use Rattle.scene.specs.Compile.{compiled, listLimit};
+ghost use Rattle.scene.specs.Compile.{Limits};
 ghost use Rattle.scene.specs.Call.{lengths};
-ghost use Rattle.scene.specs.Fill.{nextSize, turnLength, keptRoom, KeepsEntries};
+ghost use Rattle.scene.specs.Fill.{requestsWith, nextSize, turnLength, keptRoom, KeepsEntries};
 
-// The longest list of a batch, its closing zero included.
-pub const LIMIT: usize = Frame::PDATA_MAX;
+// The most bytes of an entry's PData, and of a list, its closing zero included.
+pub struct Most {
+    pub entry: usize,
+    pub list: usize,
+}
 
 // The bytes of a list without entries: its closing zero.
 pub const EMPTY: usize = 1;
@@ -27,22 +31,29 @@ pub struct Place {
 }
 
 // The bytes that keep the entries of a scene: for each its steps, and the length of its PData.
-pub const KEPT: usize = 128;
+pub const KEPT: usize = 2 * STEPS_MAX;
 
-// The length byte of a list's request if an entry with `more` bytes of PData finds the list full.
-fn next_length(size: usize, more: usize, out: &mut [u8], at: usize) -> Place
-    requires { ⌜ (size ≤ listLimit) × (more ≤ entryLimit) × (at + length (turnLength listLimit headerSize size more) ≤ length (now out)) ⌝ }
-    ensures { λ r. ⌜ (r .at ≡ at + length (turnLength listLimit headerSize size more)) × (r .size ≡ nextSize listLimit size more)
-        × (now (out .exit) ≡ sets (now (out .entry)) at (turnLength listLimit headerSize size more)) ⌝ }
+// The length byte of a list's request if an entry with `more` bytes of PData finds the list full; `head` bytes stand in front of the list.
+fn next_length(
+    limit: usize,
+    head: usize,
+    size: usize,
+    more: usize,
+    out: &mut [u8],
+    at: usize,
+) -> Place
+    requires { ⌜ (size ≤ limit) × (more ≤ pdataMax) × (head + limit ≤ longestFrame) × (at + length (turnLength limit head size more) ≤ length (now out)) ⌝ }
+    ensures { λ r. ⌜ (r .at ≡ at + length (turnLength limit head size more)) × (r .size ≡ nextSize limit size more)
+        × (now (out .exit) ≡ sets (now (out .entry)) at (turnLength limit head size more)) ⌝ }
 {
     let entry = HEAD + more;
-    if size + entry <= LIMIT {
+    if size + entry <= limit {
         return Place {
             at,
             size: size + entry,
         };
     }
-    out[at] = (size + Frame::HEADER) as u8;
+    out[at] = (size + head) as u8;
     Place {
         at: at + 1,
         size: EMPTY + entry,
@@ -50,30 +61,40 @@ fn next_length(size: usize, more: usize, out: &mut [u8], at: usize) -> Place
 }
 
 // One length byte for each request. Keeps the entries, so that the requests are written without finding them again.
-pub fn write_lengths(body: &[u8], count: usize, kept: &mut [u8], out: &mut [u8], at: usize) -> usize
-    requires { ⌜ (4 * count ≤ length (now body)) × (count ≤ 64) × AllGood (now body) count × (keptRoom ≤ length (now kept))
-        × ((address hwpid : ℕ) → at + length (compiled address hwpid (stepsIn count (now body))) ≤ length (now out)) ⌝ }
-    ensures { λ r. ⌜ ((address hwpid : ℕ) → (r ≡ at + length (compiled address hwpid (stepsIn count (now (body .entry)))))
-        × (now (out .exit) ≡ sets (now (out .entry)) at (lengths (compiled address hwpid (stepsIn count (now (body .entry)))))))
-        × KeepsEntries entryLimit (stepsIn count (now (body .entry))) (now (kept .exit)) ⌝ }
+pub fn write_lengths(
+    body: &[u8],
+    count: usize,
+    most: Most,
+    front: &[u8],
+    kept: &mut [u8],
+    out: &mut [u8],
+    at: usize,
+) -> usize
+    requires { ⌜ (stepLength * count ≤ length (now body)) × (count ≤ stepsMax) × AllGood (now body) count × Limits (most .entry) (most .list) (now front)
+        × (keptRoom ≤ length (now kept))
+        × ((head : Frame) → at + length (requestsWith most head (now front) (stepsIn count (now body))) ≤ length (now out)) ⌝ }
+    ensures { λ r. ⌜ ((head : Frame) → (r ≡ at + length (requestsWith most head (now (front .entry)) (stepsIn count (now (body .entry)))))
+        × (now (out .exit) ≡ sets (now (out .entry)) at (lengths (requestsWith most head (now (front .entry)) (stepsIn count (now (body .entry)))))))
+        × KeepsEntries (most .entry) (stepsIn count (now (body .entry))) (now (kept .exit)) ⌝ }
 {
     if count == 0 {
         return at;
     }
+    let head = Frame::HEADER + front.len();
     let mut done: usize = 0;
     let mut size = EMPTY;
     let mut end = at;
     let mut pair: usize = 0;
     while done < count {
-        let run = run_from(body, count, done);
+        let run = run_from(body, count, done, most.entry);
         kept[pair] = run.steps as u8;
         kept[pair + 1] = run.size as u8;
         pair = pair + 2;
-        let place = next_length(size, run.size, out, end);
+        let place = next_length(most.list, head, size, run.size, out, end);
         size = place.size;
         end = place.at;
         done = done + run.steps;
     }
-    out[end] = (size + Frame::HEADER) as u8;
+    out[end] = (size + head) as u8;
     end + 1
 }

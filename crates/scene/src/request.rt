@@ -1,34 +1,33 @@
 // The requests of a scene, and the output that holds them.
 use crate::fill::EMPTY;
 use crate::fill::KEPT;
-use crate::fill::LIMIT;
+use crate::fill::Most;
 use crate::fill::Place;
 use crate::fill::write_lengths;
 use batch::entry::HEAD;
 use book::entry::write_entry_at;
 use dpa::frame::Frame;
 use dpa::number::wide;
-use dpa::pnum;
-use handler::os::BATCH;
+use memory::block::copy_in;
 ghost use mathlib.Core.Path.{_≡_};
+ghost use mathlib.Core.List.{_++_};
 ghost use Prim.Native.Nat.{_+_, _*_, _≤_};
 ghost use lib.ListN.{length};
 ghost use lib.Seq.{sets};
-ghost use Rattle.dpa.specs.Frame.{frame, headerBytes};
-ghost use Rattle.book.specs.Book.{stepsIn};
+ghost use Rattle.dpa.specs.Frame.{pdataMax, headerSize, headerBytes};
+ghost use Rattle.book.specs.Book.{stepsMax, stepLength, stepsIn};
 ghost use Rattle.book.specs.Group.{joined};
-ghost use Rattle.book.specs.Join.{entryLimit};
 ghost use Rattle.book.specs.Run.{AllGood};
-ghost use Rattle.scene.specs.Compile.{compiled, listLimit};
+ghost use Rattle.scene.specs.Compile.{Limits};
 ghost use Rattle.scene.specs.Call.{output, outputRoom};
-ghost use Rattle.scene.specs.Fill.{nextSize, turnBytes, KeepsEntries};
+ghost use Rattle.scene.specs.Fill.{requestsWith, nextSize, turnBytes, KeepsEntries};
 
-// The header of a batch.
-fn write_header(address: u16, hwpid: u16, out: &mut [u8], at: usize) -> usize
-    requires { ⌜ at + 6 ≤ length (now out) ⌝ }
-    ensures { λ r. ⌜ (r ≡ at + 6) × (now (out .exit) ≡ sets (now (out .entry)) at (headerBytes (frame address 0x02 0x05 hwpid))) ⌝ }
+// The six bytes of a header.
+fn write_header(head: Frame, out: &mut [u8], at: usize) -> usize
+    requires { ⌜ at + headerSize ≤ length (now out) ⌝ }
+    ensures { λ r. ⌜ (r ≡ at + headerSize) × (now (out .exit) ≡ sets (now (out .entry)) at (headerBytes head)) ⌝ }
 {
-    let header = Frame::header(address, pnum::OS, BATCH, hwpid);
+    let header = Frame::header(head.nadr, head.pnum, head.pcmd, head.hwpid);
     out[at] = header[0];
     out[at + 1] = header[1];
     out[at + 2] = header[2];
@@ -38,48 +37,69 @@ fn write_header(address: u16, hwpid: u16, out: &mut [u8], at: usize) -> usize
     at + Frame::HEADER
 }
 
-// The zero and the next header if an entry with `more` bytes of PData finds the list of `size` bytes full.
-fn next_list(address: u16, hwpid: u16, size: usize, more: usize, out: &mut [u8], at: usize) -> Place
-    requires { ⌜ (size ≤ listLimit) × (more ≤ entryLimit)
-        × (at + length (turnBytes listLimit (headerBytes (frame address 0x02 0x05 hwpid)) size more) ≤ length (now out)) ⌝ }
-    ensures { λ r. ⌜ (r .at ≡ at + length (turnBytes listLimit (headerBytes (frame address 0x02 0x05 hwpid)) size more))
-        × (r .size ≡ nextSize listLimit size more)
-        × (now (out .exit) ≡ sets (now (out .entry)) at (turnBytes listLimit (headerBytes (frame address 0x02 0x05 hwpid)) size more)) ⌝ }
+// What a request begins with: its header, and the bytes in front of its list.
+fn begin_request(head: Frame, front: &[u8], out: &mut [u8], at: usize) -> usize
+    requires { ⌜ at + length (headerBytes head ++ now front) ≤ length (now out) ⌝ }
+    ensures { λ r. ⌜ (r ≡ at + length (headerBytes head ++ now (front .entry)))
+        × (now (out .exit) ≡ sets (now (out .entry)) at (headerBytes head ++ now (front .entry))) ⌝ }
+{
+    let end = write_header(head, out, at);
+    copy_in(out, end, front);
+    end + front.len()
+}
+
+// The zero and the next request's beginning if an entry with `more` bytes of PData finds the list of `size` bytes full.
+fn next_list(
+    limit: usize,
+    head: Frame,
+    front: &[u8],
+    size: usize,
+    more: usize,
+    out: &mut [u8],
+    at: usize,
+) -> Place
+    requires { ⌜ (size ≤ limit) × (more ≤ pdataMax) × (limit ≤ pdataMax)
+        × (at + length (turnBytes limit (headerBytes head ++ now front) size more) ≤ length (now out)) ⌝ }
+    ensures { λ r. ⌜ (r .at ≡ at + length (turnBytes limit (headerBytes head ++ now (front .entry)) size more))
+        × (r .size ≡ nextSize limit size more)
+        × (now (out .exit) ≡ sets (now (out .entry)) at (turnBytes limit (headerBytes head ++ now (front .entry)) size more)) ⌝ }
 {
     let entry = HEAD + more;
-    if size + entry <= LIMIT {
+    if size + entry <= limit {
         return Place {
             at,
             size: size + entry,
         };
     }
     out[at] = 0;
-    let end = write_header(address, hwpid, out, at + 1);
+    let end = begin_request(head, front, out, at + 1);
     Place {
         at: end,
         size: EMPTY + entry,
     }
 }
 
-// The requests one behind another, by the entries that were kept.
+// The requests one after another, by the entries that were kept.
 fn write_requests(
     body: &[u8],
     count: usize,
     kept: &[u8],
-    address: u16,
-    hwpid: u16,
+    most: Most,
+    head: Frame,
+    front: &[u8],
     out: &mut [u8],
     at: usize,
 ) -> usize
-    requires { ⌜ (4 * count ≤ length (now body)) × (count ≤ 64) × AllGood (now body) count × KeepsEntries entryLimit (stepsIn count (now body)) (now kept)
-        × (at + length (joined (compiled address hwpid (stepsIn count (now body)))) ≤ length (now out)) ⌝ }
-    ensures { λ r. ⌜ (r ≡ at + length (joined (compiled address hwpid (stepsIn count (now (body .entry))))))
-        × (now (out .exit) ≡ sets (now (out .entry)) at (joined (compiled address hwpid (stepsIn count (now (body .entry)))))) ⌝ }
+    requires { ⌜ (stepLength * count ≤ length (now body)) × (count ≤ stepsMax) × AllGood (now body) count × Limits (most .entry) (most .list) (now front)
+        × KeepsEntries (most .entry) (stepsIn count (now body)) (now kept)
+        × (at + length (joined (requestsWith most head (now front) (stepsIn count (now body)))) ≤ length (now out)) ⌝ }
+    ensures { λ r. ⌜ (r ≡ at + length (joined (requestsWith most head (now (front .entry)) (stepsIn count (now (body .entry))))))
+        × (now (out .exit) ≡ sets (now (out .entry)) at (joined (requestsWith most head (now (front .entry)) (stepsIn count (now (body .entry)))))) ⌝ }
 {
     if count == 0 {
         return at;
     }
-    let mut end = write_header(address, hwpid, out, at);
+    let mut end = begin_request(head, front, out, at);
     let mut size = EMPTY;
     let mut done: usize = 0;
     let mut pair: usize = 0;
@@ -87,9 +107,9 @@ fn write_requests(
         let taken = wide(kept[pair]);
         let more = wide(kept[pair + 1]);
         pair = pair + 2;
-        let place = next_list(address, hwpid, size, more, out, end);
+        let place = next_list(most.list, head, front, size, more, out, end);
         size = place.size;
-        end = write_entry_at(body, done, taken, hwpid, more, out, place.at);
+        end = write_entry_at(body, done, taken, head.hwpid, more, out, place.at);
         done = done + taken;
     }
     out[end] = 0;
@@ -97,14 +117,22 @@ fn write_requests(
 }
 
 // The whole output of a scene; returns its length.
-pub fn write_output(body: &[u8], count: usize, address: u16, hwpid: u16, out: &mut [u8]) -> usize
-    requires { ⌜ (4 * count ≤ length (now body)) × (count ≤ 64) × AllGood (now body) count × (outputRoom ≤ length (now out)) ⌝ }
-    ensures { λ r. ⌜ (r ≡ length (output (compiled address hwpid (stepsIn count (now (body .entry))))))
-        × (now (out .exit) ≡ sets (now (out .entry)) 0 (output (compiled address hwpid (stepsIn count (now (body .entry)))))) ⌝ }
+pub fn write_output(
+    body: &[u8],
+    count: usize,
+    most: Most,
+    head: Frame,
+    front: &[u8],
+    out: &mut [u8],
+) -> usize
+    requires { ⌜ (stepLength * count ≤ length (now body)) × (count ≤ stepsMax) × AllGood (now body) count × Limits (most .entry) (most .list) (now front)
+        × (outputRoom ≤ length (now out)) ⌝ }
+    ensures { λ r. ⌜ (r ≡ length (output (requestsWith most head (now (front .entry)) (stepsIn count (now (body .entry))))))
+        × (now (out .exit) ≡ sets (now (out .entry)) 0 (output (requestsWith most head (now (front .entry)) (stepsIn count (now (body .entry)))))) ⌝ }
 {
     let mut kept = [0u8; KEPT];
-    let end = write_lengths(body, count, &mut kept, out, 1);
+    let end = write_lengths(body, count, most, front, &mut kept, out, 1);
     let requests = end - 1;
     out[0] = requests as u8;
-    write_requests(body, count, &kept, address, hwpid, out, end)
+    write_requests(body, count, &kept, most, head, front, out, end)
 }

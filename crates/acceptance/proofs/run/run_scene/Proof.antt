@@ -3,6 +3,8 @@ use mathlib.Core.Path.{_≡_, ap, sym, _∙_}
 use borrow.Author.Tests.{not-true, not-false}
 use mathlib.Core.Bool.{true}
 use lib.ListN.{length}
+use Rattle.memory.specs.declared.block.Memory.the-variants.{Eeprom, External}
+use Rattle.memory.specs.Block.{sizeOf}
 use Rattle.node.specs.Node.{nodeOk}
 use Rattle.handler.specs.Request.{state}
 use Rattle.scene.specs.Call.{compiledAs}
@@ -23,10 +25,10 @@ use Rattle.scene.proofs.compile.compile.Reads as compile-reads
 node-sound : (c : tie.Else1) → nodeOk (c .before .before .before .before .before .before .args .node) ≡ true
 node-sound c = sym (c .before .node-ok .ensures) ∙ not-false _ (c .if1 .left)
 
-eeprom-size : (c : tie.Else2) → length (c .before .before .before .before .before .before .before .before .args .eeprom .now) ≡ 192
+eeprom-size : (c : tie.Else2) → length (c .before .before .before .before .before .before .before .before .args .eeprom .now) ≡ sizeOf Eeprom
 eeprom-size c = c .if2 .left ∙ c .before .size-of .ensures .0
 
-external-size : (c : tie.Else3) → length (c .before .before .before .before .before .before .before .before .before .before .args .external .now) ≡ 16384
+external-size : (c : tie.Else3) → length (c .before .before .before .before .before .before .before .before .before .before .args .external .now) ≡ sizeOf External
 external-size c = c .if3 .left ∙ c .before .size-of2 .ensures .0
 
 node-ok-requires : tie.Need-node-ok-requires

@@ -3,14 +3,14 @@ use Prim.Native.Nat.{_+_, _*_, _-_, _<_, _≤_}
 use native.Mathlib.Omega.{arith}
 use lib.ListN.{length, drop}
 use Rattle.book.specs.declared.contents.Content.{Content}
-use Rattle.book.specs.Book.{countOf, chained, contentsOf}
+use Rattle.book.specs.Book.{scenesMax, stepsMax, contentLength, stepLength, countOf, chained, contentsOf}
 use Rattle.book.proofs.Books.{chain-more, chain-apart, chain-long, chain-end}
 use Rattle.book.proofs.contents.bodies_ok.Statement.{statement}
 use Rattle.book.proofs.contents.bodies_ok.Tie as tie
 
 abbrev Inv-loop : tie.InvT-loop
 Inv-loop book scenes start₀ i₀ start i =
-    (i ≤ scenes) × (start ≤ 49 + 256 * i) × (chained (1 + 3 * scenes) (contentsOf book) (length book) ≡ chained start (drop i (contentsOf book)) (length book))
+    (i ≤ scenes) × (start ≤ 1 + contentLength * scenesMax + stepLength * stepsMax * i) × (chained (1 + contentLength * scenes) (contentsOf book) (length book) ≡ chained start (drop i (contentsOf book)) (length book))
 
 abbrev μ-loop : tie.MeasureT-loop
 μ-loop book scenes start₀ i₀ start i = scenes - i

@@ -1,19 +1,24 @@
-use borrow.Author.Tests.{lt-ltb, le-ltb, eq-eqb, ne-eqb}
+use mathlib.Core.Path.{sym, _∙_}
+use borrow.Author.Needs.{needs}
+use borrow.Author.Tests.{eq-eqb, ne-eqb}
 use Rattle.book.specs.Entry.{pnumOf}
 use Rattle.book.proofs.entry.pnum_of.Statement.{statement}
 use Rattle.book.proofs.entry.pnum_of.Tie as tie
 
+is-lamp-requires : tie.Need-is-lamp-requires
+is-lamp-requires c κs = search needs
+
 returns : tie.Need-returns
 unfolding pnumOf
-returns c = simp (lt-ltb _ _ (c .if1 .taken))
+returns c = simp (sym (c .before .is-lamp .ensures) ∙ c .if1 .taken)
 
 returns-2 : tie.Need-returns-2
 unfolding pnumOf
-returns-2 c = simp (le-ltb _ _ (c .before .if1 .left), eq-eqb _ _ (c .if2 .taken))
+returns-2 c = simp (sym (c .before .before .is-lamp .ensures) ∙ c .before .if1 .left, eq-eqb _ _ (c .if2 .taken))
 
 returns-3 : tie.Need-returns-3
 unfolding pnumOf
-returns-3 c = simp (le-ltb _ _ (c .before .if1 .left), ne-eqb _ _ (c .if2 .left))
+returns-3 c = simp (sym (c .before .before .is-lamp .ensures) ∙ c .before .if1 .left, ne-eqb _ _ (c .if2 .left))
 
 pub pnum-of-spec : {M : Type 1} → statement M
-pnum-of-spec = tie.close (tie.spec returns returns-2 returns-3)
+pnum-of-spec = tie.close (tie.spec is-lamp-requires returns returns-2 returns-3)

@@ -3,6 +3,7 @@ use native.Mathlib.Omega.{arith}
 use lib.ListN.{length-drop}
 use borrow.Author.Needs.{needs}
 use Rattle.dpa.proofs.Lists.{to-end}
+use Rattle.book.specs.Book.{stepLength}
 use Rattle.book.proofs.entry.write_entry_at.Statement.{statement}
 use Rattle.book.proofs.entry.write_entry_at.Tie as tie
 
@@ -21,8 +22,8 @@ part-write-entry-end c = search needs
 write-entry-requires : tie.Need-write-entry-requires
 write-entry-requires c κs =
     let s = c .before .before .before .before in
-    rw (to-end (4 * s .args .done) (s .args .body .now))
-    (omega (arith, s .pre .0, length-drop (4 * s .args .done) (s .args .body .now)), s .pre .1, omega (arith, s .pre .2), s .pre .3, s .pre .4, s .pre .5, s .pre .6)
+    rw (to-end (stepLength * s .args .done) (s .args .body .now))
+    (omega (arith, s .pre .0, length-drop (stepLength * s .args .done) (s .args .body .now)), s .pre .1, omega (arith, s .pre .2), s .pre .3, s .pre .4, s .pre .5, s .pre .6)
 
 same-length : tie.Need-same-length
 same-length c = search needs
@@ -30,7 +31,7 @@ same-length c = search needs
 returns : tie.Need-returns
 returns c =
     let s = c .before .before .before .before .before .before .before in
-    rw (to-end (4 * s .args .done) (s .args .body .now)) at (c .before .before .write-entry .ensures)
+    rw (to-end (stepLength * s .args .done) (s .args .body .now)) at (c .before .before .write-entry .ensures)
 
 pub write-entry-at-spec : {M : Type 1} → statement M
 write-entry-at-spec =

@@ -1,5 +1,6 @@
+use mathlib.Core.Bool.{true, false}
 use mathlib.Core.List.{[], _∷_}
-use mathlib.Core.Path.{refl, ap, _∙_}
+use mathlib.Core.Path.{_≡_, refl, sym, ap, _∙_}
 use Prim.Native.Nat.{ℕ}
 use native.Mathlib.Omega.{arith}
 use lib.ListN.{length, set, length-set}
@@ -7,6 +8,7 @@ use lib.Seq.{sets}
 use borrow.Author.Needs.{needs}
 use Rattle.book.specs.declared.step.Step.{Step}
 use Rattle.book.specs.Book.{stepsIn}
+use Rattle.book.specs.Step.{isLamp}
 use Rattle.book.specs.Entry.{bitmapOf, powersBytes, values, fourBytes}
 use Rattle.book.specs.Run.{stepAt}
 use Rattle.book.proofs.Writing.{put-two, sets-keep, data-lamp, data-mem, values-count}
@@ -16,23 +18,32 @@ use Rattle.book.proofs.entry.write_pdata.Tie as tie
 step-at-requires : tie.Need-step-at-requires
 step-at-requires c κs = search needs
 
+is-lamp-requires : tie.Need-is-lamp-requires
+is-lamp-requires c κs = search needs
+
+-- the kind of the first step
+lamp : (c : tie.Then1) → isLamp (stepAt (c .before .before .before .before .before .args .body .now) 0 .kind) ≡ true
+lamp c = ap (λ (x : Step). isLamp (x .kind)) (sym (c .before .before .step-at .ensures)) ∙ sym (c .before .is-lamp .ensures) ∙ c .if1 .taken
+
+byte : (c : tie.Else1) → isLamp (stepAt (c .before .before .before .before .before .args .body .now) 0 .kind) ≡ false
+byte c = ap (λ (x : Step). isLamp (x .kind)) (sym (c .before .before .step-at .ensures)) ∙ sym (c .before .is-lamp .ensures) ∙ c .if1 .left
+
 bitmap-of-requires : tie.Need-bitmap-of-requires
 bitmap-of-requires c κs =
-    let p = c .before .before .before .before .pre in
-    (p .0, p .2, p .4 (rw (c .before .step-at .ensures) at (c .if1 .taken)))
+    let p = c .before .before .before .before .before .pre in
+    (p .0, p .2, p .4 (lamp c))
 
 write-bitmap-requires : tie.Need-write-bitmap-requires
 write-bitmap-requires c κs =
     let at = c .before .before in
-    let s = at .before .before .before in
-    let k = rw (at .before .step-at .ensures) at (at .if1 .taken) in
-    omega (arith, s .before .pre .3, ap length (data-lamp (s .before .args .count) (s .before .args .body .now) (s .before .pre .1) k))
+    let s = at .before .before .before .before .before in
+    omega (arith, s .pre .3, ap length (data-lamp (s .args .count) (s .args .body .now) (s .pre .1) (lamp at)))
 
 write-powers-requires : tie.Need-write-powers-requires
 write-powers-requires c κs =
     let at = c .before .before .before .before .before .before in
-    let s = at .before .before .before .before in
-    let k = rw (at .before .step-at .ensures) at (at .if1 .taken) in
+    let s = at .before .before .before .before .before in
+    let k = lamp at in
     let e = c .before .before .before .write-bitmap .ensures in (
       s .pre .0,
       s .pre .2,
@@ -52,63 +63,58 @@ same-length c = search needs
 returns : tie.Need-returns
 returns c =
     let at = c .before .before .before .before .before .before .before .before .before in
-    let s = at .before .before .before .before in
-    let k = rw (at .before .step-at .ensures) at (at .if1 .taken) in
+    let s = at .before .before .before .before .before in
     let four = c .before .before .before .before .before .before .write-bitmap .ensures in
     let powers = c .before .before .write-powers .ensures in
     let ss = stepsIn (s .args .count) (s .args .body .now) in
     put-two (s .args .out .now) _ _ (fourBytes (bitmapOf ss)) (powersBytes ss) _ _ _ _
     (four .1 ∙ ap (λ (m : ℕ). sets (s .args .out .now) (s .args .at) (fourBytes m)) (c .before .before .before .before .before .before .before .before .bitmap-of .ensures))
     (four .0) (powers .1) (powers .0)
-    (data-lamp (s .args .count) (s .args .body .now) (s .pre .1) k)
+    (data-lamp (s .args .count) (s .args .body .now) (s .pre .1) (lamp at))
 
 slice-write-out : tie.Need-slice-write-out
 slice-write-out c =
-    let s = c .before .before .before .before in
-    let k = rw (c .before .step-at .ensures) at (c .if1 .left) in
-    omega (arith, s .pre .3, ap length (data-mem (s .args .count) (s .args .body .now) (s .pre .1) k))
+    let s = c .before .before .before .before .before in
+    omega (arith, s .pre .3, ap length (data-mem (s .args .count) (s .args .body .now) (s .pre .1) (byte c)))
 
 add-write-values : tie.Need-add-write-values
 add-write-values c = search needs
 
 write-values-requires : tie.Need-write-values-requires
 write-values-requires c κs =
-    let s = c .before .before .before .before .before in
-    let k = rw (c .before .before .step-at .ensures) at (c .before .if1 .left) in (
+    let s = c .before .before .before .before .before .before in (
       s .pre .0,
       s .pre .2,
       rw length-set (omega (
         arith,
         s .pre .3,
         values-count (s .args .count) (s .args .body .now),
-        ap length (data-mem (s .args .count) (s .args .body .now) (s .pre .1) k),
+        ap length (data-mem (s .args .count) (s .args .body .now) (s .pre .1) (byte (c .before))),
       )),
     )
 
 same-length-2 : tie.Need-same-length-2
 same-length-2 c =
-    c .before .before .write-values .kept .1 .1 .0 ∙ length-set
-    (c .before .before .before .before .before .before .before .before .args .out .now)
-    (c .before .before .before .before .before .before .before .before .args .at)
-    (c .before .before .before .before .before .step-at .result .target)
+    let s = c .before .before .before .before .before .before .before .before .before in
+    c .before .before .write-values .kept .1 .1 .0 ∙ length-set (s .args .out .now) (s .args .at) (c .before .before .before .before .before .before .step-at .result .target)
 
 returns-2 : tie.Need-returns-2
 returns-2 c =
     let at = c .before .before .before .before in
-    let s = at .before .before .before .before in
-    let k = rw (at .before .step-at .ensures) at (at .if1 .left) in
+    let s = at .before .before .before .before .before in
     let vs = c .before .before .write-values .ensures in
     let n = values-count (s .args .count) (s .args .body .now) in
     put-two (s .args .out .now) _ _ (stepAt (s .args .body .now) 0 .target ∷ []) (values (stepsIn (s .args .count) (s .args .body .now))) _
-    _ _ _ (ap (λ (x : Step). set (s .args .out .now) (s .args .at) (x .target)) (at .before .step-at .ensures)) refl (vs .1)
+    _ _ _ (ap (λ (x : Step). set (s .args .out .now) (s .args .at) (x .target)) (at .before .before .step-at .ensures)) refl (vs .1)
     (omega (arith, vs .0, n))
-    (data-mem (s .args .count) (s .args .body .now) (s .pre .1) k)
+    (data-mem (s .args .count) (s .args .body .now) (s .pre .1) (byte at))
 
 pub write-pdata-spec : {M : Type 1} → statement M
 write-pdata-spec =
     tie.close
     (tie.spec
     step-at-requires
+    is-lamp-requires
     bitmap-of-requires
     write-bitmap-requires
     write-powers-requires

@@ -1,7 +1,6 @@
 use mathlib.Core.Path.{sym, _∙_}
 use native.Mathlib.Omega.{arith}
 use borrow.Author.Needs.{needs}
-use Rattle.book.specs.Join.{entryLimit}
 use Rattle.book.proofs.Joining.{size-over, size-yes, size-no}
 use Rattle.book.proofs.join.joined_size.Statement.{statement}
 use Rattle.book.proofs.join.joined_size.Tie as tie
@@ -27,7 +26,7 @@ returns c =
     let x = c .before .before .step-at2 .result in
     let e = c .before .step-size .ensures .0 in
     rw (← (c .before .before .before .step-at .ensures), ← (c .before .before .step-at2 .ensures))
-    (size-over entryLimit _ x (a .kind) (a .size) (omega (arith, e, c .if1 .taken)))
+    (size-over (a .most) _ x (a .kind) (a .size) (omega (arith, e, c .if1 .taken)))
 
 may-follow-requires : tie.Need-may-follow-requires
 may-follow-requires c κs = search needs
@@ -39,14 +38,14 @@ returns-2 c =
     let x = at .before .step-at2 .result in
     let e = at .step-size .ensures .0 in
     rw (← (at .before .before .step-at .ensures), ← (at .before .step-at2 .ensures))
-    (rw e (size-yes entryLimit _ x (a .kind) (a .size) (omega (arith, e, c .before .before .if1 .left)) (sym (c .before .may-follow .ensures) ∙ c .if2 .taken)))
+    (rw e (size-yes (a .most) _ x (a .kind) (a .size) (omega (arith, e, c .before .before .if1 .left)) (sym (c .before .may-follow .ensures) ∙ c .if2 .taken)))
 
 returns-3 : tie.Need-returns-3
 returns-3 c =
     let at = c .before .before .before in
     let a = at .before .before .before .before .args in
     rw (← (at .before .before .step-at .ensures), ← (at .before .step-at2 .ensures))
-    (size-no entryLimit _ _ (a .kind) (a .size) (sym (c .before .may-follow .ensures) ∙ c .if2 .left))
+    (size-no (a .most) _ _ (a .kind) (a .size) (sym (c .before .may-follow .ensures) ∙ c .if2 .left))
 
 pub joined-size-spec : {M : Type 1} → statement M
 joined-size-spec =

@@ -1,9 +1,13 @@
+use mathlib.Core.Path.{sym, _∙_}
 use native.Mathlib.Numerals.{add-one}
 use borrow.Author.Needs.{needs}
-use borrow.Author.Tests.{lt-ltb, le-ltb, eq-eqb, ne-eqb}
+use borrow.Author.Tests.{lt-ltb, eq-eqb, ne-eqb}
 use Rattle.book.specs.Join.{follows}
 use Rattle.book.proofs.join.may_follow.Statement.{statement}
 use Rattle.book.proofs.join.may_follow.Tie as tie
+
+is-lamp-requires : tie.Need-is-lamp-requires
+is-lamp-requires c κs = search needs
 
 wide-requires : tie.Need-wide-requires
 wide-requires c κs = search needs
@@ -16,12 +20,12 @@ add-result c = search needs
 
 returns : tie.Need-returns
 unfolding follows
-returns c = simp (eq-eqb _ _ (c .before .before .before .before .if1 .taken), lt-ltb _ _ (c .before .before .if2 .taken))
+returns c = simp (eq-eqb _ _ (c .before .before .before .before .if1 .taken), sym (c .before .before .before .is-lamp .ensures) ∙ c .before .before .if2 .taken)
 
 returns-2 : tie.Need-returns-2
 unfolding follows
 returns-2 c =
-    simp (eq-eqb _ _ (c .before .before .before .before .if1 .taken), le-ltb _ _ (c .before .before .if2 .left), c .before .wide .ensures .0, c .wide2 .ensures .0, add-one)
+    simp (eq-eqb _ _ (c .before .before .before .before .if1 .taken), sym (c .before .before .before .is-lamp .ensures) ∙ c .before .before .if2 .left, c .before .wide .ensures .0, c .wide2 .ensures .0, add-one)
 
 returns-3 : tie.Need-returns-3
 unfolding follows
@@ -29,4 +33,4 @@ returns-3 c = simp (ne-eqb _ _ (c .if1 .left))
 
 pub may-follow-spec : {M : Type 1} → statement M
 may-follow-spec =
-    tie.close (tie.spec wide-requires wide-requires-2 add-result returns returns-2 returns-3)
+    tie.close (tie.spec is-lamp-requires wide-requires wide-requires-2 add-result returns returns-2 returns-3)

@@ -1,6 +1,5 @@
 use native.Mathlib.Omega.{arith}
 use borrow.Author.Needs.{needs}
-use Rattle.book.specs.Join.{entryLimit}
 use Rattle.book.proofs.Joining.{run-part}
 use Rattle.book.proofs.join.run_from.Statement.{statement}
 use Rattle.book.proofs.join.run_from.Tie as tie
@@ -26,7 +25,7 @@ run-of-requires c κs = search needs
 returns : tie.Need-returns
 returns c =
     let a = c .before .before .before .args in
-    run-part entryLimit (a .count) (a .done) (a .body .now) _ _ (omega arith) (c .run-of .ensures)
+    run-part (a .most) (a .count) (a .done) (a .body .now) _ _ (omega arith) (c .run-of .ensures)
 
 pub run-from-spec : {M : Type 1} → statement M
 run-from-spec =

@@ -1,20 +1,25 @@
+use mathlib.Core.Path.{sym, _∙_}
 use native.Mathlib.Omega.{arith}
-use borrow.Author.Tests.{lt-ltb, le-ltb, eq-eqb, ne-eqb}
+use borrow.Author.Needs.{needs}
+use borrow.Author.Tests.{eq-eqb, ne-eqb}
 use Rattle.book.specs.Run.{stepSize, powerSize}
 use Rattle.book.proofs.join.step_size.Statement.{statement}
 use Rattle.book.proofs.join.step_size.Tie as tie
 
+is-lamp-requires : tie.Need-is-lamp-requires
+is-lamp-requires c κs = search needs
+
 returns : tie.Need-returns
 unfolding stepSize powerSize
-returns c = (simp (lt-ltb _ _ (c .before .before .if1 .taken), eq-eqb _ _ (c .if2 .taken)), omega arith)
+returns c = (simp (sym (c .before .before .before .is-lamp .ensures) ∙ c .before .before .if1 .taken, eq-eqb _ _ (c .if2 .taken)), omega arith)
 
 returns-2 : tie.Need-returns-2
 unfolding stepSize powerSize
-returns-2 c = (simp (lt-ltb _ _ (c .before .before .if1 .taken), ne-eqb _ _ (c .if2 .left)), omega arith)
+returns-2 c = (simp (sym (c .before .before .before .is-lamp .ensures) ∙ c .before .before .if1 .taken, ne-eqb _ _ (c .if2 .left)), omega arith)
 
 returns-3 : tie.Need-returns-3
 unfolding stepSize powerSize
-returns-3 c = (simp (le-ltb _ _ (c .if1 .left)), omega arith)
+returns-3 c = (simp (sym (c .before .is-lamp .ensures) ∙ c .if1 .left), omega arith)
 
 pub step-size-spec : {M : Type 1} → statement M
-step-size-spec = tie.close (tie.spec returns returns-2 returns-3)
+step-size-spec = tie.close (tie.spec is-lamp-requires returns returns-2 returns-3)

@@ -1,22 +1,27 @@
+use mathlib.Core.Path.{sym, _∙_}
 use borrow.Author.Needs.{needs}
-use borrow.Author.Tests.{lt-ltb, le-ltb, eq-eqb, ne-eqb}
+use borrow.Author.Tests.{eq-eqb, ne-eqb}
 use Rattle.book.specs.Step.{stepFault}
 use Rattle.book.proofs.step.step_fault.Statement.{statement}
 use Rattle.book.proofs.step.step_fault.Tie as tie
+
+is-lamp-requires : tie.Need-is-lamp-requires
+is-lamp-requires c κs = search needs
 
 lamp-fault-requires : tie.Need-lamp-fault-requires
 lamp-fault-requires c κs = search needs
 
 returns : tie.Need-returns
 unfolding stepFault
-returns c = rw (lt-ltb _ _ (c .before .if1 .taken)) (c .lamp-fault .ensures)
+returns c = rw (sym (c .before .before .is-lamp .ensures) ∙ c .before .if1 .taken) (c .lamp-fault .ensures)
 
 byte-fault-requires : tie.Need-byte-fault-requires
 byte-fault-requires c κs = search needs
 
 returns-2 : tie.Need-returns-2
 unfolding stepFault
-returns-2 c = rw (le-ltb _ _ (c .before .before .before .if1 .left), eq-eqb _ _ (c .before .if2 .taken)) (c .byte-fault .ensures)
+returns-2 c =
+    rw (sym (c .before .before .before .before .is-lamp .ensures) ∙ c .before .before .before .if1 .left, eq-eqb _ _ (c .before .if2 .taken)) (c .byte-fault .ensures)
 
 byte-fault-requires-2 : tie.Need-byte-fault-requires-2
 byte-fault-requires-2 c κs = search needs
@@ -24,17 +29,21 @@ byte-fault-requires-2 c κs = search needs
 returns-3 : tie.Need-returns-3
 unfolding stepFault
 returns-3 c =
-    rw (le-ltb _ _ (c .before .before .before .before .before .if1 .left), ne-eqb _ _ (c .before .before .before .if2 .left), eq-eqb _ _ (c .before .if3 .taken))
+    let d = c .before .before .before .before .before in
+    rw (sym (d .before .is-lamp .ensures) ∙ d .if1 .left, ne-eqb _ _ (c .before .before .before .if2 .left), eq-eqb _ _ (c .before .if3 .taken))
     (c .byte-fault2 .ensures)
 
 returns-4 : tie.Need-returns-4
 unfolding stepFault
-returns-4 c = simp (le-ltb _ _ (c .before .before .before .before .if1 .left), ne-eqb _ _ (c .before .before .if2 .left), ne-eqb _ _ (c .if3 .left))
+returns-4 c =
+    let d = c .before .before .before .before in
+    simp (sym (d .before .is-lamp .ensures) ∙ d .if1 .left, ne-eqb _ _ (c .before .before .if2 .left), ne-eqb _ _ (c .if3 .left))
 
 pub step-fault-spec : {M : Type 1} → statement M
 step-fault-spec =
     tie.close
     (tie.spec
+    is-lamp-requires
     lamp-fault-requires
     returns
     byte-fault-requires

@@ -1,36 +1,11 @@
-use mathlib.Core.Bool.{true}
-use mathlib.Core.Path.{_≡_, sym, ap, _∙_}
-use Prim.Native.Nat.{_+_, _*_, _<_, _≤_}
-use native.Mathlib.Omega.{arith}
-use lib.ListN.{length, drop, length-drop}
+use mathlib.Core.Path.{sym, ap, _∙_}
 use borrow.Author.Needs.{needs}
-use borrow.Author.Tests.{le-leb, lt-leb, not-true, not-false}
-use Rattle.dpa.proofs.Lists.{to-end}
-use Rattle.book.specs.declared.contents.Content.{Content}
-use Rattle.book.specs.Book.{countOf, bookOk, sceneOf, stepsIn}
-use Rattle.book.proofs.Books.{book-facts, body-within, scene-is}
+use borrow.Author.Tests.{not-true, not-false}
 use Rattle.scene.specs.declared.compile.CompileAnswer.{CompileAnswer}
-use Rattle.scene.specs.Call.{compiledAs, compileOf, addressOk}
+use Rattle.scene.specs.Call.{compiledAs, compileOf}
+use Rattle.scene.proofs.Lists.{limits}
 use Rattle.scene.proofs.compile.compile.Statement.{statement}
 use Rattle.scene.proofs.compile.compile.Tie as tie
-
-address : (c : tie.Else1) → addressOk (c .before .before .before .before .args .address) ≡ true
-address c = sym (c .before .address-ok .ensures) ∙ not-false _ (c .if1 .left)
-
-book : (c : tie.Else2) → bookOk (c .before .before .before .before .before .before .args .book .now) ≡ true
-book c = sym (c .before .book-ok .ensures) ∙ not-false _ (c .if2 .left)
-
-below : (c : tie.Else3) → let a = c .before .before .before .before .before .before .before .before .before .args in
-    a .scene < countOf (a .book .now)
-below c = rw (c .before .wide .ensures .0) at (c .if3 .left)
-
-inside : (c : tie.After-content-at) → let a = c .before .before .before .before .before .before .before .before .before .before .args in
-    let n = c .content-at .result in
-    (n .offset + 4 * n .steps ≤ length (a .book .now)) × (n .steps ≤ 64)
-inside c =
-    let s = c .before .before .before .before .before .before .before .before .before .before in
-    let p = c .content-at .ensures in
-    rw (p .0) (body-within (s .args .book .now) (s .args .scene) (book (c .before .before .before .before)) (below (c .before)))
 
 address-ok-requires : tie.Need-address-ok-requires
 address-ok-requires c κs = search needs
@@ -44,67 +19,18 @@ returns c =
     rw (sym (c .before .before .address-ok .ensures) ∙ not-true _ (c .before .if1 .taken))
     (ap (λ (r : CompileAnswer). compiledAs r (c .before .before .before .before .before .args .out .now)) (c .refused .ensures))
 
-book-ok-requires : tie.Need-book-ok-requires
-book-ok-requires c κs = search needs
+slice-aggregate-compile-scene : tie.Need-slice-aggregate-compile-scene
+slice-aggregate-compile-scene c = search needs
 
-refused-requires-2 : tie.Need-refused-requires-2
-refused-requires-2 c κs = search needs
-
-returns-2 : tie.Need-returns-2
-unfolding compileOf
-returns-2 c =
-    rw (address (c .before .before .before), sym (c .before .before .book-ok .ensures) ∙ not-true _ (c .before .if2 .taken))
-    (ap (λ (r : CompileAnswer). compiledAs r (c .before .before .before .before .before .before .before .args .out .now)) (c .refused2 .ensures))
-
-shared-slice-read-wide : tie.Need-shared-slice-read-wide
-shared-slice-read-wide c = omega (arith, book-facts _ (book (c .before)))
-
-wide-requires : tie.Need-wide-requires
-wide-requires c κs = search needs
-
-refused-requires-3 : tie.Need-refused-requires-3
-refused-requires-3 c κs = search needs
-
-returns-3 : tie.Need-returns-3
-unfolding compileOf
-returns-3 c =
-    let d = c .before .before .before .before in
-    rw (address (d .before .before), book d, le-leb _ _ (rw (c .before .before .wide .ensures .0) at (c .before .if3 .taken)))
-    (ap (λ (r : CompileAnswer). compiledAs r (c .before .before .before .before .before .before .before .before .before .before .args .out .now)) (c .refused3 .ensures))
-
-content-at-requires : tie.Need-content-at-requires
-content-at-requires c κs = omega (arith, book-facts _ (book (c .before .before .before)), below c)
-
-sub-compile-steps : tie.Need-sub-compile-steps
-sub-compile-steps c = omega (arith, inside c)
-
-part-compile-steps-start : tie.Need-part-compile-steps-start
-part-compile-steps-start c = omega (arith, inside c)
-
-part-compile-steps-end : tie.Need-part-compile-steps-end
-part-compile-steps-end c = search needs
-
-compile-steps-requires : tie.Need-compile-steps-requires
-compile-steps-requires c κs =
-    let d = c .before .before in
-    let b = d .before .before .before .before .before .before .before .before .before .before .args .book .now in
-    rw (to-end (d .content-at .result .offset) b) (omega (arith, inside d, length-drop (d .content-at .result .offset) b))
+compile-scene-requires : tie.Need-compile-scene-requires
+compile-scene-requires c κs = limits
 
 same-length : tie.Need-same-length
 same-length c = search needs
 
-returns-4 : tie.Need-returns-4
+returns-2 : tie.Need-returns-2
 unfolding compileOf
-returns-4 c =
-    let d = c .before .before .before .before .before in
-    let e = d .before .before .before .before in
-    let s = d .before .before .before .before .before .before .before .before .before .before in
-    let b = s .args .book .now in
-    let p = d .content-at .ensures in
-    let scene : sceneOf b (s .args .scene) ≡ stepsIn (d .content-at .result .steps) (drop (d .content-at .result .offset) b) =
-    scene-is b (s .args .scene) (below (d .before)) ∙ ap (λ (x : Content). stepsIn (x .steps) (drop (x .offset) b)) (sym (p .0)) in
-    rw (address (e .before .before), book e, lt-leb (countOf b) (s .args .scene) (below (d .before)), scene)
-    (rw (to-end (d .content-at .result .offset) b) at (c .before .before .compile-steps .ensures))
+returns-2 c = rw (sym (c .before .before .before .before .before .before .address-ok .ensures) ∙ not-false _ (c .before .before .before .before .before .if1 .left)) (c .before .before .compile-scene .ensures)
 
 pub compile-spec : {M : Type 1} → statement M
 compile-spec =
@@ -113,17 +39,7 @@ compile-spec =
     address-ok-requires
     refused-requires
     returns
-    book-ok-requires
-    refused-requires-2
-    returns-2
-    shared-slice-read-wide
-    wide-requires
-    refused-requires-3
-    returns-3
-    content-at-requires
-    sub-compile-steps
-    part-compile-steps-start
-    part-compile-steps-end
-    compile-steps-requires
+    slice-aggregate-compile-scene
+    compile-scene-requires
     same-length
-    returns-4)
+    returns-2)

@@ -3,8 +3,6 @@ use mathlib.Core.Path.{refl, ap}
 use native.Mathlib.Omega.{arith}
 use lib.ListN.{length}
 use borrow.Author.Needs.{needs}
-use Rattle.dpa.specs.Frame.{headerSize}
-use Rattle.scene.specs.Compile.{listLimit}
 use Rattle.scene.proofs.Filling.{turn-in, turn-out}
 use Rattle.scene.proofs.fill.next_length.Statement.{statement}
 use Rattle.scene.proofs.fill.next_length.Tie as tie
@@ -15,13 +13,13 @@ add-entry c = search needs
 add-if1 : tie.Need-add-if1
 add-if1 c = search needs
 
-add-t8 : tie.Need-add-t8
-add-t8 c = search needs
+add-t10 : tie.Need-add-t10
+add-t10 c = search needs
 
 returns : tie.Need-returns
 returns c =
     let a = c .before .args in
-    let t = turn-in listLimit [] headerSize (a .size) (a .more) (c .if1 .taken) in
+    let t = turn-in (a .limit) [] (a .head) (a .size) (a .more) (c .if1 .taken) in
     rw (t .1, t .2) (omega arith, refl, refl)
 
 add-out : tie.Need-add-out
@@ -33,13 +31,13 @@ cast-out c = search needs
 slice-write-out : tie.Need-slice-write-out
 slice-write-out c =
     let a = c .before .args in
-    omega (arith, c .before .pre .2, ap length (turn-out listLimit [] headerSize (a .size) (a .more) (c .if1 .left) .1))
+    omega (arith, c .before .pre .3, ap length (turn-out (a .limit) [] (a .head) (a .size) (a .more) (c .if1 .left) .1))
 
-add-t6 : tie.Need-add-t6
-add-t6 c = search needs
+add-t8 : tie.Need-add-t8
+add-t8 c = search needs
 
-add-t11 : tie.Need-add-t11
-add-t11 c = search needs
+add-t13 : tie.Need-add-t13
+add-t13 c = search needs
 
 same-length : tie.Need-same-length
 same-length c = search needs
@@ -47,7 +45,7 @@ same-length c = search needs
 returns-2 : tie.Need-returns-2
 returns-2 c =
     let a = c .before .args in
-    let t = turn-out listLimit [] headerSize (a .size) (a .more) (c .if1 .left) in
+    let t = turn-out (a .limit) [] (a .head) (a .size) (a .more) (c .if1 .left) in
     rw (t .1, t .2) (refl, omega arith, refl)
 
 pub next-length-spec : {M : Type 1} → statement M
@@ -56,12 +54,12 @@ next-length-spec =
     (tie.spec
     add-entry
     add-if1
-    add-t8
+    add-t10
     returns
     add-out
     cast-out
     slice-write-out
-    add-t6
-    add-t11
+    add-t8
+    add-t13
     same-length
     returns-2)

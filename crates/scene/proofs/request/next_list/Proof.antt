@@ -1,15 +1,18 @@
-use mathlib.Core.List.{[], _∷_}
+use mathlib.Core.List.{List, [], _∷_, _++_}
 use mathlib.Core.Path.{refl, ap, _∙_}
-use Prim.Native.Nat.{_+_, _≤_}
+use Prim.Native.Nat.{ℕ, _+_, _≤_}
 use native.Mathlib.Omega.{arith}
 use lib.ListN.{length, length-set}
 use borrow.Author.Needs.{needs}
-use Rattle.dpa.specs.Frame.{frame, headerBytes, headerSize}
+use Rattle.dpa.specs.Frame.{headerBytes}
 use Rattle.book.proofs.Writing.{put-two}
-use Rattle.scene.specs.Compile.{listLimit}
 use Rattle.scene.proofs.Filling.{turn-in, turn-out}
 use Rattle.scene.proofs.request.next_list.Statement.{statement}
 use Rattle.scene.proofs.request.next_list.Tie as tie
+
+-- what a request begins with
+abbrev head : tie.Start → List ℕ
+head s = headerBytes (s .args .head) ++ s .args .front .now
 
 add-entry : tie.Need-add-entry
 add-entry c = search needs
@@ -17,49 +20,45 @@ add-entry c = search needs
 add-if1 : tie.Need-add-if1
 add-if1 c = search needs
 
-add-t11 : tie.Need-add-t11
-add-t11 c = search needs
+add-t12 : tie.Need-add-t12
+add-t12 c = search needs
 
 returns : tie.Need-returns
 returns c =
-    let a = c .before .before .args in
-    let t = turn-in listLimit (headerBytes (frame (a .address) 2 5 (a .hwpid))) headerSize (a .size) (a .more) (c .if1 .taken) in
+    let s = c .before .before .before in
+    let t = turn-in (s .args .limit) (head s) 0 (s .args .size) (s .args .more) (c .if1 .taken) in
     rw (t .0, t .2) (omega arith, refl, refl)
 
--- the zero and the header have room
-room : (c : tie.Else1) → c .before .before .args .at + 7 ≤ length (c .before .before .args .out .now)
+-- the zero and the next beginning have room
+room : (c : tie.Else1) → let s = c .before .before .before in s .args .at + (1 + length (head s)) ≤ length (s .args .out .now)
 room c =
-    let a = c .before .before .args in
-    omega (
-      arith,
-      c .before .before .pre .2,
-      ap length (turn-out listLimit (headerBytes (frame (a .address) 2 5 (a .hwpid))) headerSize (a .size) (a .more) (c .if1 .left) .0),
-    )
+    let s = c .before .before .before in
+    omega (arith, s .pre .3, ap length (turn-out (s .args .limit) (head s) 0 (s .args .size) (s .args .more) (c .if1 .left) .0))
 
 slice-write-out : tie.Need-slice-write-out
 slice-write-out c = omega (arith, room c)
 
-add-write-header : tie.Need-add-write-header
-add-write-header c = search needs
+add-begin-request : tie.Need-add-begin-request
+add-begin-request c = omega (arith, room (c .before))
 
-write-header-requires : tie.Need-write-header-requires
-write-header-requires c κs = rw length-set (omega (arith, room (c .before)))
+begin-request-requires : tie.Need-begin-request-requires
+begin-request-requires c κs = rw length-set (omega (arith, room (c .before)))
 
-add-t9 : tie.Need-add-t9
-add-t9 c = search needs
+add-t10 : tie.Need-add-t10
+add-t10 c = search needs
 
 same-length : tie.Need-same-length
 same-length c =
-    let a = c .before .before .before .before .before .before .args in
-    c .before .before .write-header .kept .1 .1 .0 ∙ length-set (a .out .now) (a .at) 0
+    let a = c .before .before .before .before .before .before .before .args in
+    c .before .before .begin-request .kept .1 .1 .0 ∙ length-set (a .out .now) (a .at) 0
 
 returns-2 : tie.Need-returns-2
 returns-2 c =
-    let a = c .before .before .before .before .before .before .args in
-    let head = headerBytes (frame (a .address) 2 5 (a .hwpid)) in
-    let t = turn-out listLimit head headerSize (a .size) (a .more) (c .before .before .before .before .if1 .left) in
-    let w = c .before .before .write-header .ensures in
-    let both = put-two (a .out .now) _ _ (0 ∷ []) head (0 ∷ head) (a .at) _ _ refl refl (w .1) (w .0) refl in
+    let s = c .before .before .before .before .before .before .before in
+    let a = s .args in
+    let t = turn-out (a .limit) (head s) 0 (a .size) (a .more) (c .before .before .before .before .if1 .left) in
+    let w = c .before .before .begin-request .ensures in
+    let both = put-two (a .out .now) _ _ (0 ∷ []) (head s) (0 ∷ head s) (a .at) _ _ refl refl (w .1) (w .0) refl in
     rw (t .0, t .2) (both .0, omega arith, both .1)
 
 pub next-list-spec : {M : Type 1} → statement M
@@ -68,11 +67,11 @@ next-list-spec =
     (tie.spec
     add-entry
     add-if1
-    add-t11
+    add-t12
     returns
     slice-write-out
-    add-write-header
-    write-header-requires
-    add-t9
+    add-begin-request
+    begin-request-requires
+    add-t10
     same-length
     returns-2)

@@ -1,0 +1,20 @@
+// The kinds of steps.
+ghost use mathlib.Core.Path.{_≡_};
+ghost use Rattle.book.specs.Step.{isLamp};
+
+pub const SET: u8 = 0;
+
+pub const RAISE: u8 = 1;
+
+pub const LOWER: u8 = 2;
+
+pub const WRITE_RAM: u8 = 3;
+
+pub const WRITE_EEPROM: u8 = 4;
+
+// Whether it sets, raises or lowers a lamp.
+pub fn is_lamp(kind: u8) -> bool
+    ensures { λ r. ⌜ r ≡ isLamp kind ⌝ }
+{
+    kind < WRITE_RAM
+}

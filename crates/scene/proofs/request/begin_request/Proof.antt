@@ -1,0 +1,36 @@
+use mathlib.Core.List.{_++_}
+use mathlib.Core.Path.{refl, _∙_}
+use native.Mathlib.Omega.{arith}
+use lib.ListN.{length}
+use borrow.Author.Needs.{needs}
+use Rattle.dpa.specs.Frame.{headerBytes}
+use Rattle.memory.proofs.Puts.{put-sets}
+use Rattle.book.proofs.Writing.{put-two}
+use Rattle.scene.proofs.request.begin_request.Statement.{statement}
+use Rattle.scene.proofs.request.begin_request.Tie as tie
+
+write-header-requires : tie.Need-write-header-requires
+write-header-requires c κs = search needs
+
+copy-in-requires : tie.Need-copy-in-requires
+copy-in-requires c κs = search needs
+
+add-result : tie.Need-add-result
+add-result c = search needs
+
+same-length : tie.Need-same-length
+same-length c = search needs
+
+returns : tie.Need-returns
+returns c =
+    let a = c .before .before .before .before .before .before .before .before .before .before .args in
+    let w = c .before .before .before .before .before .before .write-header in
+    let p = c .before .before .copy-in in
+    put-two (a .out .now) (w .last .1 .0) _ (headerBytes (a .head)) (a .front .now) (headerBytes (a .head) ++ a .front .now) (a .at) (w .result) _
+    (w .ensures .1) (w .ensures .0)
+    (p .ensures ∙ put-sets (w .last .1 .0) (w .result) (a .front .now) (omega (arith, c .before .before .before .before .before .before .before .before .before .before .pre, w .ensures .0, w .kept .1 .0)))
+    refl refl
+
+pub begin-request-spec : {M : Type 1} → statement M
+begin-request-spec =
+    tie.close (tie.spec write-header-requires copy-in-requires add-result same-length returns)
