@@ -22,7 +22,7 @@ pub struct Content {
 }
 
 pub fn content_at(book: &[u8], scene: usize) -> Content
-    requires { ⌜ (contentLength * scene + 4 ≤ length (now book)) × (scene ≤ scenesMax) ⌝ }
+    requires { ⌜ (1 + contentLength * scene + contentLength ≤ length (now book)) × (scene ≤ scenesMax) ⌝ }
     ensures { λ r. ⌜ (r ≡ contentAt (now (book .entry)) scene) × (r .steps < 256) × (r .offset < 65536) ⌝ }
 {
     Content {
