@@ -11,7 +11,7 @@ use Rattle.book.specs.declared.step.Step.{Step}
 use Rattle.book.specs.Book.{stepLength, stepsIn}
 use Rattle.book.specs.Step.{ramKind}
 use Rattle.book.specs.Join.{follows, entriesOf}
-use Rattle.book.specs.Run.{oneStepMax, FirstRun, Writable, AllGood}
+use Rattle.book.specs.Run.{oneStepMax, FirstEntry, Writable, AllGood}
 use Rattle.book.proofs.Faults.{Good, lamp-good}
 use Rattle.book.proofs.Groups.{all-drop}
 use Rattle.book.proofs.Runs.{Linked, Run, runs}
@@ -39,7 +39,7 @@ run-lamps entryMost (s ∷ ss) r k (suc j) h = linked-lamps s ss (r .1) k j (ome
 
 -- the steps of an entry can be written
 pub entry-ok : (entryMost : ℕ) → oneStepMax ≤ entryMost → (n i k size : ℕ) (a : List ℕ) → AllGood a n → i + k ≤ n
-    → FirstRun entryMost (drop i (stepsIn n a)) k size → Writable (drop (stepLength * i) a) k
+    → FirstEntry entryMost (drop i (stepsIn n a)) k size → Writable (drop (stepLength * i) a) k
 entry-ok entryMost six n i k size a g h f =
     let ss = drop i (stepsIn n a) in
     let b = drop (stepLength * i) a in

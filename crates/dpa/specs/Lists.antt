@@ -5,12 +5,12 @@ use mathlib.Core.Bool.{Bool, true, _&&_}
 use lib.ListN.{length, take, drop, getD}
 
 -- xs at the front of ys; the later bytes of ys stay
-abbrev pub over : List ℕ → List ℕ → List ℕ
-over xs ys = xs ++ drop (length xs) ys
+abbrev pub overwriteFront : List ℕ → List ℕ → List ℕ
+overwriteFront xs ys = xs ++ drop (length xs) ys
 
 -- n bytes of a list from a start
-abbrev pub part : List ℕ → ℕ → ℕ → List ℕ
-part xs start n = take n (drop start xs)
+abbrev pub slice : List ℕ → ℕ → ℕ → List ℕ
+slice xs start n = take n (drop start xs)
 
 -- every element is a byte
 abbrev pub Bytes : List ℕ → Type 0

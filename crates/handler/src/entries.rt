@@ -1,7 +1,7 @@
 // The entries of a batch, one after the other.
 use crate::peripheral::peripheral;
 use batch::entry::HEAD;
-use batch::entry::Next;
+use batch::entry::NextEntry;
 use batch::entry::at_end;
 use batch::entry::next_entry;
 use dpa::frame::Frame;
@@ -10,11 +10,11 @@ use lights::lamp::Lamp;
 use node::record::ReadOnly;
 ghost use mathlib.Core.Path.{_≡_};
 ghost use Rattle.batch.specs.Batch.{item, reading, runItems};
-ghost use Rattle.handler.specs.Request.{held, StateRule, forNode, entryAfter};
+ghost use Rattle.handler.specs.Request.{stateFromParts, StateRule, hwpidMatches, entryAfter};
 
 // Whether a request's HWPID is the node's or the wildcard.
-pub fn for_node(settings: Settings, hwpid: u16) -> bool
-    ensures { λ r. ⌜ r ≡ forNode settings hwpid ⌝ }
+pub fn hwpid_matches(settings: Settings, hwpid: u16) -> bool
+    ensures { λ r. ⌜ r ≡ hwpidMatches settings hwpid ⌝ }
 {
     if hwpid == settings.hwpid {
         return true;
@@ -34,11 +34,11 @@ fn run_entry(
     eeprom: &mut [u8],
     external: &mut [u8],
 ) -> [Lamp; 32]
-    requires { ⌜ StateRule (held fixed lamps (now ram) (now eeprom) (now external)) ⌝ }
-    ensures { λ r. ⌜ held fixed r (now (ram .exit)) (now (eeprom .exit)) (now (external .exit))
-        ≡ entryAfter (item pnum pcmd hwpid (now (pdata .entry))) (held fixed lamps (now (ram .entry)) (now (eeprom .entry)) (now (external .entry))) ⌝ }
+    requires { ⌜ StateRule (stateFromParts fixed lamps (now ram) (now eeprom) (now external)) ⌝ }
+    ensures { λ r. ⌜ stateFromParts fixed r (now (ram .exit)) (now (eeprom .exit)) (now (external .exit))
+        ≡ entryAfter (item pnum pcmd hwpid (now (pdata .entry))) (stateFromParts fixed lamps (now (ram .entry)) (now (eeprom .entry)) (now (external .entry))) ⌝ }
 {
-    if for_node(fixed.settings, hwpid) {
+    if hwpid_matches(fixed.settings, hwpid) {
         let mut scratch = [0u8; Frame::PDATA_MAX];
         let reply = peripheral(
             fixed,
@@ -65,13 +65,13 @@ pub fn run_list(
     eeprom: &mut [u8],
     external: &mut [u8],
 ) -> [Lamp; 32]
-    requires { ⌜ StateRule (held fixed lamps (now ram) (now eeprom) (now external)) ⌝ }
-    ensures { λ r. ⌜ held fixed r (now (ram .exit)) (now (eeprom .exit)) (now (external .exit))
-        ≡ runItems entryAfter (reading (now (list .entry)) .items) (held fixed lamps (now (ram .entry)) (now (eeprom .entry)) (now (external .entry))) ⌝ }
+    requires { ⌜ StateRule (stateFromParts fixed lamps (now ram) (now eeprom) (now external)) ⌝ }
+    ensures { λ r. ⌜ stateFromParts fixed r (now (ram .exit)) (now (eeprom .exit)) (now (external .exit))
+        ≡ runItems entryAfter (reading (now (list .entry)) .items) (stateFromParts fixed lamps (now (ram .entry)) (now (eeprom .entry)) (now (external .entry))) ⌝ }
 {
     let mut at: usize = 0;
     while !at_end(&list[at..]) {
-        let Next::Entry {
+        let NextEntry::Entry {
             len,
             pnum,
             pcmd,

@@ -9,10 +9,10 @@ ghost use mathlib.Core.Path.{_≡_};
 ghost use mathlib.Core.Bool.{true};
 ghost use Prim.Native.Nat.{_≤_};
 ghost use lib.ListN.{length, drop};
-ghost use Rattle.dpa.specs.Served.{laid, layOut};
+ghost use Rattle.dpa.specs.Reply.{replySeen, replyInBuffer};
 ghost use Rattle.dpa.specs.Settings.{settingsOk};
 ghost use Rattle.lights.specs.Bits.{bits, count};
-ghost use Rattle.lights.specs.Lamp.{Dimmed};
+ghost use Rattle.lights.specs.Lamp.{LevelsInRange};
 ghost use Rattle.lights.specs.Lights.{newLevel, lampAfter, entries, isGood, answered};
 
 pub enum Command {
@@ -61,10 +61,10 @@ pub fn apply(
     lamps: [Lamp; 32],
     out: &mut [u8],
 ) -> [Lamp; 32]
-    requires { ⌜ (settingsOk settings ≡ true) × Dimmed lamps × (32 ≤ length (now out)) × (4 ≤ length (now pdata))
+    requires { ⌜ (settingsOk settings ≡ true) × LevelsInRange lamps × (32 ≤ length (now out)) × (4 ≤ length (now pdata))
         × (isGood (entries (count (bits 32 mask)) (drop 4 (now pdata))) ≡ true) ⌝ }
-    ensures { λ r. ⌜ laid r 0 (count (bits 32 mask)) (now (out .exit))
-        ≡ layOut (answered settings command (bits 32 mask) lamps (entries (count (bits 32 mask)) (drop 4 (now (pdata .entry))))) (now (out .entry)) ⌝ }
+    ensures { λ r. ⌜ replySeen r 0 (count (bits 32 mask)) (now (out .exit))
+        ≡ replyInBuffer (answered settings command (bits 32 mask) lamps (entries (count (bits 32 mask)) (drop 4 (now (pdata .entry))))) (now (out .entry)) ⌝ }
 {
     let n = wide(settings.lamp_count);
     let mut after = lamps;

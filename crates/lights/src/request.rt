@@ -12,10 +12,10 @@ ghost use mathlib.Core.Bool.{true};
 ghost use Prim.Native.Nat.{_≤_};
 ghost use lib.ListN.{length};
 ghost use Rattle.dpa.specs.Frame.{pdataMax};
-ghost use Rattle.dpa.specs.Served.{laid, layOut};
+ghost use Rattle.dpa.specs.Reply.{replySeen, replyInBuffer};
 ghost use Rattle.dpa.specs.Settings.{settingsOk};
 ghost use Rattle.lights.specs.Bits.{bits, count, maskOf};
-ghost use Rattle.lights.specs.Lamp.{Dimmed};
+ghost use Rattle.lights.specs.Lamp.{LevelsInRange};
 ghost use Rattle.lights.specs.Lights.{commandOf, changeLamps, enumerateLamps, lightsRequest};
 
 pub const SET: u8 = 0x00;
@@ -78,8 +78,8 @@ fn change_lamps(
     pdata: &[u8],
     out: &mut [u8],
 ) -> LampsReply
-    requires { ⌜ (settingsOk settings ≡ true) × Dimmed lamps × (32 ≤ length (now out)) ⌝ }
-    ensures { λ r. ⌜ laid (r .lamps) (r .error) (r .length) (now (out .exit)) ≡ layOut (changeLamps settings command (now (pdata .entry)) lamps) (now (out .entry)) ⌝ }
+    requires { ⌜ (settingsOk settings ≡ true) × LevelsInRange lamps × (32 ≤ length (now out)) ⌝ }
+    ensures { λ r. ⌜ replySeen (r .lamps) (r .error) (r .length) (now (out .exit)) ≡ replyInBuffer (changeLamps settings command (now (pdata .entry)) lamps) (now (out .entry)) ⌝ }
 {
     if pdata.len() < 4 {
         return refuse(error::DATA, lamps);
@@ -99,7 +99,7 @@ fn change_lamps(
 
 fn enumerate(settings: Settings, lamps: [Lamp; 32], pdata: &[u8], out: &mut [u8]) -> LampsReply
     requires { ⌜ 32 ≤ length (now out) ⌝ }
-    ensures { λ r. ⌜ laid (r .lamps) (r .error) (r .length) (now (out .exit)) ≡ layOut (enumerateLamps settings (now (pdata .entry)) lamps) (now (out .entry)) ⌝ }
+    ensures { λ r. ⌜ replySeen (r .lamps) (r .error) (r .length) (now (out .exit)) ≡ replyInBuffer (enumerateLamps settings (now (pdata .entry)) lamps) (now (out .entry)) ⌝ }
 {
     if pdata.len() != 0 {
         return refuse(error::DATA_LEN, lamps);
@@ -120,8 +120,8 @@ pub fn request(
     pdata: &[u8],
     out: &mut [u8],
 ) -> LampsReply
-    requires { ⌜ (settingsOk settings ≡ true) × Dimmed lamps × (pdataMax ≤ length (now out)) ⌝ }
-    ensures { λ r. ⌜ laid (r .lamps) (r .error) (r .length) (now (out .exit)) ≡ layOut (lightsRequest settings pcmd (now (pdata .entry)) lamps) (now (out .entry)) ⌝ }
+    requires { ⌜ (settingsOk settings ≡ true) × LevelsInRange lamps × (pdataMax ≤ length (now out)) ⌝ }
+    ensures { λ r. ⌜ replySeen (r .lamps) (r .error) (r .length) (now (out .exit)) ≡ replyInBuffer (lightsRequest settings pcmd (now (pdata .entry)) lamps) (now (out .entry)) ⌝ }
 {
     if pcmd == ENUMERATE {
         return enumerate(settings, lamps, pdata, out);

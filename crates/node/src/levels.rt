@@ -8,7 +8,7 @@ use lights::lamp::actual_level;
 ghost use mathlib.Core.Path.{_≡_};
 ghost use mathlib.Core.Bool.{true};
 ghost use Rattle.dpa.specs.Settings.{settingsOk};
-ghost use Rattle.lights.specs.Lamp.{Dimmed};
+ghost use Rattle.lights.specs.Lamp.{LevelsInRange};
 ghost use Rattle.node.specs.Node.{actualLevels, levelsOf};
 
 #[repr(C)]
@@ -18,7 +18,7 @@ pub struct LevelsAnswer {
 }
 
 fn each_level(settings: Settings, lamps: [Lamp; 32]) -> [u8; 32]
-    requires { ⌜ (settingsOk settings ≡ true) × Dimmed lamps ⌝ }
+    requires { ⌜ (settingsOk settings ≡ true) × LevelsInRange lamps ⌝ }
     ensures { λ r. ⌜ r ≡ actualLevels settings lamps ⌝ }
 {
     let mut levels = [0u8; 32];

@@ -1,6 +1,6 @@
 use borrow.Author.Needs.{needs}
 use mathlib.Core.Path.{ap}
-use Rattle.handler.specs.Request.{Called}
+use Rattle.handler.specs.Request.{CallResult}
 use Rattle.acceptance.proofs.run.take_request.Statement.{statement}
 use Rattle.acceptance.proofs.run.take_request.Tie as tie
 use Rattle.acceptance.proofs.run.take_request.Reads as reads
@@ -20,7 +20,7 @@ same-length-2 : tie.Need-same-length-2
 same-length-2 c = search needs
 
 returns : tie.Need-returns
-returns c = ap (λ (r : Called). r .after) (c .before .before .before .before .before .before .handle-request .ensures)
+returns c = ap (λ (r : CallResult). r .after) (c .before .before .before .before .before .before .handle-request .ensures)
 
 pub take-request-spec : {M : Type 1} → statement M
 take-request-spec =

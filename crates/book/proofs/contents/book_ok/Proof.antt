@@ -2,7 +2,7 @@ use Prim.Native.Nat.{_+_, _*_}
 use lib.ListN.{length}
 use borrow.Author.Needs.{needs}
 use borrow.Author.Tests.{le-leb, lt-leb}
-use Rattle.book.specs.Book.{scenesMax, contentLength, countOf, bookOk}
+use Rattle.book.specs.Book.{scenesMax, locationLength, countOf, bookOk}
 use Rattle.book.proofs.contents.book_ok.Statement.{statement}
 use Rattle.book.proofs.contents.book_ok.Tie as tie
 
@@ -33,7 +33,7 @@ unfolding bookOk
 returns-3 c =
     let b = c .before .before .before .before .before .before .args .book .now in
     let e = c .before .before .wide .ensures .0 in
-    simp (le-leb 1 (length b) (c .before .before .before .before .if1 .left), le-leb (countOf b) scenesMax (rw e at (c .before .if2 .left)), lt-leb (1 + contentLength * countOf b) (length b) (rw e at (c .if3 .taken)))
+    simp (le-leb 1 (length b) (c .before .before .before .before .if1 .left), le-leb (countOf b) scenesMax (rw e at (c .before .if2 .left)), lt-leb (1 + locationLength * countOf b) (length b) (rw e at (c .if3 .taken)))
 
 bodies-ok-requires : tie.Need-bodies-ok-requires
 bodies-ok-requires c κs = search needs
@@ -43,7 +43,7 @@ unfolding bookOk
 returns-4 c =
     let b = c .before .before .before .before .before .before .before .args .book .now in
     let e = c .before .before .before .wide .ensures .0 in
-    simp (le-leb 1 (length b) (c .before .before .before .before .before .if1 .left), le-leb (countOf b) scenesMax (rw e at (c .before .before .if2 .left)), le-leb (1 + contentLength * countOf b) (length b) (rw e at (c .before .if3 .left)))
+    simp (le-leb 1 (length b) (c .before .before .before .before .before .if1 .left), le-leb (countOf b) scenesMax (rw e at (c .before .before .if2 .left)), le-leb (1 + locationLength * countOf b) (length b) (rw e at (c .before .if3 .left)))
     (rw e at (c .bodies-ok .ensures))
 
 pub book-ok-spec : {M : Type 1} → statement M

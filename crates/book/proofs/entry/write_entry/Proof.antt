@@ -5,7 +5,7 @@ use lib.Seq.{sets}
 use borrow.Author.Needs.{needs}
 use Rattle.book.specs.declared.step.Step.{Step}
 use Rattle.book.specs.Book.{stepsIn}
-use Rattle.book.specs.Entry.{runData}
+use Rattle.book.specs.Entry.{groupData}
 use Rattle.book.specs.Run.{stepAt, headBytes}
 use Rattle.book.proofs.Writing.{put-two, entry-split}
 use Rattle.book.proofs.entry.write_entry.Statement.{statement}
@@ -31,7 +31,7 @@ returns c =
     let pdata = c .before .before .write-pdata .ensures in
     let e = entry-split (s .args .count) (s .args .body .now) (s .args .hwpid) (s .args .size) (s .pre .1) (s .pre .4) in
     let both = put-two (s .args .out .now) _ _ (headBytes (stepAt (s .args .body .now) 0 .kind) (s .args .hwpid) (s .args .size))
-    (runData (stepsIn (s .args .count) (s .args .body .now))) _ _ _ _
+    (groupData (stepsIn (s .args .count) (s .args .body .now))) _ _ _ _
     (head .1 ∙ ap (λ (x : Step). sets (s .args .out .now) (s .args .at) (headBytes (x .kind) (s .args .hwpid) (s .args .size))) (x .step-at .ensures))
     (head .0) (pdata .1) (pdata .0) e in
     (omega (arith, both .0, ap length e, head .0, pdata .0, s .pre .4), both .1)

@@ -11,7 +11,7 @@ use Rattle.checksum.proofs.sums.image_sums.Reads as reads
 use Rattle.checksum.proofs.sums.image_sums.Lts as lts
 use Rattle.checksum.proofs.sums.Sums.add_block.Reads as add-block-reads
 use Rattle.checksum.proofs.sums.Sums.start.Reads as start-reads
-use Rattle.checksum.proofs.sums.least.Reads as least-reads
+use Rattle.checksum.proofs.sums.smaller.Reads as smaller-reads
 
 abbrev Inv-loop : tie.InvT-loop
 Inv-loop image first unit s₀ at₀ s at = (at ≤ length image) × (sums s (drop at image) ≡ sums (start first) image)
@@ -28,8 +28,8 @@ loop-holds c = (omega arith, rw (c .start .ensures))
 sub-least : tie.Need-sub-least Inv-loop μ-loop
 sub-least c = omega arith
 
-least-requires : tie.Need-least-requires Inv-loop μ-loop
-least-requires c κs = tt
+smaller-requires : tie.Need-smaller-requires Inv-loop μ-loop
+smaller-requires c κs = tt
 
 add-end : tie.Need-add-end Inv-loop μ-loop
 add-end c = omega arith
@@ -48,15 +48,15 @@ add-block-requires c κs = tt
 
 loop-less : tie.Need-loop-less Inv-loop μ-loop
 loop-less c =
-    let k : 1 ≤ c .before .before .least .result = c .before .before .least .ensures .2 (c .before .before .before .before .before .before .before .pre) (omega arith) in
-    omega (arith, c .before .before .least .ensures .1)
+    let k : 1 ≤ c .before .before .smaller .result = c .before .before .smaller .ensures .2 (c .before .before .before .before .before .before .before .pre) (omega arith) in
+    omega (arith, c .before .before .smaller .ensures .1)
 
 loop-again : tie.Need-loop-again Inv-loop μ-loop
 loop-again c =
     let l = c .before .before .before .before in
     let a = c .before .before .before .before .before .before .before .args in
-    let end = l .loop .at + c .before .before .least .result in (
-      omega (arith, c .before .before .least .ensures .1),
+    let end = l .loop .at + c .before .before .smaller .result in (
+      omega (arith, c .before .before .smaller .ensures .1),
       sym (block-more (a .image .now) (l .loop .s) (c .add-block .result) (l .loop .at) end (omega arith) (c .add-block .ensures)) ∙ l .loop .inv .1,
     )
 
@@ -74,7 +74,7 @@ image-sums-spec =
     start-requires
     loop-holds
     sub-least
-    least-requires
+    smaller-requires
     add-end
     sub-add-block
     part-add-block-start

@@ -4,9 +4,9 @@ use native.Mathlib.Omega.{arith}
 use mathlib.Core.Path.{_≡_, refl, sym, _∙_}
 use Prim.Native.Nat.{_-_, _+_, _≤_}
 use lib.ListN.{length, take, drop}
-use Rattle.batch.specs.declared.entry.Next.the-variants.{Entry}
-use Rattle.batch.specs.Batch.{nextOf}
-use Rattle.handler.specs.Request.{held}
+use Rattle.batch.specs.declared.entry.NextEntry.the-variants.{Entry}
+use Rattle.batch.specs.Batch.{nextEntry}
+use Rattle.handler.specs.Request.{stateFromParts}
 use Rattle.handler.proofs.Listing.{Running, run-starts, run-ends, turn-sized, turn-runs, fault-ends}
 use Rattle.handler.proofs.entries.run_list.Statement.{statement}
 use Rattle.handler.proofs.entries.run_list.Tie as tie
@@ -18,7 +18,7 @@ use Rattle.handler.proofs.entries.run_entry.Reads as run-entry-reads
 
 abbrev Inv-loop : tie.InvT-loop
 Inv-loop fixed lamps₀ list ram₀ eeprom₀ external₀ at₀ lamps ram eeprom external at =
-    Running list (held fixed lamps₀ ram₀ eeprom₀ external₀) at (held fixed lamps ram eeprom external)
+    Running list (stateFromParts fixed lamps₀ ram₀ eeprom₀ external₀) at (stateFromParts fixed lamps ram eeprom external)
     × (length ram ≡ length ram₀) × (length eeprom ≡ length eeprom₀) × (length external ≡ length external₀)
 
 abbrev μ-loop : tie.MeasureT-loop
@@ -29,7 +29,7 @@ first-is : (c : tie.After-known-told Inv-loop μ-loop) →
     let list = c .before .before .before .before .before .before .before .before .before .before .before .before .before .args .list .now in
     let at = c .before .before .before .before .before .before .before .before .loop .at in
     let g = c .before .len .given .0 in
-    nextOf (take (length list - at) (drop at list)) ≡ Entry (g .0) (g .1 .0) (g .1 .1 .0) (g .1 .1 .1 .0)
+    nextEntry (take (length list - at) (drop at list)) ≡ Entry (g .0) (g .1 .0) (g .1 .1 .0) (g .1 .1 .1 .0)
 first-is c = sym (c .before .before .before .next-entry .ensures) ∙ c .before .len .given .1
 
 sized : (c : tie.After-known-told Inv-loop μ-loop) →

@@ -6,7 +6,7 @@ use Prim.Native.Nat.{_≤_, _-_}
 use lib.ListN.{length, drop}
 use denote.Ref.{now}
 use Rattle.lights.specs.Lights.{entries, isGood, firstEntry}
-use Rattle.lights.specs.declared.entry.Entry.the-variants.{Valid, Invalid}
+use Rattle.lights.specs.declared.entry.PowerEntry.the-variants.{Valid, Invalid}
 use Rattle.lights.proofs.Entries.{first-room, good-more, good-stop, good-end}
 use Rattle.lights.proofs.entry.entries_ok.Statement.{statement}
 use Rattle.lights.proofs.entry.entries_ok.Tie as tie

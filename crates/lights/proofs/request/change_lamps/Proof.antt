@@ -9,7 +9,7 @@ use denote.Ref.{now}
 use Rattle.dpa.specs.Lists.{Bytes}
 use Rattle.lights.specs.Bits.{bits, count}
 use Rattle.lights.specs.Lights.{entries, isGood}
-use Rattle.lights.proofs.Answers.{laid-refused, change-short, change-bad, change-good}
+use Rattle.lights.proofs.Answers.{reply-refused, change-short, change-bad, change-good}
 use borrow.Author.Needs.{needs}
 use Rattle.lights.proofs.request.change_lamps.Statement.{statement}
 use Rattle.lights.proofs.request.change_lamps.Tie as tie
@@ -20,7 +20,7 @@ refuse-requires c κs = search needs
 returns : tie.Need-returns
 returns c =
     let a = c .before .before .before .before .args in
-    laid-refused _ _ 6 (a .lamps) (now (a .out)) (c .refuse .ensures) (change-short (a .settings) (a .command) (now (a .pdata)) (a .lamps) (c .before .if1 .taken))
+    reply-refused _ _ 6 (a .lamps) (now (a .out)) (c .refuse .ensures) (change-short (a .settings) (a .command) (now (a .pdata)) (a .lamps) (c .before .if1 .taken))
 
 mask-of-requires : tie.Need-mask-of-requires
 mask-of-requires c κs = search needs
@@ -41,7 +41,7 @@ returns-2 : tie.Need-returns-2
 returns-2 c =
     let r = c .before .before in
     let a = r .before .before .before .before .before .before .args in
-    laid-refused _ _ 6 (a .lamps) (now (a .out)) (c .refuse2 .ensures)
+    reply-refused _ _ 6 (a .lamps) (now (a .out)) (c .refuse2 .ensures)
     (change-bad (a .settings) (a .command) (now (a .pdata)) (a .lamps) (r .before .before .mask-of .result) (r .before .selected .result)
     (omega arith) (small r) (r .before .before .mask-of .ensures) (r .before .selected .ensures .0)
     (sym (r .entries-ok .ensures) ∙ not-true _ (c .before .if2 .taken)))

@@ -1,7 +1,7 @@
 -- `request::enumerate` meets its contract, by the definition's test.
 use denote.Ref.{now}
 use lib.ListN.{length}
-use Rattle.lights.proofs.Answers.{laid-refused, enumerate-bad}
+use Rattle.lights.proofs.Answers.{reply-refused, enumerate-bad}
 use borrow.Author.Tests.{eq-eqb}
 use native.Mathlib.Omega.{arith}
 use Rattle.lights.specs.Lights.{enumerateLamps}
@@ -16,7 +16,7 @@ refuse-requires c κs = search needs
 returns : tie.Need-returns
 returns c =
     let a = c .before .before .before .before .args in
-    laid-refused _ _ 5 (a .lamps) (now (a .out)) (c .refuse .ensures) (enumerate-bad (a .settings) (now (a .pdata)) (a .lamps) (c .before .if1 .taken))
+    reply-refused _ _ 5 (a .lamps) (now (a .out)) (c .refuse .ensures) (enumerate-bad (a .settings) (now (a .pdata)) (a .lamps) (c .before .if1 .taken))
 
 slice-write-out : tie.Need-slice-write-out
 slice-write-out c = search needs

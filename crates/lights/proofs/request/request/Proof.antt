@@ -1,7 +1,7 @@
 -- `request::request` meets its contract, by the PCMD.
 use denote.Ref.{now}
 use Rattle.lights.specs.Lights.{lightsRequest}
-use Rattle.lights.proofs.Answers.{laid-refused, known-command, unknown-command}
+use Rattle.lights.proofs.Answers.{reply-refused, known-command, unknown-command}
 use borrow.Author.Needs.{needs}
 use Rattle.lights.proofs.request.request.Statement.{statement}
 use Rattle.lights.proofs.request.request.Tie as tie
@@ -22,7 +22,7 @@ refuse-requires c κs = search needs
 returns-2 : tie.Need-returns-2
 returns-2 c =
     let a = c .before .before .before .before .before .args in
-    laid-refused _ _ 2 (a .lamps) (now (a .out)) (c .refuse .ensures)
+    reply-refused _ _ 2 (a .lamps) (now (a .out)) (c .refuse .ensures)
     (unknown-command (a .settings) (a .pcmd) (now (a .pdata)) (a .lamps) (c .before .if2 .taken) (c .before .before .if1 .left))
 
 command-of-requires : tie.Need-command-of-requires

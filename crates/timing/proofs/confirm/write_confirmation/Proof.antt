@@ -7,7 +7,7 @@ use Rattle.timing.proofs.confirm.write_confirmation.Tie as tie
 use Rattle.timing.proofs.confirm.write_confirmation.Reads as reads
 use Rattle.timing.proofs.confirm.write_confirmation.Lts as lts
 use Rattle.bytes.proofs.copy.Reads as copy-reads
-use Rattle.timing.proofs.confirm.hops_back.Reads as hops-back-reads
+use Rattle.timing.proofs.confirm.response_hops_sent.Reads as response-hops-sent-reads
 
 sub-copy : tie.Need-sub-copy
 sub-copy c = search needs
@@ -33,8 +33,8 @@ slice-write-out-3 c = simp length-set (omega arith)
 slice-write-out-4 : tie.Need-slice-write-out-4
 slice-write-out-4 c = simp length-set (omega arith)
 
-hops-back-requires : tie.Need-hops-back-requires
-hops-back-requires c κs = search needs
+response-hops-sent-requires : tie.Need-response-hops-sent-requires
+response-hops-sent-requires c κs = search needs
 
 slice-write-out-5 : tie.Need-slice-write-out-5
 slice-write-out-5 c = simp length-set (omega arith)
@@ -46,8 +46,8 @@ returns : tie.Need-returns
 returns c =
     let a = c .before .before .before .before .before .before .before .before .args in
     let k = c .before .before .before .copy in
-    five-stores (a .frame .now) (a .out .now) (k .last .1 .0) (a .dpa-value) (a .hops) (a .slot) (c .hops-back .result) (a .response-hops)
-    (omega arith) (omega arith) (k .kept .1 .0) (k .ensures .1) (c .hops-back .ensures)
+    five-stores (a .frame .now) (a .out .now) (k .last .1 .0) (a .dpa-value) (a .hops) (a .slot) (c .response-hops-sent .result) (a .response-hops)
+    (omega arith) (omega arith) (k .kept .1 .0) (k .ensures .1) (c .response-hops-sent .ensures)
 
 pub write-confirmation-spec : {M : Type 1} → statement M
 write-confirmation-spec =
@@ -61,7 +61,7 @@ write-confirmation-spec =
     slice-write-out-2
     slice-write-out-3
     slice-write-out-4
-    hops-back-requires
+    response-hops-sent-requires
     slice-write-out-5
     same-length
     returns)
