@@ -22,7 +22,7 @@ pub struct SceneLocation {
 }
 
 pub fn scene_location(book: &[u8], scene: usize) -> SceneLocation
-    requires { ⌜ (locationLength * scene + 4 ≤ length (now book)) × (scene ≤ scenesMax) ⌝ }
+    requires { ⌜ (1 + locationLength * scene + locationLength ≤ length (now book)) × (scene ≤ scenesMax) ⌝ }
     ensures { λ r. ⌜ (r ≡ locationAt (now (book .entry)) scene) × (r .steps < 256) × (r .offset < 65536) ⌝ }
 {
     SceneLocation {

@@ -148,6 +148,7 @@ output-written old out out′ rs count w r ec eo ew fo fr =
       fo ∙ rw (eo, v, ec, set-sets old (length rs) 0 (lengths rs)) (sym (sets-append (set old 0 (length rs)) 1 (lengths rs) (joined rs))),
     )
 
+-- the output of good steps fits its buffer, within any limits
 pub short : (most : SizeLimits) (head : Frame) (front : List ℕ) → Limits (most .entry) (most .list) front → (n : ℕ) (a : List ℕ) → AllGood a n → n ≤ stepsMax
     → length (output (requestsWith most head front (stepsIn n a))) ≤ minOutput
 short most head front l n a g m = output-fits most head front l (stepsIn n a) (omega (arith, steps-length n a)) (good-steps n a g)

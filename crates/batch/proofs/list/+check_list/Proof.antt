@@ -13,7 +13,7 @@ use borrow.Fn.Kinds.{In}
 use borrow.Fn.PlainCycle.{Measures, is, falls, and}
 use Rattle.batch.proofs.list.check_list.Reads as check-list
 use Rattle.batch.proofs.list.check_list.Kinds as check-list-kinds
-use Rattle.batch.proofs.list.+check_list.Lts-read_list as check-list-lts
+use Rattle.batch.proofs.list.+check_list.Lts-check_list as check-list-lts
 use Rattle.batch.proofs.entry.at_end.Reads as at-end-reads
 use Rattle.batch.proofs.entry.next_entry.Reads as next-entry-reads
 use Rattle.batch.proofs.list.fault_of.Reads as fault-of-reads

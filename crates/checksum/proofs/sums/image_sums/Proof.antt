@@ -25,8 +25,8 @@ start-requires c κs = tt
 loop-holds : tie.Need-loop-holds Inv-loop μ-loop
 loop-holds c = (omega arith, rw (c .start .ensures))
 
-sub-least : tie.Need-sub-least Inv-loop μ-loop
-sub-least c = omega arith
+sub-smaller : tie.Need-sub-smaller Inv-loop μ-loop
+sub-smaller c = omega arith
 
 smaller-requires : tie.Need-smaller-requires Inv-loop μ-loop
 smaller-requires c κs = tt
@@ -73,7 +73,7 @@ image-sums-spec =
     μ-loop
     start-requires
     loop-holds
-    sub-least
+    sub-smaller
     smaller-requires
     add-end
     sub-add-block
