@@ -21,7 +21,7 @@ use Rattle.lights.proofs.Bits.{bits-mask}
 use Rattle.lights.specs.declared.apply.Command.{Command}
 use Rattle.lights.specs.declared.apply.Command.the-variants.{Set, Raise, Lower}
 use Rattle.lights.specs.declared.lamp.Lamp.{Lamp}
-use Rattle.lights.specs.declared.entry.Change.{Change}
+use Rattle.lights.specs.declared.entry.LampChange.{LampChange}
 use Rattle.node.specs.Node.{withLamps}
 use Rattle.handler.specs.Request.{State, withNode, perform}
 use Rattle.handler.proofs.Performing.{perform-lights}
@@ -101,7 +101,7 @@ module _ {A : Type 0} (target : A → ℕ) where
   pub mask-max : (ss : List A) → Ascending 0 ss → maskFrom 0 ss < 2 ^ 32
   mask-max ss a = omega (arith, mask-room ss 0 a (omega arith))
 
-  module _ (change : A → Change) (c : Command) where
+  module _ (change : A → LampChange) (c : Command) where
     -- lamp `target s - i` of n implemented ones takes its entry
     abbrev pub taken : ℕ → ℕ → A → List Lamp → List Lamp
     taken n i s ls =
@@ -173,14 +173,14 @@ bitmap-bytes m a b d e rest p q r s w =
     sym (bits-mask (a ∷ b ∷ d ∷ e ∷ []) (four-bytes a b d e p q r s)) ∙ ap (bits 32) (sym w)
 
 -- a level without a time, in front of entries that are all valid
-pub entry-level : (n v : ℕ) (xs : List ℕ) (es : List Change) → v ≤ 100 → entries n xs ≡ good es → entries (suc n) (v ∷ xs) ≡ good (change v 0 ∷ es)
+pub entry-level : (n v : ℕ) (xs : List ℕ) (es : List LampChange) → v ≤ 100 → entries n xs ≡ good es → entries (suc n) (v ∷ xs) ≡ good (change v 0 ∷ es)
 unfolding powerOk
 entry-level n v xs es h e =
     let q : v % 128 ≡ v = omega arith in
     rw (q, le-leb v 100 h, lt-ltb v 128 (omega arith), e)
 
 -- a level with a time
-pub entry-timed : (n v t : ℕ) (xs : List ℕ) (es : List Change) → v ≤ 100 → timeOk t ≡ true → entries n xs ≡ good es
+pub entry-timed : (n v t : ℕ) (xs : List ℕ) (es : List LampChange) → v ≤ 100 → timeOk t ≡ true → entries n xs ≡ good es
     → entries (suc n) ((v + 128) ∷ t ∷ xs) ≡ good (change v (secondsOf t) ∷ es)
 unfolding powerOk
 entry-timed n v t xs es h k e =
@@ -198,7 +198,7 @@ abbrev targetOf : Step → ℕ
 targetOf s = s .target
 
 -- the entry of a step
-abbrev changeOf : Step → Change
+abbrev changeOf : Step → LampChange
 changeOf s = change (s .value) (secondsOf (s .time))
 
 -- the command of a lamp kind

@@ -7,7 +7,7 @@ use lib.ListN.{length, set}
 use lib.Seq.{sets}
 use Rattle.dpa.specs.Reply.{reply}
 use Rattle.memory.specs.declared.block.Memory.{Memory}
-use Rattle.memory.specs.declared.block.Memory.the-variants.{Eeprom, Ram, External}
+use Rattle.memory.specs.declared.block.Memory.the-variants.{Eeprom, Ram}
 use Rattle.memory.specs.Block.{sizeOf, longestOf, addressBytes, writeCommand}
 use Rattle.memory.proofs.Blocks.{Fits}
 use Rattle.memory.proofs.Puts.{put-sets}

@@ -13,7 +13,6 @@ use Rattle.batch.specs.Batch.{item, listBytes}
 use Rattle.handler.specs.Request.{State, hwpidMatches, batchRequest, execute}
 use Rattle.handler.proofs.Executing.{execute-os, os-batch}
 use Rattle.book.specs.Book.{sceneOf}
-use Rattle.scene.specs.Call.{requestsIn, compileOf}
 use Rattle.scene.proofs.Lists.{limits}
 use Rattle.scene.proofs.Outputs.{buffer-back}
 use Rattle.acceptance.specs.SceneTheorem.{DoneAsSteps, SceneTheorem, BufferTheorem, Condition3}

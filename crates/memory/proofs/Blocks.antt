@@ -11,7 +11,7 @@ use Rattle.dpa.specs.Lists.{slice}
 use Rattle.dpa.proofs.Bool.{second-taken}
 use Rattle.dpa.proofs.Lists.{to-end}
 use Rattle.memory.specs.declared.block.Memory.{Memory}
-use Rattle.memory.specs.declared.block.Memory.the-variants.{Eeprom, Ram, External}
+use Rattle.memory.specs.declared.block.Memory.the-variants.{Eeprom}
 use Rattle.memory.specs.Block.{longestOf, blockFault, put}
 
 -- a block that can be had

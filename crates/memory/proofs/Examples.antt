@@ -5,7 +5,6 @@ use Prim.Native.Nat.{ℕ}
 use Rattle.dpa.specs.Lists.{slice}
 use Rattle.dpa.specs.Reply.{reply, refused}
 use Rattle.memory.specs.declared.block.Memory.{Memory}
-use Rattle.memory.specs.declared.block.Memory.the-variants.{Eeprom, Ram, External}
 use Rattle.memory.specs.Block.{blockFault}
 use Rattle.memory.specs.Request.{addressOf, readError, writeError, readRequest, writeRequest, memoryRequest}
 

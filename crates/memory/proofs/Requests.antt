@@ -13,7 +13,7 @@ use Rattle.dpa.specs.Reply.{Harmless, Reply, reply, refused, replySeen, replyIn
 use Rattle.dpa.proofs.Bool.{by-cond, first-taken, second-taken}
 use Rattle.dpa.proofs.Lists.{to-end}
 use Rattle.memory.specs.declared.block.Memory.{Memory}
-use Rattle.memory.specs.declared.block.Memory.the-variants.{Eeprom, Ram, External}
+use Rattle.memory.specs.declared.block.Memory.the-variants.{Eeprom}
 use Rattle.memory.specs.Block.{sizeOf, longestOf, addressBytes, readCommand, writeCommand, put}
 use Rattle.memory.specs.Request.{addressOf, startOf, lengthOf, dataOf, blockError, readError, writeError, readRequest, writeRequest, memoryRequest}
 use Rattle.memory.proofs.Blocks.{Fits, block-fits, fits-block, longest-max, part-length}

@@ -7,7 +7,6 @@ use lib.Dec.{eqb}
 use denote.Ref.{RefT, now, ptr}
 use Rattle.dpa.specs.Lists.{slice}
 use Rattle.memory.specs.declared.block.Memory.{Memory}
-use Rattle.memory.specs.declared.block.Memory.the-variants.{Eeprom, External}
 use Rattle.memory.specs.Block.{memoryPnum, sizeOf, longestOf, blockFault}
 
 -- a view is of EEPROM or of external memory

@@ -52,12 +52,6 @@ check-list-returns t c =
 check-list-next-entry-requires : (t : ℕ) → check-list-lts.Need-next-entry-requires (calls t) (check-list-at t) check-list.Post
 check-list-next-entry-requires t c κs = tt
 
-check-list-enum-known-first : (t : ℕ) → check-list-lts.Need-enum-known-first (calls t) (check-list-at t) check-list.Post
-check-list-enum-known-first t c = search needs
-
-check-list-enum-told : (t : ℕ) → check-list-lts.Need-enum-told (calls t) (check-list-at t) check-list.Post
-check-list-enum-told t c = search needs
-
 check-list-fault-of-requires : (t : ℕ) → check-list-lts.Need-fault-of-requires (calls t) (check-list-at t) check-list.Post
 check-list-fault-of-requires t c κs = tt
 
@@ -73,19 +67,10 @@ check-list-sub-check-list t c = let z = sized t (c .before) in omega arith
 check-list-part-check-list-start : (t : ℕ) → check-list-lts.Need-part-check-list-start (calls t) (check-list-at t) check-list.Post
 check-list-part-check-list-start t c = let z = sized t (c .before) in omega arith
 
-check-list-part-check-list-end : (t : ℕ) → check-list-lts.Need-part-check-list-end (calls t) (check-list-at t) check-list.Post
-check-list-part-check-list-end t c = search needs
-
 check-list-check-list-requires : (t : ℕ) → check-list-lts.Need-check-list-requires (calls t) (check-list-at t) check-list.Post
 check-list-check-list-requires t c κs =
     let z = sized t (c .before .before) in
     (simp (length-take, length-drop) (omega arith), tt)
-
-check-list-enum-known-after : (t : ℕ) → check-list-lts.Need-enum-known-after (calls t) (check-list-at t) check-list.Post
-check-list-enum-known-after t c = search needs
-
-check-list-enum-told-2 : (t : ℕ) → check-list-lts.Need-enum-told-2 (calls t) (check-list-at t) check-list.Post
-check-list-enum-told-2 t c = search needs
 
 check-list-returns-3 : (t : ℕ) → check-list-lts.Need-returns-3 (calls t) (check-list-at t) check-list.Post
 check-list-returns-3 t c =
@@ -110,22 +95,8 @@ check-list-returns-4 t c =
     ∙ list-more _ (first-is t f) (c .before .before .before .check-list .ensures)
 
 pub +check-list-spec : {M : Type 1} → statement M
-+check-list-spec = close μ-check-list λ t. check-list-lts.spec (calls t)
-    (check-list-at t)
-    check-list.Post
-    (check-list-at-end-requires t)
-    (check-list-returns t)
-    (check-list-next-entry-requires t)
-    (check-list-enum-known-first t)
-    (check-list-enum-told t)
-    (check-list-fault-of-requires t)
-    (check-list-returns-2 t)
-    (check-list-sub-check-list t)
-    (check-list-part-check-list-start t)
-    (check-list-part-check-list-end t)
-    (check-list-check-list-requires t)
-    (check-list-enum-known-after t)
-    (check-list-enum-told-2 t)
-    (check-list-returns-3 t)
-    (check-list-add-t9 t)
-    (check-list-returns-4 t)
++check-list-spec = close μ-check-list λ t. check-list-lts.spec (calls t) (check-list-at t) check-list.Post
+    (check-list-at-end-requires t) (check-list-returns t) (check-list-next-entry-requires t) (λ c. search needs)
+    (λ c. search needs) (check-list-fault-of-requires t) (check-list-returns-2 t) (check-list-sub-check-list t)
+    (check-list-part-check-list-start t) (λ c. search needs) (check-list-check-list-requires t) (λ c. search needs)
+    (λ c. search needs) (check-list-returns-3 t) (check-list-add-t9 t) (check-list-returns-4 t)

@@ -15,17 +15,8 @@ Inv-loop book scenes start₀ i₀ start i =
 abbrev μ-loop : tie.MeasureT-loop
 μ-loop book scenes start₀ i₀ start i = scenes - i
 
-mul-start : tie.Need-mul-start Inv-loop μ-loop
-mul-start c = omega arith
-
-add-start : tie.Need-add-start Inv-loop μ-loop
-add-start c = omega arith
-
 loop-holds : tie.Need-loop-holds Inv-loop μ-loop
 loop-holds c = (omega arith, omega arith, refl)
-
-scene-location-requires : tie.Need-scene-location-requires Inv-loop μ-loop
-scene-location-requires c κs = omega arith
 
 returns : tie.Need-returns Inv-loop μ-loop
 returns c =
@@ -59,12 +50,6 @@ add-start-2 c =
       c .before .before .before .before .before .before .before .before .before .pre .1,
     )
 
-add-i : tie.Need-add-i Inv-loop μ-loop
-add-i c = omega arith
-
-loop-less : tie.Need-loop-less Inv-loop μ-loop
-loop-less c = omega arith
-
 loop-again : tie.Need-loop-again Inv-loop μ-loop
 loop-again c =
     let s = c .before .before .before .before .before .before .before .before .before in
@@ -87,19 +72,5 @@ returns-3 c =
 
 pub bodies-ok-spec : {M : Type 1} → statement M
 bodies-ok-spec =
-    tie.close
-    (tie.spec
-    Inv-loop
-    μ-loop
-    mul-start
-    add-start
-    loop-holds
-    scene-location-requires
-    returns
-    returns-2
-    mul-start-2
-    add-start-2
-    add-i
-    loop-less
-    loop-again
-    returns-3)
+    tie.close (tie.spec Inv-loop μ-loop (λ c. omega arith) (λ c. omega arith) loop-holds (λ c κs. omega arith) returns
+    returns-2 mul-start-2 add-start-2 (λ c. omega arith) (λ c. omega arith) loop-again returns-3)

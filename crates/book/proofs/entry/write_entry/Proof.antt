@@ -11,18 +11,6 @@ use Rattle.book.proofs.Writing.{put-two, entry-split}
 use Rattle.book.proofs.entry.write_entry.Statement.{statement}
 use Rattle.book.proofs.entry.write_entry.Tie as tie
 
-step-at-requires : tie.Need-step-at-requires
-step-at-requires c κs = search needs
-
-write-head-requires : tie.Need-write-head-requires
-write-head-requires c κs = search needs
-
-write-pdata-requires : tie.Need-write-pdata-requires
-write-pdata-requires c κs = search needs
-
-same-length : tie.Need-same-length
-same-length c = search needs
-
 returns : tie.Need-returns
 returns c =
     let s = c .before .before .before .before .before .before .before .before .before .before .before in
@@ -38,4 +26,5 @@ returns c =
 
 pub write-entry-spec : {M : Type 1} → statement M
 write-entry-spec =
-    tie.close (tie.spec step-at-requires write-head-requires write-pdata-requires same-length returns)
+    tie.close (tie.spec (λ c κs. search needs) (λ c κs. search needs) (λ c κs. search needs) (λ c. search needs)
+    returns)

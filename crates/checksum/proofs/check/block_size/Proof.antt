@@ -1,11 +1,8 @@
 use borrow.Author.Tests.{eq-eqb, ne-eqb}
 use native.Mathlib.Omega.{arith}
 use Rattle.checksum.specs.Check.{blockSize}
-use borrow.Author.Needs.{needs}
 use Rattle.checksum.proofs.check.block_size.Statement.{statement}
 use Rattle.checksum.proofs.check.block_size.Tie as tie
-use Rattle.checksum.proofs.check.block_size.Reads as reads
-use Rattle.checksum.proofs.check.block_size.Lts as lts
 
 returns : tie.Need-returns
 unfolding blockSize

@@ -1,10 +1,7 @@
 use borrow.Author.Tests.{eq-eqb, ne-eqb}
 use Rattle.checksum.specs.Check.{initialLow}
-use borrow.Author.Needs.{needs}
 use Rattle.checksum.proofs.check.initial_low.Statement.{statement}
 use Rattle.checksum.proofs.check.initial_low.Tie as tie
-use Rattle.checksum.proofs.check.initial_low.Reads as reads
-use Rattle.checksum.proofs.check.initial_low.Lts as lts
 
 returns : tie.Need-returns
 unfolding initialLow

@@ -2,8 +2,6 @@ use borrow.Author.Tests.{eq-eqb, ne-eqb}
 use Rattle.handler.specs.Request.{hwpidMatches}
 use Rattle.handler.proofs.entries.hwpid_matches.Statement.{statement}
 use Rattle.handler.proofs.entries.hwpid_matches.Tie as tie
-use Rattle.handler.proofs.entries.hwpid_matches.Reads as reads
-use Rattle.handler.proofs.entries.hwpid_matches.Lts as lts
 
 returns : tie.Need-returns
 unfolding hwpidMatches

@@ -6,33 +6,11 @@ use Rattle.handler.specs.Request.{State, stateFromParts}
 use Rattle.handler.proofs.Entering.{entry-mine, entry-other}
 use Rattle.handler.proofs.entries.run_entry.Statement.{statement}
 use Rattle.handler.proofs.entries.run_entry.Tie as tie
-use Rattle.handler.proofs.entries.run_entry.Reads as reads
-use Rattle.handler.proofs.entries.run_entry.Lts as lts
-use Rattle.handler.proofs.entries.hwpid_matches.Reads as hwpid-matches-reads
-use Rattle.handler.proofs.peripheral.peripheral.Reads as peripheral-reads
 
 -- the state that the function is given
 abbrev given : tie.Start → State
 given c =
     stateFromParts (c .args .fixed) (c .args .lamps) (c .args .ram .now) (c .args .eeprom .now) (c .args .external .now)
-
-hwpid-matches-requires : tie.Need-hwpid-matches-requires
-hwpid-matches-requires c κs = search needs
-
-slice-aggregate-peripheral : tie.Need-slice-aggregate-peripheral
-slice-aggregate-peripheral c = search needs
-
-peripheral-requires : tie.Need-peripheral-requires
-peripheral-requires c κs = search needs
-
-same-length : tie.Need-same-length
-same-length c = search needs
-
-same-length-2 : tie.Need-same-length-2
-same-length-2 c = search needs
-
-same-length-3 : tie.Need-same-length-3
-same-length-3 c = search needs
 
 returns : tie.Need-returns
 returns c =
@@ -49,13 +27,5 @@ returns-2 c =
 
 pub run-entry-spec : {M : Type 1} → statement M
 run-entry-spec =
-    tie.close
-    (tie.spec
-    hwpid-matches-requires
-    slice-aggregate-peripheral
-    peripheral-requires
-    same-length
-    same-length-2
-    same-length-3
-    returns
-    returns-2)
+    tie.close (tie.spec (λ c κs. search needs) (λ c. search needs) (λ c κs. search needs) (λ c. search needs)
+    (λ c. search needs) (λ c. search needs) returns returns-2)

@@ -1,7 +1,6 @@
 use borrow.Author.Needs.{needs}
 use mathlib.Core.Path.{ap, sym, _∙_}
 use mathlib.Core.List.{List}
-use Prim.Native.Nat.{ℕ}
 use Rattle.lights.specs.declared.lamp.Lamp.{Lamp}
 use Rattle.dpa.specs.Reply.{Reply, replyInBuffer}
 use Rattle.dpa.proofs.Replies.{reply-mapped}
@@ -13,28 +12,11 @@ use Rattle.handler.specs.Request.{State, stateFromParts, withMemory}
 use Rattle.handler.proofs.Performing.{perform-memory, perform-lights, perform-unknown, reply-as}
 use Rattle.handler.proofs.peripheral.peripheral.Statement.{statement}
 use Rattle.handler.proofs.peripheral.peripheral.Tie as tie
-use Rattle.handler.proofs.peripheral.peripheral.Reads as reads
-use Rattle.handler.proofs.peripheral.peripheral.Lts as lts
-use Rattle.handler.proofs.peripheral.memory_reply.Reads as memory-reply-reads
-use Rattle.lights.proofs.request.request.Reads as request-request-reads
-use Rattle.memory.proofs.request.request.Reads as request-request-reads′
 
 -- the state that the function is given
 abbrev given : tie.Start → State
 given c =
     stateFromParts (c .args .fixed) (c .args .lamps) (c .args .ram .now) (c .args .eeprom .now) (c .args .external .now)
-
-request-requires : tie.Need-request-requires
-request-requires c κs = search needs
-
-memory-reply-requires : tie.Need-memory-reply-requires
-memory-reply-requires c κs = search needs
-
-same-length : tie.Need-same-length
-same-length c = search needs
-
-same-length-2 : tie.Need-same-length-2
-same-length-2 c = search needs
 
 returns : tie.Need-returns
 returns c =
@@ -43,18 +25,6 @@ returns c =
     reply-as (c .memory-reply .ensures)
     ∙ reply-mapped (withMemory Eeprom (given s)) (memoryRequest Eeprom (a .pcmd) (a .pdata .now) (a .eeprom .now)) (a .out .now) (c .before .before .before .before .before .request .ensures)
     ∙ ap (λ (x : Reply State). replyInBuffer x (a .out .now)) (sym (perform-memory (a .pnum) (a .pcmd) (a .pdata .now) (given s) Eeprom (c .before .before .before .before .before .before .before .before .if1 .taken)))
-
-request-requires-2 : tie.Need-request-requires-2
-request-requires-2 c κs = search needs
-
-memory-reply-requires-2 : tie.Need-memory-reply-requires-2
-memory-reply-requires-2 c κs = search needs
-
-same-length-3 : tie.Need-same-length-3
-same-length-3 c = search needs
-
-same-length-4 : tie.Need-same-length-4
-same-length-4 c = search needs
 
 returns-2 : tie.Need-returns-2
 returns-2 c =
@@ -66,15 +36,6 @@ returns-2 c =
 
 request-requires-3 : tie.Need-request-requires-3
 request-requires-3 c κs = let p = c .before .before .before .before .before .before .before .before .before .before .pre in (node-ram _ (p .0 .node-ok), p .1)
-
-memory-reply-requires-3 : tie.Need-memory-reply-requires-3
-memory-reply-requires-3 c κs = search needs
-
-same-length-5 : tie.Need-same-length-5
-same-length-5 c = search needs
-
-same-length-6 : tie.Need-same-length-6
-same-length-6 c = search needs
 
 returns-3 : tie.Need-returns-3
 returns-3 c =
@@ -88,9 +49,6 @@ request-requires-4 : tie.Need-request-requires-4
 request-requires-4 c κs =
     let p = c .before .before .before .before .before .before .before .before .before .before .pre in
     (node-settings _ (p .0 .node-ok), node-dimmed _ (p .0 .node-ok), p .1)
-
-same-length-7 : tie.Need-same-length-7
-same-length-7 c = search needs
 
 returns-4 : tie.Need-returns-4
 returns-4 c =
@@ -108,24 +66,7 @@ returns-5 c =
 
 pub peripheral-spec : {M : Type 1} → statement M
 peripheral-spec =
-    tie.close
-    (tie.spec
-    request-requires
-    memory-reply-requires
-    same-length
-    same-length-2
-    returns
-    request-requires-2
-    memory-reply-requires-2
-    same-length-3
-    same-length-4
-    returns-2
-    request-requires-3
-    memory-reply-requires-3
-    same-length-5
-    same-length-6
-    returns-3
-    request-requires-4
-    same-length-7
-    returns-4
-    returns-5)
+    tie.close (tie.spec (λ c κs. search needs) (λ c κs. search needs) (λ c. search needs) (λ c. search needs) returns
+    (λ c κs. search needs) (λ c κs. search needs) (λ c. search needs) (λ c. search needs) returns-2 request-requires-3
+    (λ c κs. search needs) (λ c. search needs) (λ c. search needs) returns-3 request-requires-4 (λ c. search needs)
+    returns-4 returns-5)

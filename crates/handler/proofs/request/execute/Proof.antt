@@ -7,13 +7,6 @@ use Rattle.handler.specs.Request.{State, stateFromParts, hwpidMatches, p
 use Rattle.handler.proofs.Executing.{execute-other, execute-os, execute-peripheral, outcome-as, outcome-plain}
 use Rattle.handler.proofs.request.execute.Statement.{statement}
 use Rattle.handler.proofs.request.execute.Tie as tie
-use Rattle.handler.proofs.request.execute.Reads as reads
-use Rattle.handler.proofs.request.execute.Lts as lts
-use Rattle.handler.proofs.entries.hwpid_matches.Reads as hwpid-matches-reads
-use Rattle.handler.proofs.os.os.Reads as os-reads
-use Rattle.handler.proofs.os.without_data.Reads as without-data-reads
-use Rattle.handler.proofs.peripheral.peripheral.Reads as peripheral-reads
-use Rattle.handler.proofs.request.peripheral_reply.Reads as peripheral-reply-reads
 
 -- the state that the function is given
 abbrev given : tie.Start → State
@@ -30,12 +23,6 @@ mine : (c : tie.Else1) →
     hwpidMatches (a .fixed .settings) (a .header .hwpid) ≡ true
 mine c = sym (c .before .hwpid-matches .ensures) ∙ not-false _ (c .if1 .left)
 
-hwpid-matches-requires : tie.Need-hwpid-matches-requires
-hwpid-matches-requires c κs = search needs
-
-without-data-requires : tie.Need-without-data-requires
-without-data-requires c κs = search needs
-
 returns : tie.Need-returns
 returns c =
     let s = c .before .before .before .before .before .before .before .before in
@@ -43,45 +30,12 @@ returns c =
     ∙ ap (λ (x : Outcome). outcomeInBuffer x (s .args .out .now))
     (sym (execute-other (asked s) (given s) (sym (c .before .before .hwpid-matches .ensures) ∙ not-true _ (c .before .if1 .taken))))
 
-os-requires : tie.Need-os-requires
-os-requires c κs = search needs
-
-same-length : tie.Need-same-length
-same-length c = search needs
-
-same-length-2 : tie.Need-same-length-2
-same-length-2 c = search needs
-
-same-length-3 : tie.Need-same-length-3
-same-length-3 c = search needs
-
-same-length-4 : tie.Need-same-length-4
-same-length-4 c = search needs
-
 returns-2 : tie.Need-returns-2
 returns-2 c =
     let s = c .before .before .before .before .before .before .before .before .before .before .before .before .before .before .before .before .before .before .before .before .before .before in
     c .before .before .before .before .before .before .before .before .os .ensures
     ∙ ap (λ (x : Outcome). outcomeInBuffer x (s .args .out .now))
     (sym (execute-os (asked s) (given s) (mine (c .before .before .before .before .before .before .before .before .before .before .before .before .before .before .before)) (c .before .before .before .before .before .before .before .before .before .before .before .before .before .if2 .taken)))
-
-peripheral-requires : tie.Need-peripheral-requires
-peripheral-requires c κs = search needs
-
-peripheral-reply-requires : tie.Need-peripheral-reply-requires
-peripheral-reply-requires c κs = search needs
-
-same-length-5 : tie.Need-same-length-5
-same-length-5 c = search needs
-
-same-length-6 : tie.Need-same-length-6
-same-length-6 c = search needs
-
-same-length-7 : tie.Need-same-length-7
-same-length-7 c = search needs
-
-same-length-8 : tie.Need-same-length-8
-same-length-8 c = search needs
 
 returns-3 : tie.Need-returns-3
 returns-3 c =
@@ -93,21 +47,6 @@ returns-3 c =
 
 pub execute-spec : {M : Type 1} → statement M
 execute-spec =
-    tie.close
-    (tie.spec
-    hwpid-matches-requires
-    without-data-requires
-    returns
-    os-requires
-    same-length
-    same-length-2
-    same-length-3
-    same-length-4
-    returns-2
-    peripheral-requires
-    peripheral-reply-requires
-    same-length-5
-    same-length-6
-    same-length-7
-    same-length-8
-    returns-3)
+    tie.close (tie.spec (λ c κs. search needs) (λ c κs. search needs) returns (λ c κs. search needs) (λ c. search needs)
+    (λ c. search needs) (λ c. search needs) (λ c. search needs) returns-2 (λ c κs. search needs) (λ c κs. search needs)
+    (λ c. search needs) (λ c. search needs) (λ c. search needs) (λ c. search needs) returns-3)

@@ -9,14 +9,6 @@ use Rattle.handler.specs.Request.{State, state, stateFromParts, StateRul
 use Rattle.handler.proofs.Handling.{frame-item, frame-broadcast, frame-unicast, frame-other, call-result-as}
 use Rattle.handler.proofs.request.handle_frame.Statement.{statement}
 use Rattle.handler.proofs.request.handle_frame.Tie as tie
-use Rattle.handler.proofs.request.handle_frame.Reads as reads
-use Rattle.handler.proofs.request.handle_frame.Lts as lts
-use Rattle.dpa.proofs.frame.Frame.read.Reads as read-reads
-use Rattle.handler.proofs.answer.answer_handled.Reads as answer-handled-reads
-use Rattle.handler.proofs.answer.answer_unhandled.Reads as answer-unhandled-reads
-use Rattle.handler.proofs.request.handle_broadcast.Reads as handle-broadcast-reads
-use Rattle.handler.proofs.request.handle_unicast.Reads as handle-unicast-reads
-use Rattle.node.proofs.record.read_only.Reads as read-only-reads
 
 -- the state that the function is given
 abbrev given : tie.Start → State
@@ -30,37 +22,10 @@ inParts c k = stateFromParts k (c .args .node .lamps) (c .args .node .ram) (c .a
 nadr-is : (c : tie.After-read) → c .read .result .nadr ≡ headerOf (c .before .before .before .before .before .args .frame .now) .nadr
 nadr-is c = ap (λ (h : Frame). h .nadr) (c .read .ensures)
 
-read-requires : tie.Need-read-requires
-read-requires c κs = search needs
-
-sub-pdata : tie.Need-sub-pdata
-sub-pdata c = search needs
-
-part-pdata-start : tie.Need-part-pdata-start
-part-pdata-start c = search needs
-
-part-pdata-end : tie.Need-part-pdata-end
-part-pdata-end c = search needs
-
-read-only-requires : tie.Need-read-only-requires
-read-only-requires c κs = search needs
-
-slice-aggregate-handle-broadcast : tie.Need-slice-aggregate-handle-broadcast
-slice-aggregate-handle-broadcast c = search needs
-
 handle-broadcast-requires : tie.Need-handle-broadcast-requires
 handle-broadcast-requires c κs =
     let s = c .before .before .before .before .before .before .before .before .before .before .before .before .before .before in
     subst (λ (k : ReadOnly). StateRule (inParts s k)) (sym (c .before .before .before .before .before .before .before .read-only .ensures)) (s .pre .0)
-
-answer-handled-requires : tie.Need-answer-handled-requires
-answer-handled-requires c κs = search needs
-
-same-length : tie.Need-same-length
-same-length c = search needs
-
-same-length-2 : tie.Need-same-length-2
-same-length-2 c = search needs
 
 returns : tie.Need-returns
 returns c =
@@ -80,18 +45,6 @@ handle-unicast-requires c κs =
     let s = c .before .before .before .before .before .before .before .before .before .before .before .before .before .before .before .before .before .before in
     (subst (λ (k : ReadOnly). StateRule (inParts s k)) (sym (c .before .before .before .before .before .before .before .before .before .before .before .read-only .ensures)) (s .pre .0), s .pre .2)
 
-answer-handled-requires-2 : tie.Need-answer-handled-requires-2
-answer-handled-requires-2 c κs = search needs
-
-same-length-3 : tie.Need-same-length-3
-same-length-3 c = search needs
-
-same-length-4 : tie.Need-same-length-4
-same-length-4 c = search needs
-
-same-length-5 : tie.Need-same-length-5
-same-length-5 c = search needs
-
 returns-2 : tie.Need-returns-2
 returns-2 c =
     let r = c .before .before .before .before .before .before .before .before .before .before .before .before .before .before .before .before .before .before .before .before .before .before in
@@ -102,9 +55,6 @@ returns-2 c =
     ∙ ap (λ (k : ReadOnly). respond (k .settings) (itemOf (s .args .frame .now)) (execute (itemOf (s .args .frame .now)) (inParts s k)) (s .args .response .now)) (c .before .before .before .before .before .before .before .before .before .before .before .before .before .before .before .before .before .before .before .before .read-only .ensures)
     ∙ sym (frame-unicast (s .args .frame .now) (given s) (s .args .response .now) (λ z. c .before .before .before .before .before .before .before .before .before .before .before .before .before .before .before .before .if1 .left (nadr-is r ∙ z)) (sym (nadr-is r) ∙ c .before .before .before .before .before .before .before .before .before .before .before .before .before .if2 .taken))
 
-answer-unhandled-requires : tie.Need-answer-unhandled-requires
-answer-unhandled-requires c κs = search needs
-
 returns-3 : tie.Need-returns-3
 returns-3 c =
     let r = c .before .before .before .before .before .before .before .before .before .before in
@@ -114,25 +64,7 @@ returns-3 c =
 
 pub handle-frame-spec : {M : Type 1} → statement M
 handle-frame-spec =
-    tie.close
-    (tie.spec
-    read-requires
-    sub-pdata
-    part-pdata-start
-    part-pdata-end
-    read-only-requires
-    slice-aggregate-handle-broadcast
-    handle-broadcast-requires
-    answer-handled-requires
-    same-length
-    same-length-2
-    returns
-    slice-aggregate-handle-unicast
-    handle-unicast-requires
-    answer-handled-requires-2
-    same-length-3
-    same-length-4
-    same-length-5
-    returns-2
-    answer-unhandled-requires
-    returns-3)
+    tie.close (tie.spec (λ c κs. search needs) (λ c. search needs) (λ c. search needs) (λ c. search needs)
+    (λ c κs. search needs) (λ c. search needs) handle-broadcast-requires (λ c κs. search needs) (λ c. search needs)
+    (λ c. search needs) returns slice-aggregate-handle-unicast handle-unicast-requires (λ c κs. search needs)
+    (λ c. search needs) (λ c. search needs) (λ c. search needs) returns-2 (λ c κs. search needs) returns-3)

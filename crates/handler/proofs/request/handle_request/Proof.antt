@@ -5,17 +5,6 @@ use Rattle.handler.specs.Request.{state}
 use Rattle.handler.proofs.Handling.{call-refused, call-accepted, refusal-none, accepted-rule, call-result-as}
 use Rattle.handler.proofs.request.handle_request.Statement.{statement}
 use Rattle.handler.proofs.request.handle_request.Tie as tie
-use Rattle.handler.proofs.request.handle_request.Reads as reads
-use Rattle.handler.proofs.request.handle_request.Lts as lts
-use Rattle.handler.proofs.request.request_refusal.Reads as request-refusal-reads
-use Rattle.handler.proofs.request.handle_frame.Reads as handle-frame-reads
-use Rattle.handler.proofs.answer.answer_unhandled.Reads as answer-unhandled-reads
-
-request-refusal-requires : tie.Need-request-refusal-requires
-request-refusal-requires c κs = search needs
-
-answer-unhandled-requires : tie.Need-answer-unhandled-requires
-answer-unhandled-requires c κs = search needs
 
 returns : tie.Need-returns
 returns c =
@@ -30,15 +19,6 @@ handle-frame-requires c κs =
     let k = refusal-none (a .node) (length (a .frame .now)) (length (a .eeprom .now)) (length (a .external .now)) (length (a .response .now)) z in
     (accepted-rule (a .node) (a .eeprom .now) (a .external .now) (length (a .frame .now)) (length (a .response .now)) z, k .1, k .2)
 
-same-length : tie.Need-same-length
-same-length c = search needs
-
-same-length-2 : tie.Need-same-length-2
-same-length-2 c = search needs
-
-same-length-3 : tie.Need-same-length-3
-same-length-3 c = search needs
-
 returns-2 : tie.Need-returns-2
 returns-2 c =
     let a = c .before .before .before .before .before .before .before .before .before .before .before .before .before .before .before .before .args in
@@ -47,13 +27,5 @@ returns-2 c =
 
 pub handle-request-spec : {M : Type 1} → statement M
 handle-request-spec =
-    tie.close
-    (tie.spec
-    request-refusal-requires
-    answer-unhandled-requires
-    returns
-    handle-frame-requires
-    same-length
-    same-length-2
-    same-length-3
-    returns-2)
+    tie.close (tie.spec (λ c κs. search needs) (λ c κs. search needs) returns handle-frame-requires (λ c. search needs)
+    (λ c. search needs) (λ c. search needs) returns-2)

@@ -28,12 +28,6 @@ inside c =
     let p = c .scene-location .ensures in
     rw (p .0) (body-within (s .args .book .now) (s .args .scene) (book (c .before .before .before .before)) (below (c .before)))
 
-book-ok-requires : tie.Need-book-ok-requires
-book-ok-requires c κs = search needs
-
-refused-requires : tie.Need-refused-requires
-refused-requires c κs = search needs
-
 returns : tie.Need-returns
 unfolding compileScene
 returns c =
@@ -42,12 +36,6 @@ returns c =
 
 shared-slice-read-wide : tie.Need-shared-slice-read-wide
 shared-slice-read-wide c = omega (arith, book-facts _ (book (c .before)))
-
-wide-requires : tie.Need-wide-requires
-wide-requires c κs = search needs
-
-refused-requires-2 : tie.Need-refused-requires-2
-refused-requires-2 c κs = search needs
 
 returns-2 : tie.Need-returns-2
 unfolding compileScene
@@ -64,9 +52,6 @@ sub-compile-steps c = omega (arith, inside c)
 part-compile-steps-start : tie.Need-part-compile-steps-start
 part-compile-steps-start c = omega (arith, inside c)
 
-part-compile-steps-end : tie.Need-part-compile-steps-end
-part-compile-steps-end c = search needs
-
 compile-steps-requires : tie.Need-compile-steps-requires
 compile-steps-requires c κs =
     let d = c .before .before in
@@ -75,9 +60,6 @@ compile-steps-requires c κs =
     let i = inside d in
     rw (to-end (d .scene-location .result .offset) b)
     (omega (arith, i .0, length-drop (d .scene-location .result .offset) b), i .1, s .pre)
-
-same-length : tie.Need-same-length
-same-length c = search needs
 
 returns-3 : tie.Need-returns-3
 unfolding compileScene
@@ -93,19 +75,6 @@ returns-3 c =
 
 pub compile-scene-spec : {M : Type 1} → statement M
 compile-scene-spec =
-    tie.close
-    (tie.spec
-    book-ok-requires
-    refused-requires
-    returns
-    shared-slice-read-wide
-    wide-requires
-    refused-requires-2
-    returns-2
-    scene-location-requires
-    sub-compile-steps
-    part-compile-steps-start
-    part-compile-steps-end
-    compile-steps-requires
-    same-length
-    returns-3)
+    tie.close (tie.spec (λ c κs. search needs) (λ c κs. search needs) returns shared-slice-read-wide
+    (λ c κs. search needs) (λ c κs. search needs) returns-2 scene-location-requires sub-compile-steps
+    part-compile-steps-start (λ c. search needs) compile-steps-requires (λ c. search needs) returns-3)

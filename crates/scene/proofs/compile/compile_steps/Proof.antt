@@ -13,23 +13,14 @@ use Rattle.scene.proofs.Requests.{short}
 use Rattle.scene.proofs.compile.compile_steps.Statement.{statement}
 use Rattle.scene.proofs.compile.compile_steps.Tie as tie
 
-first-bad-step-requires : tie.Need-first-bad-step-requires
-first-bad-step-requires c κs = search needs
-
 cast-refused : tie.Need-cast-refused
 cast-refused c = omega (arith, c .if1 .taken, c .before .before .before .before .before .pre .1)
-
-refused-requires : tie.Need-refused-requires
-refused-requires c κs = search needs
 
 returns : tie.Need-returns
 returns c =
     let out = c .before .before .before .before .before .before .args .out .now in
     rw (c .before .before .first-bad-step .ensures .1, lt-ltb _ _ (c .before .if1 .taken))
     (ap (λ (r : CompileAnswer). compiledAs r out) (c .refused .ensures))
-
-refused-requires-2 : tie.Need-refused-requires-2
-refused-requires-2 c κs = search needs
 
 returns-2 : tie.Need-returns-2
 returns-2 c =
@@ -48,9 +39,6 @@ write-output-requires c κs =
       c .before .if2 .left,
     )
 
-same-length : tie.Need-same-length
-same-length c = search needs
-
 returns-3 : tie.Need-returns-3
 returns-3 c =
     let s = c .before .before .before .before .before .before .before .before .before .before in
@@ -68,14 +56,5 @@ returns-3 c =
 
 pub compile-steps-spec : {M : Type 1} → statement M
 compile-steps-spec =
-    tie.close
-    (tie.spec
-    first-bad-step-requires
-    cast-refused
-    refused-requires
-    returns
-    refused-requires-2
-    returns-2
-    write-output-requires
-    same-length
-    returns-3)
+    tie.close (tie.spec (λ c κs. search needs) cast-refused (λ c κs. search needs) returns (λ c κs. search needs)
+    returns-2 write-output-requires (λ c. search needs) returns-3)

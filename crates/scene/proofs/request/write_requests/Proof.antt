@@ -86,17 +86,11 @@ here c =
 shared-slice-read-wide : tie.Need-shared-slice-read-wide Inv-loop μ-loop
 shared-slice-read-wide c = omega (arith, here (c .before) .inside)
 
-wide-requires : tie.Need-wide-requires Inv-loop μ-loop
-wide-requires c κs = search needs
-
 add-wide : tie.Need-add-wide Inv-loop μ-loop
 add-wide c = omega (arith, here (c .before .before) .inside)
 
 shared-slice-read-wide-2 : tie.Need-shared-slice-read-wide-2 Inv-loop μ-loop
 shared-slice-read-wide-2 c = here (c .before .before .before) .inside
-
-wide-requires-2 : tie.Need-wide-requires-2 Inv-loop μ-loop
-wide-requires-2 c κs = search needs
 
 add-pair : tie.Need-add-pair Inv-loop μ-loop
 add-pair c = omega (arith, here (c .before .before .before .before) .inside)
@@ -220,10 +214,10 @@ write-requests-spec =
     begin-request-requires
     loop-holds
     shared-slice-read-wide
-    wide-requires
+    (λ c κs. search needs)
     add-wide
     shared-slice-read-wide-2
-    wide-requires-2
+    (λ c κs. search needs)
     add-pair
     next-list-requires
     write-entry-at-requires

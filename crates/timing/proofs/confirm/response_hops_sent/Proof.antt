@@ -5,12 +5,6 @@ use Rattle.timing.specs.Confirm.{responseHopsSent}
 use borrow.Author.Needs.{needs}
 use Rattle.timing.proofs.confirm.response_hops_sent.Statement.{statement}
 use Rattle.timing.proofs.confirm.response_hops_sent.Tie as tie
-use Rattle.timing.proofs.confirm.response_hops_sent.Reads as reads
-use Rattle.timing.proofs.confirm.response_hops_sent.Lts as lts
-use Rattle.dpa.proofs.frame.Frame.read.Reads as read-reads
-
-read-requires : tie.Need-read-requires
-read-requires c κs = search needs
 
 returns : tie.Need-returns
 unfolding responseHopsSent
@@ -21,4 +15,4 @@ unfolding responseHopsSent
 returns-2 c = simp (ne-eqb _ _ (λ q. c .if1 .left (ap (λ (f : Frame). f .nadr) (c .before .before .read .ensures) ∙ q)))
 
 pub response-hops-sent-spec : {M : Type 1} → statement M
-response-hops-sent-spec = tie.close (tie.spec read-requires returns returns-2)
+response-hops-sent-spec = tie.close (tie.spec (λ c κs. search needs) returns returns-2)

@@ -3,8 +3,6 @@ use borrow.Author.Tests.{lt-ltb, le-ltb, le-leb, lt-leb}
 use Rattle.timing.specs.Slot.{baseSlot}
 use Rattle.timing.proofs.slot.base_slot.Statement.{statement}
 use Rattle.timing.proofs.slot.base_slot.Tie as tie
-use Rattle.timing.proofs.slot.base_slot.Reads as reads
-use Rattle.timing.proofs.slot.base_slot.Lts as lts
 
 returns : tie.Need-returns
 unfolding baseSlot

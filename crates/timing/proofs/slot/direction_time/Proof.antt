@@ -6,14 +6,9 @@ use Rattle.timing.proofs.Slots.{way-max}
 use borrow.Author.Needs.{needs}
 use Rattle.timing.proofs.slot.direction_time.Statement.{statement}
 use Rattle.timing.proofs.slot.direction_time.Tie as tie
-use Rattle.timing.proofs.slot.direction_time.Reads as reads
-use Rattle.timing.proofs.slot.direction_time.Lts as lts
 
 most : (c : tie.Start) → directionTime (c .args .hops) (c .args .slot) ≤ 652800
 most c = way-max (c .args .hops) (c .args .slot) 255 (omega arith) (omega arith)
-
-add-result : tie.Need-add-result
-add-result c = search needs
 
 mul-result : tie.Need-mul-result
 unfolding directionTime
@@ -28,4 +23,4 @@ unfolding directionTime
 returns c = (refl, most c)
 
 pub direction-time-spec : {M : Type 1} → statement M
-direction-time-spec = tie.close (tie.spec add-result mul-result mul-result-2 returns)
+direction-time-spec = tie.close (tie.spec (λ c. search needs) mul-result mul-result-2 returns)
