@@ -6,7 +6,8 @@ use Prim.Native.Nat.{ℕ}
 use native.Mathlib.Omega.{arith}
 use Rattle.dpa.specs.Reply.{reply}
 use Rattle.dpa.specs.declared.settings.Settings.{Settings}
-use Rattle.batch.specs.Batch.{listBytes, Reading, All, runItems, errorsOf}
+use Rattle.batch.specs.Batch.{listBytes, Reading, runItems, errorsOf}
+use Rattle.dpa.specs.Lists.{All}
 use Rattle.batch.proofs.RoundTrip.{round-trip, list-some}
 use Rattle.handler.specs.Request.{State, StateRule, hwpidMatches, executeEntry, entryAfter, entryError, noReport, Outcome, outcome, batchOutcome, batchRequest}
 use Rattle.handler.proofs.Soundness.{entry-sound}

@@ -10,7 +10,7 @@ use lib.ListN.{length}
 use borrow.Author.Tests.{eq-eqb, ne-eqb, le-ltb, le-leb}
 use Rattle.dpa.specs.declared.settings.Settings.{Settings}
 use Rattle.dpa.specs.declared.frame.Frame.{Frame}
-use Rattle.dpa.specs.Lists.{overwriteFront}
+use Rattle.dpa.specs.Lists.{overwriteFront, All}
 use Rattle.dpa.specs.Frame.{frame, headerBytes, headerOf, headerSize, longestFrame, responseHeaderSize, longestResponse, broadcastNadr, frameFits, responseHeader}
 use Rattle.dpa.specs.Pnum.{osPnum}
 use Rattle.dpa.proofs.Bool.{both}
@@ -18,7 +18,7 @@ use Rattle.dpa.proofs.Headers.{read-written}
 use Rattle.dpa.proofs.Ranges.{settings-facts}
 use Rattle.memory.specs.declared.block.Memory.the-variants.{Eeprom, External}
 use Rattle.memory.specs.Block.{sizeOf}
-use Rattle.batch.specs.Batch.{Item, item, All}
+use Rattle.batch.specs.Batch.{Item, item}
 use Rattle.handler.specs.Request.{State, StateRule, itemOf, noReport, Outcome, execute, CallResult, broadcast, respond, requestRefusal, refusalOf, handleRequest}
 use Rattle.node.proofs.Nodes.{node-settings}
 use Rattle.handler.proofs.Handling.{frame-broadcast, frame-unicast, call-accepted}

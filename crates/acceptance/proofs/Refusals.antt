@@ -12,11 +12,11 @@ use borrow.Author.Tests.{eq-eqb, ne-eqb, eqb-true, eqb-false, le-leb, lt-leb, le
 use Rattle.dpa.specs.Frame.{broadcastNadr}
 use Rattle.dpa.specs.Settings.{lastAddress, nodeAddress}
 use Rattle.dpa.proofs.Bool.{and-left, and-right, by-cond, by-test}
-use Rattle.batch.specs.Batch.{All}
+use Rattle.dpa.specs.Lists.{All}
 use Rattle.book.specs.declared.step.Step.{Step}
 use Rattle.book.specs.Book.{countOf, bookOk, sceneOf}
 use Rattle.book.specs.Step.{stepFault, goodStep, firstBadFrom}
-use Rattle.book.proofs.Groups.{all-weaken}
+use Rattle.dpa.proofs.All.{all-weaken}
 use Rattle.book.proofs.Faults.{Good, no-bad}
 use Rattle.scene.specs.Compile.{compiled}
 use Rattle.scene.specs.Call.{CompileResult, output, minOutput, refusedAt, written, addressOk, compileSteps, compileScene, compileOf}

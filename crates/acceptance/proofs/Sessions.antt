@@ -8,7 +8,8 @@ use lib.ListN.{length}
 use Rattle.dpa.specs.declared.settings.Settings.{Settings}
 use Rattle.dpa.specs.Frame.{longestResponse, broadcastNadr, frame}
 use Rattle.dpa.specs.Pnum.{osPnum}
-use Rattle.batch.specs.Batch.{Item, item, listBytes, All}
+use Rattle.batch.specs.Batch.{Item, item, listBytes}
+use Rattle.dpa.specs.Lists.{All}
 use Rattle.handler.specs.Request.{State, StateRule, hwpidMatches, batchRequest, execute, handleRequest}
 use Rattle.book.specs.declared.step.Step.{Step}
 use Rattle.book.specs.Group.{joined}

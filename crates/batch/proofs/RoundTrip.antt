@@ -6,14 +6,14 @@ use native.Mathlib.Omega.{arith}
 use native.Mathlib.Nat.{add-sub-cancel-left}
 use lib.ListN.{length, getD, take, drop, length-append, length-take, length-drop, take-append-drop}
 use lib.Seq.{take-add, take-append-seam, drop-at, drop-drop, length-take-le}
-use Rattle.dpa.specs.Lists.{Bytes, slice}
+use Rattle.dpa.specs.Lists.{Bytes, slice, All}
 use Rattle.dpa.specs.Number.{low, high}
 use Rattle.dpa.proofs.Numbers.{word-split, low-word, high-word, word-max}
 use Rattle.batch.specs.declared.entry.NextEntry.the-variants.{Entry}
 use Rattle.batch.specs.declared.list.ListCheck.{ListCheck}
 use Rattle.batch.specs.declared.list.ListCheck.the-variants.{Sound, Broken}
-use Rattle.batch.specs.Batch.{Item, item, entryBytes, entriesBytes, listBytes, Sendable, All, nextEntry, Reading, shiftFault, andRest, reading}
-use Rattle.batch.proofs.Bytes.{bytes-none, bytes-cons, bytes-append, bytes-take, bytes-drop}
+use Rattle.batch.specs.Batch.{Item, item, entryBytes, entriesBytes, listBytes, Sendable, nextEntry, Reading, shiftFault, andRest, reading}
+use Rattle.dpa.proofs.Bytes.{bytes-none, bytes-cons, bytes-append, bytes-take, bytes-drop}
 use Rattle.batch.proofs.Entries.{Means, zero-closes, closing-zero, next-is, next-facts}
 use Rattle.batch.proofs.Lists.{reading-closed, reading-entry, reading-fault, by-reading}
 use Rattle.batch.proofs.Faults.{not-sound}

@@ -42,11 +42,6 @@ pub record Sendable (i : Item) : Type 0 where
   pub pdata-bytes : Bytes (i .pdata)
   pub size : 5 + length (i .pdata) ≤ 255
 
--- every element has P
-abbrev pub All : {A : Type 0} → (A → Type 0) → List A → Type 0
-All P [] = Unit
-All P (x ∷ xs) = P x × All P xs
-
 -- the remaining bytes are the closing zero alone
 abbrev pub closing : List ℕ → Bool
 closing s = eqb (length s) 1 && eqb (getD s 0 0) 0

@@ -12,7 +12,7 @@ use lib.Seq.{drop-cons, getD-drop}
 use borrow.Author.Tests.{lt-ltb, le-ltb, le-leb, lt-leb, eq-eqb, ne-eqb, eqb-true, leb-true}
 use Rattle.dpa.specs.Number.{word}
 use Rattle.dpa.proofs.Bool.{and-left, and-right}
-use Rattle.batch.specs.Batch.{All}
+use Rattle.dpa.specs.Lists.{All}
 use Rattle.book.specs.declared.contents.SceneLocation.{SceneLocation}
 use Rattle.book.specs.declared.step.Step.{Step}
 use Rattle.book.specs.Book.{scenesMax, stepsMax, locationLength, stepLength, content, countOf, stepsIn, locationsIn, chained, sceneLocations, bookOk, sceneOf}

@@ -6,14 +6,14 @@ use native.Mathlib.Omega.{arith}
 use lib.ListN.{length, getD, take, drop}
 use borrow.Author.Tests.{eqb-true, ltb-true}
 use Rattle.dpa.proofs.Bool.{and-left}
-use Rattle.batch.specs.Batch.{All}
+use Rattle.dpa.specs.Lists.{All}
 use Rattle.book.specs.declared.step.Step.{Step}
 use Rattle.book.specs.Book.{stepLength, stepsIn}
 use Rattle.book.specs.Step.{ramKind}
 use Rattle.book.specs.Join.{follows, entriesOf}
 use Rattle.book.specs.Run.{oneStepMax, FirstEntry, Writable, AllGood}
 use Rattle.book.proofs.Faults.{Good, lamp-good}
-use Rattle.book.proofs.Groups.{all-drop}
+use Rattle.dpa.proofs.All.{all-drop}
 use Rattle.book.proofs.Runs.{Linked, Run, runs}
 use Rattle.book.proofs.Joining.{steps-length, none, steps-at, steps-part}
 use Rattle.book.proofs.Books.{good-steps}

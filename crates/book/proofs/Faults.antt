@@ -11,7 +11,7 @@ use borrow.Author.Tests.{eqb-true, eq-eqb, ne-eqb, ltb-true, ltb-false, leb-true
 use Rattle.dpa.proofs.Bool.{by-test, both, and-left, and-right, second-taken, first-taken}
 use Rattle.memory.specs.Block.{sizeOf}
 use Rattle.memory.specs.declared.block.Memory.the-variants.{Eeprom, Ram}
-use Rattle.batch.specs.Batch.{All}
+use Rattle.dpa.specs.Lists.{All}
 use Rattle.book.specs.declared.step.Step.{Step}
 use Rattle.book.specs.Step.{ramKind, eepromKind, isLamp, stepTimeOk, lampFault, byteFault, stepFault, goodStep, firstBadFrom}
 use Rattle.book.specs.Machine.{lampFormed, byteFormed, wellFormed}

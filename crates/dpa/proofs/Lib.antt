@@ -4,3 +4,5 @@ pub mod Numbers
 pub mod Ranges
 pub mod Headers
 pub mod Replies
+pub mod All
+pub mod Bytes

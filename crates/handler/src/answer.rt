@@ -1,5 +1,6 @@
 // What a call reports of a request.
 use dpa::refusal;
+use lights::lamp::LAMPS;
 use lights::lamp::Lamp;
 use node::record::Node;
 use node::record::ReadOnly;
@@ -32,7 +33,7 @@ impl Report {
 pub struct Handled {
     pub report: Report,
     pub length: usize,
-    pub lamps: [Lamp; 32],
+    pub lamps: [Lamp; LAMPS],
 }
 
 // The call's answer has the report's fields among its own.

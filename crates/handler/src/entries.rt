@@ -6,6 +6,7 @@ use batch::entry::at_end;
 use batch::entry::next_entry;
 use dpa::frame::Frame;
 use dpa::settings::Settings;
+use lights::lamp::LAMPS;
 use lights::lamp::Lamp;
 use node::record::ReadOnly;
 ghost use mathlib.Core.Path.{_≡_};
@@ -25,7 +26,7 @@ pub fn hwpid_matches(settings: Settings, hwpid: u16) -> bool
 // One entry. Its answer is not sent: the data goes to a scratch buffer.
 fn run_entry(
     fixed: ReadOnly,
-    lamps: [Lamp; 32],
+    lamps: [Lamp; LAMPS],
     pnum: u8,
     pcmd: u8,
     hwpid: u16,
@@ -33,7 +34,7 @@ fn run_entry(
     ram: &mut [u8],
     eeprom: &mut [u8],
     external: &mut [u8],
-) -> [Lamp; 32]
+) -> [Lamp; LAMPS]
     requires { ⌜ StateRule (stateFromParts fixed lamps (now ram) (now eeprom) (now external)) ⌝ }
     ensures { λ r. ⌜ stateFromParts fixed r (now (ram .exit)) (now (eeprom .exit)) (now (external .exit))
         ≡ entryAfter (item pnum pcmd hwpid (now (pdata .entry))) (stateFromParts fixed lamps (now (ram .entry)) (now (eeprom .entry)) (now (external .entry))) ⌝ }
@@ -59,12 +60,12 @@ fn run_entry(
 // The entries that a list reads as, each with the lamps and the memories that the one before left.
 pub fn run_list(
     fixed: ReadOnly,
-    mut lamps: [Lamp; 32],
+    mut lamps: [Lamp; LAMPS],
     list: &[u8],
     ram: &mut [u8],
     eeprom: &mut [u8],
     external: &mut [u8],
-) -> [Lamp; 32]
+) -> [Lamp; LAMPS]
     requires { ⌜ StateRule (stateFromParts fixed lamps (now ram) (now eeprom) (now external)) ⌝ }
     ensures { λ r. ⌜ stateFromParts fixed r (now (ram .exit)) (now (eeprom .exit)) (now (external .exit))
         ≡ runItems entryAfter (reading (now (list .entry)) .items) (stateFromParts fixed lamps (now (ram .entry)) (now (eeprom .entry)) (now (external .entry))) ⌝ }

@@ -6,6 +6,7 @@ use batch::list::check_list;
 use batch::list::list_error;
 use checksum::check::code_check;
 use dpa::error;
+use lights::lamp::LAMPS;
 use lights::lamp::Lamp;
 use node::record::ReadOnly;
 ghost use mathlib.Core.Path.{_≡_};
@@ -24,11 +25,11 @@ pub struct RequestReply {
     pub error: u8,
     pub report: Report,
     pub length: usize,
-    pub lamps: [Lamp; 32],
+    pub lamps: [Lamp; LAMPS],
 }
 
 // A request that answers no data.
-pub fn without_data(lamps: [Lamp; 32], error: u8) -> RequestReply
+pub fn without_data(lamps: [Lamp; LAMPS], error: u8) -> RequestReply
     ensures { λ r. ⌜ r ≡ record { error = error; report = noReport; length = 0; lamps = lamps } ⌝ }
 {
     RequestReply {
@@ -42,7 +43,7 @@ pub fn without_data(lamps: [Lamp; 32], error: u8) -> RequestReply
 // A list that cannot be read runs nothing.
 fn run_batch(
     fixed: ReadOnly,
-    lamps: [Lamp; 32],
+    lamps: [Lamp; LAMPS],
     pdata: &[u8],
     ram: &mut [u8],
     eeprom: &mut [u8],
@@ -65,7 +66,7 @@ fn run_batch(
 
 pub fn os(
     fixed: ReadOnly,
-    lamps: [Lamp; 32],
+    lamps: [Lamp; LAMPS],
     pcmd: u8,
     pdata: &[u8],
     ram: &mut [u8],

@@ -2,6 +2,7 @@
 use dpa::error;
 use dpa::pnum;
 use dpa::reply::Reply;
+use lights::lamp::LAMPS;
 use lights::lamp::Lamp;
 use lights::request::LampsReply;
 use memory::block::Memory;
@@ -14,7 +15,7 @@ ghost use Rattle.dpa.specs.Reply.{replySeen, replyInBuffer};
 ghost use Rattle.handler.specs.Request.{stateFromParts, StateRule, perform};
 
 // A request to a memory leaves the lamps alone.
-fn memory_reply(lamps: [Lamp; 32], reply: Reply) -> LampsReply
+fn memory_reply(lamps: [Lamp; LAMPS], reply: Reply) -> LampsReply
     ensures { λ r. ⌜ r ≡ record { error = reply .error; length = reply .length; lamps = lamps } ⌝ }
 {
     LampsReply {
@@ -27,7 +28,7 @@ fn memory_reply(lamps: [Lamp; 32], reply: Reply) -> LampsReply
 // The answer's data goes to the front of `out`.
 pub fn peripheral(
     fixed: ReadOnly,
-    lamps: [Lamp; 32],
+    lamps: [Lamp; LAMPS],
     pnum: u8,
     pcmd: u8,
     pdata: &[u8],

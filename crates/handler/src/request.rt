@@ -14,6 +14,7 @@ use dpa::frame::Frame;
 use dpa::frame::write_header;
 use dpa::pnum;
 use dpa::refusal;
+use lights::lamp::LAMPS;
 use lights::lamp::Lamp;
 use lights::request::LampsReply;
 use memory::block::Memory;
@@ -46,7 +47,7 @@ fn peripheral_reply(reply: LampsReply) -> RequestReply
 // A request from HWPID on. The answer's data goes to the front of `out`.
 fn execute(
     fixed: ReadOnly,
-    lamps: [Lamp; 32],
+    lamps: [Lamp; LAMPS],
     header: Frame,
     pdata: &[u8],
     ram: &mut [u8],
@@ -83,7 +84,7 @@ fn execute(
 // A broadcast is carried out and never answered: its data goes to a scratch buffer.
 fn handle_broadcast(
     fixed: ReadOnly,
-    lamps: [Lamp; 32],
+    lamps: [Lamp; LAMPS],
     header: Frame,
     pdata: &[u8],
     ram: &mut [u8],
@@ -118,7 +119,7 @@ fn handle_broadcast(
 // A request to this node: the data part after the header is lent on, then the header is written in front of it.
 fn handle_unicast(
     fixed: ReadOnly,
-    lamps: [Lamp; 32],
+    lamps: [Lamp; LAMPS],
     header: Frame,
     pdata: &[u8],
     ram: &mut [u8],

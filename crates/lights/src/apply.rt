@@ -1,6 +1,7 @@
 // What entries do to lamps, and the levels that are answered, in one walk over the bitmap from its lowest bit.
 use crate::entry::KEEP;
 use crate::entry::change_at;
+use crate::lamp::LAMPS;
 use crate::lamp::Lamp;
 use crate::lamp::actual_level;
 use dpa::number::wide;
@@ -58,9 +59,9 @@ pub fn apply(
     command: Command,
     mask: u32,
     pdata: &[u8],
-    lamps: [Lamp; 32],
+    lamps: [Lamp; LAMPS],
     out: &mut [u8],
-) -> [Lamp; 32]
+) -> [Lamp; LAMPS]
     requires { ⌜ (settingsOk settings ≡ true) × LevelsInRange lamps × (32 ≤ length (now out)) × (4 ≤ length (now pdata))
         × (isGood (entries (count (bits 32 mask)) (drop 4 (now pdata))) ≡ true) ⌝ }
     ensures { λ r. ⌜ replySeen r 0 (count (bits 32 mask)) (now (out .exit))

@@ -2,6 +2,7 @@
 use crate::apply::Command;
 use crate::apply::apply;
 use crate::entry::entries_ok;
+use crate::lamp::LAMPS;
 use crate::lamp::Lamp;
 use dpa::error;
 use dpa::number::wide_word;
@@ -30,7 +31,7 @@ pub const ENUMERATE: u8 = 0x3E;
 pub struct LampsReply {
     pub error: u8,
     pub length: usize,
-    pub lamps: [Lamp; 32],
+    pub lamps: [Lamp; LAMPS],
 }
 
 // The four bitmap bytes as one number.
@@ -50,7 +51,7 @@ fn selected(mask: u32) -> usize
     u32::count_ones(mask) as usize
 }
 
-fn refuse(error: u8, lamps: [Lamp; 32]) -> LampsReply
+fn refuse(error: u8, lamps: [Lamp; LAMPS]) -> LampsReply
     ensures { λ r. ⌜ r ≡ record { error = error; length = 0; lamps = lamps } ⌝ }
 {
     LampsReply {
@@ -73,7 +74,7 @@ fn command_of(pcmd: u8) -> Command
 // Set, raise or lower. The number of one-bits is the number of entries and the answer's length.
 fn change_lamps(
     settings: Settings,
-    lamps: [Lamp; 32],
+    lamps: [Lamp; LAMPS],
     command: Command,
     pdata: &[u8],
     out: &mut [u8],
@@ -97,7 +98,7 @@ fn change_lamps(
     }
 }
 
-fn enumerate(settings: Settings, lamps: [Lamp; 32], pdata: &[u8], out: &mut [u8]) -> LampsReply
+fn enumerate(settings: Settings, lamps: [Lamp; LAMPS], pdata: &[u8], out: &mut [u8]) -> LampsReply
     requires { ⌜ 32 ≤ length (now out) ⌝ }
     ensures { λ r. ⌜ replySeen (r .lamps) (r .error) (r .length) (now (out .exit)) ≡ replyInBuffer (enumerateLamps settings (now (pdata .entry)) lamps) (now (out .entry)) ⌝ }
 {
@@ -115,7 +116,7 @@ fn enumerate(settings: Settings, lamps: [Lamp; 32], pdata: &[u8], out: &mut [u8]
 // A request to the lights, its answer's data at the front of out.
 pub fn request(
     settings: Settings,
-    lamps: [Lamp; 32],
+    lamps: [Lamp; LAMPS],
     pcmd: u8,
     pdata: &[u8],
     out: &mut [u8],

@@ -9,7 +9,8 @@ use lib.ListN.{length, take, drop, length-append}
 use lib.Seq.{drop-drop}
 use borrow.Author.Tests.{le-leb, lt-leb, leb-true}
 use Rattle.dpa.proofs.Bool.{by-test, by-cond}
-use Rattle.batch.specs.Batch.{All, entryBytes, entriesBytes}
+use Rattle.batch.specs.Batch.{entryBytes, entriesBytes}
+use Rattle.dpa.specs.Lists.{All}
 use Rattle.book.specs.declared.step.Step.{Step}
 use Rattle.book.specs.Group.{joined, grow, group}
 use Rattle.book.specs.Entry.{groupData, joinedItem}

@@ -9,7 +9,7 @@ use native.Mathlib.Omega.{arith}
 use lib.ListN.{length, getD, take, drop, set, length-drop, drop-of-length-le, length-append, take-append-drop}
 use lib.Seq.{sets, sets-eq, drop-drop, getD-drop, length-take-le}
 use Rattle.dpa.proofs.Bool.{by-cond}
-use Rattle.batch.specs.Batch.{All}
+use Rattle.dpa.specs.Lists.{All}
 use Rattle.book.specs.declared.step.Step.{Step}
 use Rattle.book.specs.Group.{joined, grow, group}
 use Rattle.book.specs.Entry.{groupData}

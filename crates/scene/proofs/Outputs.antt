@@ -15,7 +15,7 @@ use Rattle.dpa.specs.Frame.{longestFrame, frame}
 use Rattle.dpa.specs.Pnum.{osPnum}
 use Rattle.dpa.proofs.Bool.{by-cond}
 use Rattle.dpa.proofs.Lists.{front}
-use Rattle.batch.specs.Batch.{All}
+use Rattle.dpa.specs.Lists.{All}
 use Rattle.book.specs.declared.step.Step.{Step}
 use Rattle.book.specs.Group.{joined}
 use Rattle.book.specs.Join.{joins, entriesOf, entryLimit}

@@ -6,7 +6,8 @@ use native.Mathlib.Omega.{arith}
 use lib.ListN.{length, length-append}
 use Rattle.dpa.specs.declared.frame.Frame.{Frame}
 use Rattle.dpa.specs.Frame.{headerSize, longestFrame}
-use Rattle.batch.specs.Batch.{All, entryBytes, entriesBytes}
+use Rattle.batch.specs.Batch.{entryBytes, entriesBytes}
+use Rattle.dpa.specs.Lists.{All}
 use Rattle.batch.proofs.RoundTrip.{entry-length}
 use Rattle.book.specs.declared.step.Step.{Step}
 use Rattle.book.specs.Entry.{groupData, joinedItem}

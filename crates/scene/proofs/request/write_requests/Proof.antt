@@ -16,7 +16,7 @@ use Rattle.book.specs.Run.{FirstEntry}
 use Rattle.book.proofs.Joining.{steps-length, steps-part}
 use Rattle.book.proofs.Writing.{put-two}
 use Rattle.book.proofs.Faults.{Good}
-use Rattle.book.proofs.Groups.{all-drop}
+use Rattle.dpa.proofs.All.{all-drop}
 use Rattle.book.proofs.Books.{good-steps}
 use Rattle.book.proofs.Entries.{entry-ok}
 use Rattle.scene.specs.Fill.{requestsWith, KeepsEntries}
