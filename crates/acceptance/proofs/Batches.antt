@@ -4,13 +4,14 @@ use mathlib.Core.List.{List, [], _∷_}
 use mathlib.Core.Bool.{true}
 use Prim.Native.Nat.{ℕ}
 use native.Mathlib.Omega.{arith}
-use Rattle.dpa.specs.Served.{served}
+use Rattle.dpa.specs.Reply.{reply}
 use Rattle.dpa.specs.declared.settings.Settings.{Settings}
-use Rattle.batch.specs.Batch.{listBytes, Reading, All, runItems, errorsOf}
+use Rattle.batch.specs.Batch.{listBytes, Reading, runItems, errorsOf}
+use Rattle.dpa.specs.Lists.{All}
 use Rattle.batch.proofs.RoundTrip.{round-trip, list-some}
-use Rattle.handler.specs.Request.{State, StateRule, forNode, entryOf, entryAfter, entryError, noReport, Outcome, outcome, ran, batchOf}
+use Rattle.handler.specs.Request.{State, StateRule, hwpidMatches, executeEntry, entryAfter, entryError, noReport, Outcome, outcome, batchOutcome, batchRequest}
 use Rattle.handler.proofs.Soundness.{entry-sound}
-use Rattle.handler.proofs.Carrying.{batch-runs}
+use Rattle.handler.proofs.Executing.{batch-runs}
 use Rattle.book.specs.declared.step.Step.{Step}
 use Rattle.book.specs.Group.{joined}
 use Rattle.book.specs.Machine.{machine}
@@ -20,20 +21,20 @@ use Rattle.book.proofs.Places.{machine-append, machine-stays}
 
 -- carried out without an error of its own or data, with nothing to report
 abbrev pub finished : State → List ℕ → Outcome
-finished end errors = outcome (served end 0 []) errors noReport
+finished end errors = outcome (reply end 0 []) errors noReport
 
 -- the entry of these steps has no error and leaves what they leave
 abbrev pub Performs : ℕ → List Step → State → Type 0
-Performs h run st = (entryOf (joinedItem h run) st .error ≡ 0) × (entryOf (joinedItem h run) st .after ≡ machine run st)
+Performs h run st = (executeEntry (joinedItem h run) st .error ≡ 0) × (executeEntry (joinedItem h run) st .after ≡ machine run st)
 
 -- the entries of these steps, at any sound node that takes their profile
 abbrev pub AllPerform : ℕ → (List Step → Type 0) → Type 0
 AllPerform h Run =
-    (run : List Step) (st : State) → Run run → StateRule st → forNode (st .node .settings) h ≡ true → Performs h run st
+    (run : List Step) (st : State) → Run run → StateRule st → hwpidMatches (st .node .settings) h ≡ true → Performs h run st
 
 module _ (h : ℕ) (Run : List Step → Type 0) (performs : AllPerform h Run) where
   -- in order, each from what the last one left
-  pub entries-perform : (runs : List (List Step)) (st : State) → All Run runs → StateRule st → forNode (st .node .settings) h ≡ true
+  pub entries-perform : (runs : List (List Step)) (st : State) → All Run runs → StateRule st → hwpidMatches (st .node .settings) h ≡ true
       → All (λ (e : ℕ). e ≡ 0) (errorsOf entryError entryAfter (joinedItems h runs) st)
       × (runItems entryAfter (joinedItems h runs) st ≡ machine (joined runs) st)
   unfolding runItems errorsOf
@@ -42,16 +43,16 @@ module _ (h : ℕ) (Run : List Step → Type 0) (performs : AllPerform h Run) wh
       let first = performs r st (a .0) k f in
       let next = entryAfter (joinedItem h r) st in
       let same : next .node .settings ≡ st .node .settings = ap (λ (t : State). t .node .settings) (first .1) ∙ machine-stays r st .settings in
-      let rest = entries-perform rs next (a .1) (entry-sound (joinedItem h r) st k) (ap (λ (s : Settings). forNode s h) same ∙ f) in
+      let rest = entries-perform rs next (a .1) (entry-sound (joinedItem h r) st k) (ap (λ (s : Settings). hwpidMatches s h) same ∙ f) in
       ((first .0, rest .0), rest .1 ∙ ap (machine (joined rs)) (first .1) ∙ sym (machine-append r (joined rs) st))
 
   -- their list is read back and runs
-  pub batch-performs : (runs : List (List Step)) (st : State) → All Run runs → StateRule st → forNode (st .node .settings) h ≡ true
-      → batchOf (listBytes (joinedItems h runs)) st
+  pub batch-performs : (runs : List (List Step)) (st : State) → All Run runs → StateRule st → hwpidMatches (st .node .settings) h ≡ true
+      → batchRequest (listBytes (joinedItems h runs)) st
       ≡ finished (machine (joined runs) st) (errorsOf entryError entryAfter (joinedItems h runs) st)
   batch-performs runs st a k f =
       let is = joinedItems h runs in
       let back = round-trip is in
-      batch-runs (listBytes is) st (λ z. omega (arith, list-some is)) (ap (λ (r : Reading). r .listed) back)
-      ∙ ap (λ (r : Reading). ran (r .items) st) back
+      batch-runs (listBytes is) st (λ z. omega (arith, list-some is)) (ap (λ (r : Reading). r .check) back)
+      ∙ ap (λ (r : Reading). batchOutcome (r .items) st) back
       ∙ ap (λ (t : State). finished t (errorsOf entryError entryAfter is st)) (entries-perform runs st a k f .1)

@@ -10,7 +10,7 @@ use lib.ListN.{length}
 use borrow.Author.Tests.{eq-eqb, ne-eqb, le-ltb, le-leb}
 use Rattle.dpa.specs.declared.settings.Settings.{Settings}
 use Rattle.dpa.specs.declared.frame.Frame.{Frame}
-use Rattle.dpa.specs.Lists.{over}
+use Rattle.dpa.specs.Lists.{overwriteFront, All}
 use Rattle.dpa.specs.Frame.{frame, headerBytes, headerOf, headerSize, longestFrame, responseHeaderSize, longestResponse, broadcastNadr, frameFits, responseHeader}
 use Rattle.dpa.specs.Pnum.{osPnum}
 use Rattle.dpa.proofs.Bool.{both}
@@ -18,11 +18,11 @@ use Rattle.dpa.proofs.Headers.{read-written}
 use Rattle.dpa.proofs.Ranges.{settings-facts}
 use Rattle.memory.specs.declared.block.Memory.the-variants.{Eeprom, External}
 use Rattle.memory.specs.Block.{sizeOf}
-use Rattle.batch.specs.Batch.{Item, item, All}
-use Rattle.handler.specs.Request.{State, StateRule, itemOf, noReport, Outcome, carryOut, Called, broadcast, respond, requestRefusal, refusalOf, requestOf}
+use Rattle.batch.specs.Batch.{Item, item}
+use Rattle.handler.specs.Request.{State, StateRule, itemOf, noReport, Outcome, execute, CallResult, broadcast, respond, requestRefusal, refusalOf, handleRequest}
 use Rattle.node.proofs.Nodes.{node-settings}
-use Rattle.handler.proofs.Taking.{taken-broadcast, taken-own, call-taken}
-use Rattle.handler.proofs.Soundness.{carry-sound}
+use Rattle.handler.proofs.Handling.{frame-broadcast, frame-unicast, call-accepted}
+use Rattle.handler.proofs.Soundness.{execute-sound}
 use Rattle.acceptance.specs.SceneTheorem.{Success}
 use Rattle.acceptance.proofs.Batches.{finished}
 
@@ -39,22 +39,22 @@ not-refused f st o k lo hi room =
     )
 
 -- carried out in silence for all, with a response for the node's address
-abbrev takenAs : ℕ → Settings → Item → Outcome → List ℕ → Called
+abbrev takenAs : ℕ → Settings → Item → Outcome → List ℕ → CallResult
 takenAs a s i x o = cond (eqb a broadcastNadr) (broadcast x o) (respond s i x o)
 
 -- a frame for the node's address or for all that is not refused
 taken-as : (f : List ℕ) (st : State) (o : List ℕ) → StateRule st → refusalOf f st o ≡ 0
     → (a : ℕ) → headerOf f .nadr ≡ a → (a ≡ st .node .settings .address) ⊎ (a ≡ broadcastNadr)
-    → requestOf f st o ≡ takenAs a (st .node .settings) (itemOf f) (carryOut (itemOf f) st) o
+    → handleRequest f st o ≡ takenAs a (st .node .settings) (itemOf f) (execute (itemOf f) st) o
 taken-as f st o k z a e (inl own) =
     let most = settings-facts (st .node .settings) (node-settings (st .node) (k .node-ok)) .address-max in
-    rw (ne-eqb a broadcastNadr (λ q. omega arith)) (call-taken f st o z ∙ taken-own f st o (λ q. omega arith) (e ∙ own))
-taken-as f st o k z a e (inr all) = rw (eq-eqb a broadcastNadr all) (call-taken f st o z ∙ taken-broadcast f st o (e ∙ all))
+    rw (ne-eqb a broadcastNadr (λ q. omega arith)) (call-accepted f st o z ∙ frame-unicast f st o (λ q. omega arith) (e ∙ own))
+taken-as f st o k z a e (inr all) = rw (eq-eqb a broadcastNadr all) (call-accepted f st o z ∙ frame-broadcast f st o (e ∙ all))
 
 -- what is then left, without an error and without data
 left-by : (s : Settings) (i : Item) (end : State) (es o : List ℕ) (b : Bool)
-    → let c : Called = cond b (broadcast (finished end es) o) (respond s i (finished end es) o) in
-    (c .refusal ≡ 0) × (c .length ≡ cond b 0 responseHeaderSize) × (c .response ≡ cond b o (over (responseHeader s (i .pnum) (i .pcmd) 0) o))
+    → let c : CallResult = cond b (broadcast (finished end es) o) (respond s i (finished end es) o) in
+    (c .refusal ≡ 0) × (c .length ≡ cond b 0 responseHeaderSize) × (c .response ≡ cond b o (overwriteFront (responseHeader s (i .pnum) (i .pcmd) 0) o))
     × (c .report ≡ noReport) × (c .addressed ≡ true) × (c .after ≡ end)
 left-by s i end es o true = (refl, refl, refl, refl, refl, refl)
 left-by s i end es o false = (refl, refl, refl, refl, refl, refl)
@@ -62,7 +62,7 @@ left-by s i end es o false = (refl, refl, refl, refl, refl, refl)
 module _ (pcmd a h : ℕ) (pdata : List ℕ) (st : State) (o : List ℕ) (k : StateRule st)
     (short : length (headerBytes (frame a osPnum pcmd h) ++ pdata) ≤ longestFrame) (room : longestResponse ≤ length o)
     (mine : (a ≡ st .node .settings .address) ⊎ (a ≡ broadcastNadr))
-    {end : State} {es : List ℕ} (did : carryOut (item osPnum pcmd h pdata) st ≡ finished end es) where
+    {end : State} {es : List ℕ} (did : execute (item osPnum pcmd h pdata) st ≡ finished end es) where
   abbrev request : List ℕ
   request = headerBytes (frame a osPnum pcmd h) ++ pdata
 
@@ -70,32 +70,32 @@ module _ (pcmd a h : ℕ) (pdata : List ℕ) (st : State) (o : List ℕ) (k : St
   back = read-written (frame a osPnum pcmd h) pdata
 
   -- the request is the one that was carried out
-  request-did : carryOut (itemOf request) st ≡ finished end es
-  request-did = ap (λ (x : Frame). carryOut (item (x .pnum) (x .pcmd) (x .hwpid) pdata) st) back ∙ did
+  request-did : execute (itemOf request) st ≡ finished end es
+  request-did = ap (λ (x : Frame). execute (item (x .pnum) (x .pcmd) (x .hwpid) pdata) st) back ∙ did
 
-  call-as : requestOf request st o ≡ takenAs a (st .node .settings) (itemOf request) (finished end es) o
+  call-as : handleRequest request st o ≡ takenAs a (st .node .settings) (itemOf request) (finished end es) o
   call-as =
       taken-as request st o k (not-refused request st o k (omega arith) short room) a (ap (λ (x : Frame). x .nadr) back) mine
       ∙ ap (λ (x : Outcome). takenAs a (st .node .settings) (itemOf request) x o) request-did
 
   -- the call leaves what carrying out leaves
-  pub call-leaves : requestOf request st o .after ≡ end
-  call-leaves = ap (λ (c : Called). c .after) call-as ∙ left-by (st .node .settings) (itemOf request) end es o (eqb a broadcastNadr) .5
+  pub call-leaves : handleRequest request st o .after ≡ end
+  call-leaves = ap (λ (c : CallResult). c .after) call-as ∙ left-by (st .node .settings) (itemOf request) end es o (eqb a broadcastNadr) .5
 
   -- which is a sound node with its memories
-  pub call-sound : StateRule (requestOf request st o .after)
-  call-sound = subst StateRule (ap (λ (x : Outcome). x .after) request-did ∙ sym call-leaves) (carry-sound (itemOf request) st k)
+  pub call-sound : StateRule (handleRequest request st o .after)
+  call-sound = subst StateRule (ap (λ (x : Outcome). x .after) request-did ∙ sym call-leaves) (execute-sound (itemOf request) st k)
 
   -- no entry has an error: the call succeeds
   pub call-succeeds : All (λ (e : ℕ). e ≡ 0) es → Success pcmd a (st .node .settings) request st o
   call-succeeds none =
       let is = left-by (st .node .settings) (itemOf request) end es o (eqb a broadcastNadr) in
       record {
-        refusal = ap (λ (c : Called). c .refusal) call-as ∙ is .0;
+        refusal = ap (λ (c : CallResult). c .refusal) call-as ∙ is .0;
         error = ap (λ (x : Outcome). x .error) request-did;
         entries = subst (λ (x : Outcome). All (λ (e : ℕ). e ≡ 0) (x .entries)) (sym request-did) none;
-        length = ap (λ (c : Called). c .length) call-as ∙ is .1;
-        response = ap (λ (c : Called). c .response) call-as ∙ is .2;
-        report = ap (λ (c : Called). c .report) call-as ∙ is .3;
-        addressed = ap (λ (c : Called). c .addressed) call-as ∙ is .4;
+        length = ap (λ (c : CallResult). c .length) call-as ∙ is .1;
+        response = ap (λ (c : CallResult). c .response) call-as ∙ is .2;
+        report = ap (λ (c : CallResult). c .report) call-as ∙ is .3;
+        addressed = ap (λ (c : CallResult). c .addressed) call-as ∙ is .4;
       }

@@ -5,19 +5,19 @@ use borrow.Author.Tests.{le-ltb}
 use Rattle.lights.specs.Bits.{bits, bitmap}
 use Rattle.lights.specs.Lamp.{actualLevel}
 use Rattle.lights.specs.Lights.{powerOk, timeOk, secondsOf, lampAfter, lampsAfter, levelsBefore, changeLamps, lightsRequest}
-use Rattle.checksum.specs.Sums.{around, addByte, sums}
-use Rattle.batch.specs.Batch.{entryBytes, entriesBytes, nextOf, readFrom, runItems, errorsOf}
-use Rattle.timing.specs.Slot.{baseOf, extraOf, slotOf, wayOf, earliestOf, sendOf}
-use Rattle.handler.specs.Request.{perform, forNode, entryOf, batchOf, osOf, carryOut}
+use Rattle.checksum.specs.Sums.{addWithCarry, addByte, sums}
+use Rattle.batch.specs.Batch.{entryBytes, entriesBytes, nextEntry, readFrom, runItems, errorsOf}
+use Rattle.timing.specs.Slot.{baseSlot, networkExtra, slotOf, directionTime, earliestOf, sendOf}
+use Rattle.handler.specs.Request.{perform, hwpidMatches, executeEntry, batchRequest, osRequest, execute}
 use Rattle.book.specs.Book.{chained, bookOk, sceneOf}
 use Rattle.book.specs.Step.{stepTimeOk, lampFault, byteFault, stepFault}
 use Rattle.book.specs.Entry.{powerBytes, entryData, pnumOf, pcmdOf}
 use Rattle.book.specs.Join.{follows}
-use Rattle.scene.specs.Call.{outputRoom, addressOk, compileScene, compileOf}
+use Rattle.scene.specs.Call.{minOutput, addressOk, compileScene, compileOf}
 use Rattle.acceptance.specs.Examples.{WorkedExamples, OwnExamples}
 
 pub worked-examples : WorkedExamples
-unfolding bits bitmap actualLevel powerOk timeOk secondsOf lampAfter lampsAfter levelsBefore changeLamps lightsRequest around addByte sums nextOf readFrom baseOf extraOf slotOf wayOf earliestOf sendOf perform forNode batchOf osOf carryOut entryBytes entriesBytes chained bookOk sceneOf stepTimeOk lampFault byteFault stepFault powerBytes entryData pnumOf pcmdOf follows addressOk compileScene compileOf
+unfolding bits bitmap actualLevel powerOk timeOk secondsOf lampAfter lampsAfter levelsBefore changeLamps lightsRequest addWithCarry addByte sums nextEntry readFrom baseSlot networkExtra slotOf directionTime earliestOf sendOf perform hwpidMatches batchRequest osRequest execute entryBytes entriesBytes chained bookOk sceneOf stepTimeOk lampFault byteFault stepFault powerBytes entryData pnumOf pcmdOf follows addressOk compileScene compileOf
 worked-examples =
     record {
       set-answers = refl;
@@ -36,11 +36,11 @@ worked-examples =
       batch-00 = refl;
       batch-04-00 = refl;
       wait-340 = refl;
-      book-compiles = λ out room. rw (le-ltb (length out) outputRoom room);
+      book-compiles = λ out room. rw (le-ltb (length out) minOutput room);
     }
 
 pub own-examples : OwnExamples
-unfolding bits bitmap actualLevel powerOk timeOk secondsOf lampAfter lampsAfter levelsBefore changeLamps lightsRequest nextOf readFrom runItems errorsOf perform forNode entryOf batchOf osOf carryOut
+unfolding bits bitmap actualLevel powerOk timeOk secondsOf lampAfter lampsAfter levelsBefore changeLamps lightsRequest nextEntry readFrom runItems errorsOf perform hwpidMatches executeEntry batchRequest osRequest execute
 own-examples =
     record {
       entry-errors = refl;

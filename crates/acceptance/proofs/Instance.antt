@@ -22,7 +22,7 @@ use Rattle.book.specs.Machine.{wellFormed, machineLevel, machineSeconds, machin
 use Rattle.book.specs.Entry.{powerBytes, entryData, pnumOf, pcmdOf}
 use Rattle.book.specs.Join.{follows, entryLimit}
 use Rattle.scene.specs.Compile.{listLimit, batchesOf, compiled}
-use Rattle.scene.specs.Call.{outputRoom, requestsIn, compileOf}
+use Rattle.scene.specs.Call.{minOutput, requestsIn, compileOf}
 use Rattle.acceptance.specs.SceneTheorem.{Addressable, SceneRule, Given, DoneAsSteps, afterCalls}
 use Rattle.acceptance.proofs.Refusals.{compile-refusals}
 use Rattle.acceptance.proofs.Scenes.{condition-3}
@@ -80,10 +80,10 @@ faultless =
 
 -- an output buffer that held other bytes; both compile calls are accepted
 abbrev out : List ℕ
-out = replicate outputRoom 0xCC
+out = replicate minOutput 0xCC
 
 accepted : (a h : ℕ) → Addressable a → compileOf book 1 a h out .refusal ≡ 0
-accepted a h ad = compile-refusals book 1 a h out .none .1 (ad, faultless, omega (arith, length-replicate {A = ℕ} outputRoom 0xCC))
+accepted a h ad = compile-refusals book 1 a h out .none .1 (ad, faultless, omega (arith, length-replicate {A = ℕ} minOutput 0xCC))
 
 -- it compiles to two requests, of five entries and of one
 pub two-requests : length (compiled 7 0x2471 (sceneOf book 1)) ≡ 2

@@ -11,7 +11,7 @@ use lib.Pow.{pow-mono}
 use borrow.Author.Tests.{lt-ltb, le-ltb, ltb-true, ltb-false, eqb-true, eqb-false, le-leb, ne-eqb}
 use Rattle.dpa.specs.Number.{low, high}
 use Rattle.dpa.specs.Lists.{Bytes}
-use Rattle.dpa.specs.Served.{served, within}
+use Rattle.dpa.specs.Reply.{reply, mapState}
 use Rattle.dpa.specs.declared.settings.Settings.{Settings}
 use Rattle.dpa.proofs.Bool.{by-test}
 use Rattle.lights.specs.Bits.{bits, count, bitmap}
@@ -21,9 +21,9 @@ use Rattle.lights.proofs.Bits.{bits-mask}
 use Rattle.lights.specs.declared.apply.Command.{Command}
 use Rattle.lights.specs.declared.apply.Command.the-variants.{Set, Raise, Lower}
 use Rattle.lights.specs.declared.lamp.Lamp.{Lamp}
-use Rattle.lights.specs.declared.entry.Change.{Change}
+use Rattle.lights.specs.declared.entry.LampChange.{LampChange}
 use Rattle.node.specs.Node.{withLamps}
-use Rattle.handler.specs.Request.{State, nodeIs, perform}
+use Rattle.handler.specs.Request.{State, withNode, perform}
 use Rattle.handler.proofs.Performing.{perform-lights}
 use Rattle.book.specs.declared.step.Step.{Step}
 use Rattle.book.specs.Step.{stepTimeOk}
@@ -101,7 +101,7 @@ module _ {A : Type 0} (target : A → ℕ) where
   pub mask-max : (ss : List A) → Ascending 0 ss → maskFrom 0 ss < 2 ^ 32
   mask-max ss a = omega (arith, mask-room ss 0 a (omega arith))
 
-  module _ (change : A → Change) (c : Command) where
+  module _ (change : A → LampChange) (c : Command) where
     -- lamp `target s - i` of n implemented ones takes its entry
     abbrev pub taken : ℕ → ℕ → A → List Lamp → List Lamp
     taken n i s ls =
@@ -173,14 +173,14 @@ bitmap-bytes m a b d e rest p q r s w =
     sym (bits-mask (a ∷ b ∷ d ∷ e ∷ []) (four-bytes a b d e p q r s)) ∙ ap (bits 32) (sym w)
 
 -- a level without a time, in front of entries that are all valid
-pub entry-level : (n v : ℕ) (xs : List ℕ) (es : List Change) → v ≤ 100 → entries n xs ≡ good es → entries (suc n) (v ∷ xs) ≡ good (change v 0 ∷ es)
+pub entry-level : (n v : ℕ) (xs : List ℕ) (es : List LampChange) → v ≤ 100 → entries n xs ≡ good es → entries (suc n) (v ∷ xs) ≡ good (change v 0 ∷ es)
 unfolding powerOk
 entry-level n v xs es h e =
     let q : v % 128 ≡ v = omega arith in
     rw (q, le-leb v 100 h, lt-ltb v 128 (omega arith), e)
 
 -- a level with a time
-pub entry-timed : (n v t : ℕ) (xs : List ℕ) (es : List Change) → v ≤ 100 → timeOk t ≡ true → entries n xs ≡ good es
+pub entry-timed : (n v t : ℕ) (xs : List ℕ) (es : List LampChange) → v ≤ 100 → timeOk t ≡ true → entries n xs ≡ good es
     → entries (suc n) ((v + 128) ∷ t ∷ xs) ≡ good (change v (secondsOf t) ∷ es)
 unfolding powerOk
 entry-timed n v t xs es h k e =
@@ -198,7 +198,7 @@ abbrev targetOf : Step → ℕ
 targetOf s = s .target
 
 -- the entry of a step
-abbrev changeOf : Step → Change
+abbrev changeOf : Step → LampChange
 changeOf s = change (s .value) (secondsOf (s .time))
 
 -- the command of a lamp kind
@@ -232,14 +232,14 @@ module _ (k : ℕ) (lamp : k < 3) where
       rw (e, machine-level k (l .level) (s .value) lamp, machine-seconds, ne-eqb (s .value) 127 (omega (arith, parts s g e .value-max)))
 
   machine-lamp-step : (s : Step) (st : State) → Good s → s .kind ≡ k
-      → machineStep s st ≡ nodeIs st (withLamps (st .node) (taken targetOf changeOf (commandOf k) (st .node .settings .«lamp_count») 0 s (st .node .lamps)))
+      → machineStep s st ≡ withNode st (withLamps (st .node) (taken targetOf changeOf (commandOf k) (st .node .settings .«lamp_count») 0 s (st .node .lamps)))
   unfolding machineStep machineEffect machineLamps
   machine-lamp-step s st g e =
       rw (good-formed s .0 g, machine-lamp s (getD (st .node .lamps) (s .target) off) g e, e, lt-ltb k 3 lamp, sub-zero (s .target))
 
   -- the step machine over such steps
   pub machine-lamp-run : (i : ℕ) (ss : List Step) (st : State) → LampRun k i ss
-      → machine ss st ≡ nodeIs st (withLamps (st .node) (inTurn targetOf changeOf (commandOf k) (st .node .settings .«lamp_count») 0 ss (st .node .lamps)))
+      → machine ss st ≡ withNode st (withLamps (st .node) (inTurn targetOf changeOf (commandOf k) (st .node .settings .«lamp_count») 0 ss (st .node .lamps)))
   machine-lamp-run i [] st r = refl
   machine-lamp-run i (s ∷ ss) st r = rw (machine-lamp-step s st (r .0) (r .1)) (machine-lamp-run (suc (s .target)) ss _ (r .3))
 
@@ -284,14 +284,14 @@ module _ (k : ℕ) (lamp : k < 3) where
 
   entry-lights : (d : List ℕ) (st : State)
       → perform (pnumOf k) (pcmdOf k) d st
-      ≡ within (nodeIs st) (within (withLamps (st .node)) (changeLamps (st .node .settings) (commandOf k) d (st .node .lamps)))
+      ≡ mapState (withNode st) (mapState (withLamps (st .node)) (changeLamps (st .node .settings) (commandOf k) d (st .node .lamps)))
   unfolding pnumOf pcmdOf
   entry-lights d st = rw (lt-ltb k 3 lamp) (perform-lights 0x71 k d st refl ∙ rw (request-command (st .node .settings) d (st .node .lamps)))
 
   -- the request of such steps
   request-run : (s : Settings) (ss : List Step) (ls : List Lamp) → length ls ≡ 32 → LampRun k 0 ss
       → changeLamps s (commandOf k) (fourBytes (bitmapOf ss) ++ powersBytes ss) ls
-      ≡ served (inTurn targetOf changeOf (commandOf k) (s .«lamp_count») 0 ss ls) 0 (levelsBefore s (s .«lamp_count») (bits 32 (maskFrom targetOf 0 ss)) ls)
+      ≡ reply (inTurn targetOf changeOf (commandOf k) (s .«lamp_count») 0 ss ls) 0 (levelsBefore s (s .«lamp_count») (bits 32 (maskFrom targetOf 0 ss)) ls)
   unfolding changeLamps
   request-run s ss ls full r =
       let a = run-ascends 0 ss r in
@@ -306,7 +306,7 @@ module _ (k : ℕ) (lamp : k < 3) where
   -- an entry of such steps: no error, and the step machine's state
   pub entry-lamp-run : (ss : List Step) (st : State) → length (st .node .lamps) ≡ 32 → LampRun k 0 ss
       → perform (pnumOf k) (pcmdOf k) (fourBytes (bitmapOf ss) ++ powersBytes ss) st
-      ≡ served (machine ss st) 0 (levelsBefore (st .node .settings) (st .node .settings .«lamp_count») (bits 32 (maskFrom targetOf 0 ss)) (st .node .lamps))
+      ≡ reply (machine ss st) 0 (levelsBefore (st .node .settings) (st .node .settings .«lamp_count») (bits 32 (maskFrom targetOf 0 ss)) (st .node .lamps))
   entry-lamp-run ss st full r =
       entry-lights (fourBytes (bitmapOf ss) ++ powersBytes ss) st
       ∙ rw (request-run (st .node .settings) ss (st .node .lamps) full r, machine-lamp-run 0 ss st r)

@@ -5,9 +5,9 @@ use Prim.Native.Nat.{ℕ, suc, _+_, _≤_, _<_}
 use native.Mathlib.Omega.{arith}
 use lib.ListN.{length, set}
 use lib.Seq.{sets}
-use Rattle.dpa.specs.Served.{served}
+use Rattle.dpa.specs.Reply.{reply}
 use Rattle.memory.specs.declared.block.Memory.{Memory}
-use Rattle.memory.specs.declared.block.Memory.the-variants.{Eeprom, Ram, External}
+use Rattle.memory.specs.declared.block.Memory.the-variants.{Eeprom, Ram}
 use Rattle.memory.specs.Block.{sizeOf, longestOf, addressBytes, writeCommand}
 use Rattle.memory.proofs.Blocks.{Fits}
 use Rattle.memory.proofs.Puts.{put-sets}
@@ -79,7 +79,7 @@ module _ (k : ℕ) (m : Memory) (w : Writes k m) where
   -- an entry of such steps
   pub entry-byte-run : (i : ℕ) (s : Step) (ss : List Step) (st : State)
       → length (memoryOf m st) ≡ sizeOf m → length (values (s ∷ ss)) ≤ 55 → ByteRun k i (s ∷ ss)
-      → perform (pnumOf k) (pcmdOf k) (i ∷ values (s ∷ ss)) st ≡ served (machine (s ∷ ss) st) 0 []
+      → perform (pnumOf k) (pcmdOf k) (i ∷ values (s ∷ ss)) st ≡ reply (machine (s ∷ ss) st) 0 []
   entry-byte-run i s ss st size short r =
       let d = values (s ∷ ss) in
       let start : i < sizeOf m = omega (arith, r .2, w .place s (r .0) (r .1)) in

@@ -1,6 +1,6 @@
 -- What the compile call refuses: its answer in each case, and that each number is given for its fault alone.
-use mathlib.Core.Path.{_≡_, refl, sym, ap, subst, _∙_}
-use mathlib.Core.Logic.{_⊎_, inl, inr, _↔_}
+use mathlib.Core.Path.{_≡_, refl, ap, subst, _∙_}
+use mathlib.Core.Logic.{inl, inr, _↔_}
 use mathlib.Core.Bool.{true, false, not, or-true}
 use mathlib.Core.List.{List, [], _∷_, _++_}
 use mathlib.Core.Option.{Option, none, some}
@@ -12,14 +12,14 @@ use borrow.Author.Tests.{eq-eqb, ne-eqb, eqb-true, eqb-false, le-leb, lt-leb, le
 use Rattle.dpa.specs.Frame.{broadcastNadr}
 use Rattle.dpa.specs.Settings.{lastAddress, nodeAddress}
 use Rattle.dpa.proofs.Bool.{and-left, and-right, by-cond, by-test}
-use Rattle.batch.specs.Batch.{All}
+use Rattle.dpa.specs.Lists.{All}
 use Rattle.book.specs.declared.step.Step.{Step}
 use Rattle.book.specs.Book.{countOf, bookOk, sceneOf}
-use Rattle.book.specs.Step.{stepFault, goodStep, badFrom}
-use Rattle.book.proofs.Groups.{all-weaken}
+use Rattle.book.specs.Step.{stepFault, goodStep, firstBadFrom}
+use Rattle.dpa.proofs.All.{all-weaken}
 use Rattle.book.proofs.Faults.{Good, no-bad}
 use Rattle.scene.specs.Compile.{compiled}
-use Rattle.scene.specs.Call.{CompileResult, output, outputRoom, refusedAt, written, addressOk, compileSteps, compileScene, compileOf}
+use Rattle.scene.specs.Call.{CompileResult, output, minOutput, refusedAt, written, addressOk, compileSteps, compileScene, compileOf}
 use Rattle.scene.proofs.Outputs.{Faultless, written-whole, compile-refused}
 use Rattle.acceptance.specs.SceneTheorem.{Addressable, NoFault, SceneRule, FirstBad, Refusals}
 
@@ -48,7 +48,7 @@ pub good-no-fault : (ss : List Step) → All Good ss → All NoFault ss
 good-no-fault ss = all-weaken Good NoFault (λ s g. eqb-true (stepFault s) 0 g) ss
 
 -- the number that the test of the steps finds is the first bad one's, counted from i
-found-first : (i : ℕ) (ss : List Step) (j : ℕ) → badFrom i ss ≡ some j → (i ≤ j) × FirstBad ss (j - i)
+found-first : (i : ℕ) (ss : List Step) (j : ℕ) → firstBadFrom i ss ≡ some j → (i ≤ j) × FirstBad ss (j - i)
 found-first i [] j e = absurd (let z : _≡_ {A = ℕ} 0 1 = cc in omega arith)
 found-first i (s ∷ ss) j e =
     by-test (goodStep s)
@@ -80,17 +80,17 @@ found-first i (s ∷ ss) j e =
 
 -- and the first bad one's number is found
 first-found : (i : ℕ) (earlier : List Step) (bad : Step) (later : List Step) → All NoFault earlier → ¬ NoFault bad
-    → badFrom i (earlier ++ (bad ∷ later)) ≡ some (i + length earlier)
+    → firstBadFrom i (earlier ++ (bad ∷ later)) ≡ some (i + length earlier)
 first-found i [] bad later a f = rw (ne-eqb (stepFault bad) 0 f) (ap some (let z : i ≡ i + 0 = omega arith in z))
 first-found i (s ∷ ss) bad later a f =
     rw (eq-eqb (stepFault s) 0 (a .0))
     (first-found (suc i) ss bad later (a .1) f ∙ ap some (let z : suc i + length ss ≡ i + suc (length ss) = omega arith in z))
 
 -- the call finds step j exactly where it is the first bad one
-pub first-bad : (ss : List Step) (j : ℕ) → (badFrom 0 ss ≡ some j) ↔ FirstBad ss j
-first-bad ss j = (
+pub first-bad-step : (ss : List Step) (j : ℕ) → (firstBadFrom 0 ss ≡ some j) ↔ FirstBad ss j
+first-bad-step ss j = (
   λ e. subst (FirstBad ss) (let z : j - 0 ≡ j = omega arith in z) (found-first 0 ss j e .1),
-  λ f. ap (badFrom 0) (f .order) ∙ first-found 0 (f .earlier) (f .bad) (f .later) (f .no-fault) (f .fault) ∙ ap some (let z : 0 + length (f .earlier) ≡ j = omega (arith, f .number) in z),
+  λ f. ap (firstBadFrom 0) (f .order) ∙ first-found 0 (f .earlier) (f .bad) (f .later) (f .no-fault) (f .fault) ∙ ap some (let z : 0 + length (f .earlier) ≡ j = omega (arith, f .number) in z),
 )
 
 -- a scene without a fault, by the call's tests
@@ -116,10 +116,10 @@ module _ (b : List ℕ) (k a h : ℕ) (out : List ℕ) where
   BadStep j = Addressable a × (bookOk b ≡ true) × (k < countOf b) × FirstBad (sceneOf b k) j
 
   abbrev NoRoom : Type 0
-  NoRoom = Addressable a × SceneRule b k × (length out < outputRoom)
+  NoRoom = Addressable a × SceneRule b k × (length out < minOutput)
 
   abbrev Accepted : Type 0
-  Accepted = Addressable a × SceneRule b k × (outputRoom ≤ length out)
+  Accepted = Addressable a × SceneRule b k × (minOutput ≤ length out)
 
   -- what each fault is answered with
   address-answer : ¬ Addressable a → compileOf b k a h out ≡ refusedAt 1 0 out
@@ -136,13 +136,13 @@ module _ (b : List ℕ) (k a h : ℕ) (out : List ℕ) where
 
   step-answer : (j : ℕ) → BadStep j → compileOf b k a h out ≡ refusedAt 8 j out
   unfolding compileOf compileScene
-  step-answer j f = rw (addressable a .0 (f .0), f .1, lt-leb (countOf b) k (f .2), first-bad (sceneOf b k) j .1 (f .3))
+  step-answer j f = rw (addressable a .0 (f .0), f .1, lt-leb (countOf b) k (f .2), first-bad-step (sceneOf b k) j .1 (f .3))
 
   room-answer : NoRoom → compileOf b k a h out ≡ refusedAt 9 0 out
   unfolding compileOf compileScene
   room-answer f =
       let w = rule-faultless b k (f .1) in
-      rw (addressable a .0 (f .0), w .book, lt-leb (countOf b) k (w .number), w .steps, lt-ltb (length out) outputRoom (f .2))
+      rw (addressable a .0 (f .0), w .book, lt-leb (countOf b) k (w .number), w .steps, lt-ltb (length out) minOutput (f .2))
 
   -- without a fault the call writes the output
   pub accepted-answer : Accepted → compileOf b k a h out ≡ written (output (compiled a h (sceneOf b k))) out
@@ -156,13 +156,13 @@ module _ (b : List ℕ) (k a h : ℕ) (out : List ℕ) where
       (bad-step : (j : ℕ) → BadStep j → P (refusedAt 8 j out))
       (no-room : NoRoom → P (refusedAt 9 0 out))
       (accepted : Accepted → P (written (output (compiled a h (sceneOf b k))) out)) where
-    steps-cases : Addressable a → bookOk b ≡ true → k < countOf b → (o : Option ℕ) → badFrom 0 (sceneOf b k) ≡ o
+    steps-cases : Addressable a → bookOk b ≡ true → k < countOf b → (o : Option ℕ) → firstBadFrom 0 (sceneOf b k) ≡ o
         → P (compileSteps o (compiled a h (sceneOf b k)) out)
-    steps-cases ad ok below (some j) e = bad-step j (ad, ok, below, first-bad (sceneOf b k) j .0 e)
+    steps-cases ad ok below (some j) e = bad-step j (ad, ok, below, first-bad-step (sceneOf b k) j .0 e)
     steps-cases ad ok below none e =
         let r : SceneRule b k =
         record { well-formed = ok; known = below; no-fault = good-no-fault (sceneOf b k) (no-bad (sceneOf b k) .0 e) } in
-        by-cond P (ltb (length out) outputRoom) _ _ (λ t. no-room (ad, r, ltb-true _ _ t)) (λ t. accepted (ad, r, ltb-false _ _ t))
+        by-cond P (ltb (length out) minOutput) _ _ (λ t. no-room (ad, r, ltb-true _ _ t)) (λ t. accepted (ad, r, ltb-false _ _ t))
 
     pub compile-cases : P (compileOf b k a h out)
     unfolding compileOf compileScene
@@ -173,7 +173,7 @@ module _ (b : List ℕ) (k a h : ℕ) (out : List ℕ) where
         by-cond P (not (bookOk b)) _ _ (λ u. ill-formed (ad, not-true (bookOk b) u))
         (λ u. let ok = not-false (bookOk b) u in
         by-cond P (leb (countOf b) k) _ _ (λ v. unknown (ad, ok, leb-true _ _ v))
-        (λ v. steps-cases ad ok (leb-false _ _ v) (badFrom 0 (sceneOf b k)) refl)))
+        (λ v. steps-cases ad ok (leb-false _ _ v) (firstBadFrom 0 (sceneOf b k)) refl)))
 
   abbrev numberOf : CompileResult → ℕ
   numberOf r = r .refusal

@@ -12,7 +12,7 @@ use Rattle.dpa.proofs.Bool.{by-cond}
 use Rattle.memory.specs.declared.block.Memory.the-variants.{Eeprom, External}
 use Rattle.memory.specs.Block.{sizeOf}
 use Rattle.node.specs.Node.{nodeOk}
-use Rattle.handler.specs.Request.{State, StateRule, requestOf}
+use Rattle.handler.specs.Request.{State, StateRule, handleRequest}
 use Rattle.handler.proofs.Soundness.{request-rule}
 use Rattle.book.specs.Book.{sceneOf}
 use Rattle.book.specs.Machine.{machine}
@@ -90,7 +90,7 @@ module _ (book : List ℕ) (k : ℕ) (st : State) (out : List ℕ) where
 calls-rule : (buffers : ℕ → List ℕ) (rs : List (List ℕ)) (st : State) → StateRule st → StateRule (afterCalls buffers rs st)
 calls-rule buffers [] st r = r
 calls-rule buffers (f ∷ fs) st r =
-    calls-rule (λ i. buffers (suc i)) fs (requestOf f st (buffers 0) .after) (request-rule f st (buffers 0) r)
+    calls-rule (λ i. buffers (suc i)) fs (handleRequest f st (buffers 0) .after) (request-rule f st (buffers 0) r)
 
 module _ (book : List ℕ) (k : ℕ) (st : State) (out : List ℕ) where
   abbrev Unrun : Ran → Type 0

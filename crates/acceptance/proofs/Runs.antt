@@ -8,12 +8,12 @@ use lib.Dec.{ltb, eqb}
 use lib.ListN.{length}
 use borrow.Author.Tests.{lt-ltb, le-ltb, ltb-true, ltb-false, eqb-true, eqb-false}
 use Rattle.dpa.specs.Frame.{pdataMax}
-use Rattle.dpa.specs.Served.{Served}
+use Rattle.dpa.specs.Reply.{Reply}
 use Rattle.dpa.proofs.Bool.{by-test, and-left, and-right}
 use Rattle.memory.specs.declared.block.Memory.{Memory}
 use Rattle.memory.specs.declared.block.Memory.the-variants.{Eeprom, Ram}
 use Rattle.memory.specs.Block.{sizeOf}
-use Rattle.handler.specs.Request.{State, StateRule, memoryOf, forNode, perform, entryOf}
+use Rattle.handler.specs.Request.{State, StateRule, memoryOf, hwpidMatches, perform, executeEntry}
 use Rattle.node.proofs.Nodes.{node-lamps, node-ram}
 use Rattle.handler.proofs.Entering.{entry-mine}
 use Rattle.book.specs.declared.step.Step.{Step}
@@ -45,11 +45,11 @@ byte-run k h p (s ∷ ss) e l =
     (l .0, same, next, rw next at (byte-run k h s ss same (l .2)))
 
 -- no error, and this state
-abbrev Leaves : State → Served State → Type 0
+abbrev Leaves : State → Reply State → Type 0
 Leaves st a = (a .error ≡ 0) × (a .after ≡ st)
 
 module _ (most : ℕ) (limit : most ≤ pdataMax) (s : Step) (ss : List Step) (st : State) (r : Run most (s ∷ ss)) where
-  abbrev done : Served State
+  abbrev done : Reply State
   done = perform (pnumOf (s .kind)) (pcmdOf (s .kind)) (entryData s ss) st
 
   lamps-perform : s .kind < 3 → StateRule st → Leaves (machine (s ∷ ss) st) done
@@ -77,10 +77,10 @@ module _ (most : ℕ) (limit : most ≤ pdataMax) (s : Step) (ss : List Step) (s
 
 -- an entry that joining makes, for a profile that the node takes: no error, and the state of its steps done singly
 pub run-performs : {entryMost listMost : ℕ} {front : List ℕ} → Limits entryMost listMost front → (h : ℕ) (run : List Step) (st : State)
-    → Run entryMost run → StateRule st → forNode (st .node .settings) h ≡ true
-    → (entryOf (joinedItem h run) st .error ≡ 0) × (entryOf (joinedItem h run) st .after ≡ machine run st)
+    → Run entryMost run → StateRule st → hwpidMatches (st .node .settings) h ≡ true
+    → (executeEntry (joinedItem h run) st .error ≡ 0) × (executeEntry (joinedItem h run) st .after ≡ machine run st)
 run-performs limits h [] st r k f = absurd r
 run-performs {entryMost} limits h (s ∷ ss) st r k f =
     let e = entry-mine (joinedItem h (s ∷ ss)) st f in
     let d = kinds-perform entryMost (omega (arith, limits .list, limits .frame)) s ss st r k in
-    (ap (λ (a : Served State). a .error) e ∙ d .0, ap (λ (a : Served State). a .after) e ∙ d .1)
+    (ap (λ (a : Reply State). a .error) e ∙ d .0, ap (λ (a : Reply State). a .after) e ∙ d .1)

@@ -10,10 +10,9 @@ use Rattle.dpa.specs.Frame.{anyHwpid}
 use Rattle.dpa.specs.Pnum.{osPnum}
 use Rattle.dpa.specs.declared.settings.Settings.{Settings}
 use Rattle.batch.specs.Batch.{item, listBytes}
-use Rattle.handler.specs.Request.{State, forNode, batchOf, carryOut}
-use Rattle.handler.proofs.Carrying.{carry-os, os-batch}
+use Rattle.handler.specs.Request.{State, hwpidMatches, batchRequest, execute}
+use Rattle.handler.proofs.Executing.{execute-os, os-batch}
 use Rattle.book.specs.Book.{sceneOf}
-use Rattle.scene.specs.Call.{requestsIn, compileOf}
 use Rattle.scene.proofs.Lists.{limits}
 use Rattle.scene.proofs.Outputs.{buffer-back}
 use Rattle.acceptance.specs.SceneTheorem.{DoneAsSteps, SceneTheorem, BufferTheorem, Condition3}
@@ -22,14 +21,14 @@ use Rattle.acceptance.proofs.Sessions.{steps-done}
 use Rattle.acceptance.proofs.Refusals.{addressable, no-fault-good, rule-faultless, compile-refusals}
 
 -- a node takes its own profile and the one for all
-own-profile : (s : Settings) (h : ℕ) → (h ≡ s .hwpid) ⊎ (h ≡ anyHwpid) → forNode s h ≡ true
-unfolding forNode
+own-profile : (s : Settings) (h : ℕ) → (h ≡ s .hwpid) ⊎ (h ≡ anyHwpid) → hwpidMatches s h ≡ true
+unfolding hwpidMatches
 own-profile s h (inl e) = rw (eq-eqb h (s .hwpid) e)
 own-profile s h (inr e) = rw (eq-eqb h anyHwpid e) (or-true (eqb h (s .hwpid)))
 
 -- OS 02, PCMD 05 is the list
-batch-carried : (h : ℕ) (d : List ℕ) (st : State) → forNode (st .node .settings) h ≡ true → carryOut (item osPnum 5 h d) st ≡ batchOf d st
-batch-carried h d st own = carry-os (item osPnum 5 h d) st own refl ∙ os-batch 5 d st refl
+batch-carried : (h : ℕ) (d : List ℕ) (st : State) → hwpidMatches (st .node .settings) h ≡ true → execute (item osPnum 5 h d) st ≡ batchRequest d st
+batch-carried h d st own = execute-os (item osPnum 5 h d) st own refl ∙ os-batch 5 d st refl
 
 -- the requests of the compiling rule
 pub scene-theorem : SceneTheorem
@@ -37,7 +36,7 @@ scene-theorem st buffers book scene a h g r =
     let s = st .node .settings in
     let own = own-profile s h (g .profile) in
     steps-done limits 0x05 a h s (g .address) own
-    (λ items t e. batch-carried h (listBytes items) t (ap (λ (n : Settings). forNode n h) e ∙ own))
+    (λ items t e. batch-carried h (listBytes items) t (ap (λ (n : Settings). hwpidMatches n h) e ∙ own))
     (run-performs limits h)
     (sceneOf book scene) buffers st (no-fault-good (sceneOf book scene) (r .no-fault)) (g .sound) refl (g .room)
 

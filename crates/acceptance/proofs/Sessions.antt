@@ -8,8 +8,9 @@ use lib.ListN.{length}
 use Rattle.dpa.specs.declared.settings.Settings.{Settings}
 use Rattle.dpa.specs.Frame.{longestResponse, broadcastNadr, frame}
 use Rattle.dpa.specs.Pnum.{osPnum}
-use Rattle.batch.specs.Batch.{Item, item, listBytes, All}
-use Rattle.handler.specs.Request.{State, StateRule, forNode, batchOf, carryOut, requestOf}
+use Rattle.batch.specs.Batch.{Item, item, listBytes}
+use Rattle.dpa.specs.Lists.{All}
+use Rattle.handler.specs.Request.{State, StateRule, hwpidMatches, batchRequest, execute, handleRequest}
 use Rattle.book.specs.declared.step.Step.{Step}
 use Rattle.book.specs.Group.{joined}
 use Rattle.book.specs.Machine.{machine}
@@ -27,22 +28,22 @@ use Rattle.acceptance.proofs.Calls.{call-leaves, call-sound, call-succe
 -- a call of a list of requests is as it is to be, leaves these steps done, and leaves a sound node
 pub record Done (pcmd a : ℕ) (s : Settings) (request : List ℕ) (steps : List Step) (st : State) (o : List ℕ) : Type 0 where
   pub success : Success pcmd a s request st o
-  pub after : requestOf request st o .after ≡ machine steps st
-  pub sound : StateRule (requestOf request st o .after)
+  pub after : handleRequest request st o .after ≡ machine steps st
+  pub sound : StateRule (handleRequest request st o .after)
 
 -- Two limits; a PCMD of OS 02 and bytes in front of a list of entries, which a node with settings s carries out as the list
 -- alone. Only lists that can be read are asked about.
 module _ {entryMost listMost : ℕ} {front : List ℕ} (limits : Limits entryMost listMost front) (pcmd a h : ℕ) (s : Settings)
-    (mine : (a ≡ s .address) ⊎ (a ≡ broadcastNadr)) (ours : forNode s h ≡ true)
+    (mine : (a ≡ s .address) ⊎ (a ≡ broadcastNadr)) (ours : hwpidMatches s h ≡ true)
     (carried : (items : List Item) (st : State) → st .node .settings ≡ s
-    → carryOut (item osPnum pcmd h (front ++ listBytes items)) st ≡ batchOf (listBytes items) st)
+    → execute (item osPnum pcmd h (front ++ listBytes items)) st ≡ batchRequest (listBytes items) st)
     (performs : AllPerform h (Run entryMost)) where
   -- a request of entries that joining and filling make
   pub request-done : (runs : List (List Step)) (st : State) (o : List ℕ) → Filling entryMost listMost h runs
       → StateRule st → st .node .settings ≡ s → longestResponse ≤ length o → Done pcmd a s (requestBytes pcmd front a h runs) (joined runs) st o
   request-done runs st o b k e room =
       let list = listBytes (joinedItems h runs) in
-      let own : forNode (st .node .settings) h ≡ true = ap (λ (n : Settings). forNode n h) e ∙ ours in
+      let own : hwpidMatches (st .node .settings) h ≡ true = ap (λ (n : Settings). hwpidMatches n h) e ∙ ours in
       let to : (a ≡ st .node .settings .address) ⊎ (a ≡ broadcastNadr) = subst (λ (n : Settings). (a ≡ n .address) ⊎ (a ≡ broadcastNadr)) (sym e) mine in
       let did = carried (joinedItems h runs) st e ∙ batch-performs h (Run entryMost) performs runs st (b .entries) k own in
       let short = filling-fits limits (frame a osPnum pcmd h) runs b .1 in
@@ -62,7 +63,7 @@ module _ {entryMost listMost : ℕ} {front : List ℕ} (limits : Limits entryMos
   requests-done [] buffers st b k e room = (tt, refl)
   requests-done (runs ∷ bs) buffers st b k e room =
       let first = request-done runs st (buffers 0) (b .0) k e (room 0) in
-      let next = requestOf (requestBytes pcmd front a h runs) st (buffers 0) .after in
+      let next = handleRequest (requestBytes pcmd front a h runs) st (buffers 0) .after in
       let same : next .node .settings ≡ s = ap (λ (t : State). t .node .settings) (first .after) ∙ machine-stays (joined runs) st .settings ∙ e in
       let rest = requests-done bs (λ j. buffers (suc j)) next (b .1) (first .sound) same (λ j. room (suc j)) in (
         (first .success, rest .0),

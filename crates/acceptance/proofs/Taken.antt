@@ -6,8 +6,8 @@ use native.Mathlib.Omega.{arith}
 use lib.ListN.{length, getD, take, drop, length-append, length-drop}
 use lib.Seq.{take-at, drop-at}
 use Rattle.dpa.proofs.Lists.{to-end}
-use Rattle.handler.specs.Request.{State, requestOf}
-use Rattle.scene.specs.Call.{cut, requestsIn, lengths, output}
+use Rattle.handler.specs.Request.{State, handleRequest}
+use Rattle.scene.specs.Call.{splitBy, requestsIn, lengths, output}
 use Rattle.book.specs.Group.{joined}
 use Rattle.scene.proofs.Outputs.{lengths-length}
 use Rattle.acceptance.specs.SceneTheorem.{afterCalls}
@@ -24,22 +24,22 @@ rest-covered [] bs z e h = absurd (z refl)
 rest-covered (m ∷ ns) bs {n} z e h = rw (to-end 1 (m ∷ ns), to-end n bs, length-drop) (omega arith)
 
 -- no length byte is left
-pub none-taken : (ns bs : List ℕ) (st : State) → length ns ≡ 0 → st ≡ afterCalls (λ _. cleared) (cut ns bs) st
+pub none-taken : (ns bs : List ℕ) (st : State) → length ns ≡ 0 → st ≡ afterCalls (λ _. cleared) (splitBy ns bs) st
 none-taken [] bs st z = refl
 none-taken (m ∷ ns) bs st z = absurd (omega arith)
 
 -- one request, and then the others from what it left
 pub one-taken : (ns bs : List ℕ) (st : State) {n : ℕ} {next last : State} → (length ns ≡ 0 → ⊥) → n ≡ getD ns 0 0
-    → next ≡ requestOf (take n bs) st cleared .after
-    → last ≡ afterCalls (λ _. cleared) (cut (take (length ns - 1) (drop 1 ns)) (take (length bs - n) (drop n bs))) next
-    → last ≡ afterCalls (λ _. cleared) (cut ns bs) st
+    → next ≡ handleRequest (take n bs) st cleared .after
+    → last ≡ afterCalls (λ _. cleared) (splitBy (take (length ns - 1) (drop 1 ns)) (take (length bs - n) (drop n bs))) next
+    → last ≡ afterCalls (λ _. cleared) (splitBy ns bs) st
 one-taken [] bs st z e p q = absurd (z refl)
 one-taken (m ∷ ns) bs st {n} {next} z e p q =
     q
-    ∙ ap (λ (l : List ℕ). afterCalls (λ _. cleared) (cut l (take (length bs - n) (drop n bs))) next) (to-end 1 (m ∷ ns))
-    ∙ ap (λ (l : List ℕ). afterCalls (λ _. cleared) (cut ns l) next) (to-end n bs)
-    ∙ ap (afterCalls (λ _. cleared) (cut ns (drop n bs))) p
-    ∙ ap (λ (k : ℕ). afterCalls (λ _. cleared) (cut ns (drop k bs)) (requestOf (take k bs) st cleared .after)) e
+    ∙ ap (λ (l : List ℕ). afterCalls (λ _. cleared) (splitBy l (take (length bs - n) (drop n bs))) next) (to-end 1 (m ∷ ns))
+    ∙ ap (λ (l : List ℕ). afterCalls (λ _. cleared) (splitBy ns l) next) (to-end n bs)
+    ∙ ap (afterCalls (λ _. cleared) (splitBy ns (drop n bs))) p
+    ∙ ap (λ (k : ℕ). afterCalls (λ _. cleared) (splitBy ns (drop k bs)) (handleRequest (take k bs) st cleared .after)) e
 
 -- the two parts of an output that the code hands on
 module _ (o : List ℕ) {n : ℕ} (e : n ≡ getD o 0 0) where
@@ -52,7 +52,7 @@ module _ (o : List ℕ) {n : ℕ} (e : n ≡ getD o 0 0) where
   pub parts-covered : Holds o → total (take (1 + n - 1) (drop 1 o)) ≤ length (take (length o - (1 + n)) (drop (1 + n) o))
   parts-covered h = rw (lengths-part, requests-part) (h .whole)
 
-  pub parts-requests : cut (take (1 + n - 1) (drop 1 o)) (take (length o - (1 + n)) (drop (1 + n) o)) ≡ requestsIn o
+  pub parts-requests : splitBy (take (1 + n - 1) (drop 1 o)) (take (length o - (1 + n)) (drop (1 + n) o)) ≡ requestsIn o
   unfolding requestsIn
   parts-requests = rw (lengths-part, requests-part)
 

@@ -16,18 +16,17 @@ use mathlib.Core.List.{List, [], _∷_, _++_}
 use lib.ListN.{length}
 use lib.Dec.{eqb}
 use Rattle.dpa.specs.declared.settings.Settings.{Settings}
-use Rattle.dpa.specs.Lists.{over}
+use Rattle.dpa.specs.Lists.{overwriteFront, All}
 use Rattle.dpa.specs.Frame.{responseHeaderSize, longestResponse, broadcastNadr, anyHwpid, responseHeader}
 use Rattle.dpa.specs.Pnum.{osPnum}
 use Rattle.dpa.specs.Settings.{lastAddress}
-use Rattle.batch.specs.Batch.{All}
-use Rattle.handler.specs.Request.{State, StateRule, itemOf, noReport, carryOut, requestOf}
+use Rattle.handler.specs.Request.{State, StateRule, itemOf, noReport, execute, handleRequest}
 use Rattle.book.specs.declared.step.Step.{Step}
 use Rattle.book.specs.Book.{countOf, bookOk, sceneOf}
 use Rattle.book.specs.Step.{stepFault}
 use Rattle.book.specs.Machine.{machine}
 use Rattle.scene.specs.Compile.{compiled}
-use Rattle.scene.specs.Call.{CompileResult, outputRoom, requestsIn, compileOf}
+use Rattle.scene.specs.Call.{CompileResult, minOutput, requestsIn, compileOf}
 
 -- ---- what compiling refuses
 
@@ -63,8 +62,8 @@ pub record Refusals (book : List ℕ) (scene a : ℕ) (out : List ℕ) (r : Comp
   pub unknown : (r .refusal ≡ 7) ↔ (Addressable a × (bookOk book ≡ true) × (countOf book ≤ scene))
   pub bad-step : (k : ℕ) → ((r .refusal ≡ 8) × (r .step ≡ k))
       ↔ (Addressable a × (bookOk book ≡ true) × (scene < countOf book) × FirstBad (sceneOf book scene) k)
-  pub no-room : (r .refusal ≡ 9) ↔ (Addressable a × SceneRule book scene × (length out < outputRoom))
-  pub none : (r .refusal ≡ 0) ↔ (Addressable a × SceneRule book scene × (outputRoom ≤ length out))
+  pub no-room : (r .refusal ≡ 9) ↔ (Addressable a × SceneRule book scene × (length out < minOutput))
+  pub none : (r .refusal ≡ 0) ↔ (Addressable a × SceneRule book scene × (minOutput ≤ length out))
   pub other-step : ¬ (r .refusal ≡ 8) → r .step ≡ 0
   pub unwritten : ¬ (r .refusal ≡ 0) → (r .length ≡ 0) × (r .buffer ≡ out)
 
@@ -82,28 +81,28 @@ pub record Given (st : State) (buffers : ℕ → List ℕ) (a h : ℕ) : Type 0 
 -- A request of OS 02 that a node with these settings takes, at address a, without an error in any part.
 pub record Success (pcmd a : ℕ) (s : Settings) (request : List ℕ) (st : State) (buffer : List ℕ) : Type 0 where
   -- the call's refusal
-  pub refusal : requestOf request st buffer .refusal ≡ 0
+  pub refusal : handleRequest request st buffer .refusal ≡ 0
   -- the ErrN of the request and of each entry in it, sent or not
-  pub error : carryOut (itemOf request) st .error ≡ 0
-  pub entries : All (λ (e : ℕ). e ≡ 0) (carryOut (itemOf request) st .entries)
+  pub error : execute (itemOf request) st .error ≡ 0
+  pub entries : All (λ (e : ℕ). e ≡ 0) (execute (itemOf request) st .entries)
   -- the answer: eight header bytes and the later bytes as they were, or at broadcast the buffer as it was
-  pub length : requestOf request st buffer .length ≡ cond (eqb a broadcastNadr) 0 responseHeaderSize
-  pub response : requestOf request st buffer .response ≡ cond (eqb a broadcastNadr) buffer (over (responseHeader s osPnum pcmd 0) buffer)
+  pub length : handleRequest request st buffer .length ≡ cond (eqb a broadcastNadr) 0 responseHeaderSize
+  pub response : handleRequest request st buffer .response ≡ cond (eqb a broadcastNadr) buffer (overwriteFront (responseHeader s osPnum pcmd 0) buffer)
   -- nothing is reported beside it, and the request counts as one for this node or for all
-  pub report : requestOf request st buffer .report ≡ noReport
-  pub addressed : requestOf request st buffer .addressed ≡ true
+  pub report : handleRequest request st buffer .report ≡ noReport
+  pub addressed : handleRequest request st buffer .addressed ≡ true
 
 -- Requests in order, each call from what the last one left, and the first with the first buffer.
 abbrev pub AllSucceed : ℕ → ℕ → Settings → (ℕ → List ℕ) → List (List ℕ) → State → Type 0
 AllSucceed pcmd a s buffers [] st = Unit
 AllSucceed pcmd a s buffers (r ∷ rs) st =
     Success pcmd a s r st (buffers 0)
-    × AllSucceed pcmd a s (λ k. buffers (suc k)) rs (requestOf r st (buffers 0) .after)
+    × AllSucceed pcmd a s (λ k. buffers (suc k)) rs (handleRequest r st (buffers 0) .after)
 
 -- The node and the memories after these calls.
 abbrev pub afterCalls : (ℕ → List ℕ) → List (List ℕ) → State → State
 afterCalls buffers [] st = st
-afterCalls buffers (r ∷ rs) st = afterCalls (λ k. buffers (suc k)) rs (requestOf r st (buffers 0) .after)
+afterCalls buffers (r ∷ rs) st = afterCalls (λ k. buffers (suc k)) rs (handleRequest r st (buffers 0) .after)
 
 -- The list of requests as a whole: every call succeeds, and node and memories end as those of the step machine.
 pub record DoneAsSteps (pcmd a : ℕ) (buffers : ℕ → List ℕ) (requests : List (List ℕ)) (steps : List Step) (st : State) : Type 0 where

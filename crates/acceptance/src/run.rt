@@ -11,8 +11,8 @@ use scene::compile::compile;
 ghost use mathlib.Core.Path.{_≡_};
 ghost use Prim.Native.Nat.{_≤_};
 ghost use lib.ListN.{length};
-ghost use Rattle.scene.specs.Call.{cut, requestsIn};
-ghost use Rattle.handler.specs.Request.{state, requestOf};
+ghost use Rattle.scene.specs.Call.{splitBy, requestsIn};
+ghost use Rattle.handler.specs.Request.{state, handleRequest};
 ghost use Rattle.acceptance.specs.SceneTheorem.{afterCalls};
 ghost use Rattle.acceptance.specs.RunScene.{cleared, total, Holds, runScene, ranAs};
 
@@ -27,7 +27,7 @@ pub struct SceneAnswer {
 // One request. Its answer goes to an array of its own.
 fn take_request(node: Node, frame: &[u8], eeprom: &mut [u8], external: &mut [u8]) -> Node
     ensures { λ r. ⌜ state r (now (eeprom .exit)) (now (external .exit))
-        ≡ requestOf (now (frame .entry)) (state node (now (eeprom .entry)) (now (external .entry))) cleared .after ⌝ }
+        ≡ handleRequest (now (frame .entry)) (state node (now (eeprom .entry)) (now (external .entry))) cleared .after ⌝ }
 {
     let mut response = [0u8; Frame::RESPONSE_LONGEST];
     let taken = handle_request(node, frame, eeprom, external, &mut response);
@@ -44,7 +44,7 @@ fn take_requests(
 ) -> Node
     requires { ⌜ total (now lengths) ≤ length (now requests) ⌝ }
     ensures { λ r. ⌜ state r (now (eeprom .exit)) (now (external .exit))
-        ≡ afterCalls (λ _. cleared) (cut (now (lengths .entry)) (now (requests .entry))) (state node (now (eeprom .entry)) (now (external .entry))) ⌝ }
+        ≡ afterCalls (λ _. cleared) (splitBy (now (lengths .entry)) (now (requests .entry))) (state node (now (eeprom .entry)) (now (external .entry))) ⌝ }
 {
     if lengths.len() == 0 {
         return node;

@@ -9,9 +9,9 @@ use lib.ListN.{length, getD}
 use lib.Dec.{ltb, eqb}
 use Rattle.dpa.specs.Number.{wordAt}
 use Rattle.dpa.proofs.Bool.{and-left, and-right, by-cond}
-use Rattle.batch.specs.declared.entry.Next.{Next}
-use Rattle.batch.specs.declared.entry.Next.the-variants.{Entry, Fault}
-use Rattle.batch.specs.Batch.{closing, shortReason, overReason, unclosedReason, trailingReason, nextOf, Blame, short, over, unclosed, trailing}
+use Rattle.batch.specs.declared.entry.NextEntry.{NextEntry}
+use Rattle.batch.specs.declared.entry.NextEntry.the-variants.{Entry, Fault}
+use Rattle.batch.specs.Batch.{closing, shortReason, pastEndReason, unclosedReason, trailingReason, nextEntry, FaultAt, short, pastEnd, unclosed, trailing}
 
 module _ (s : List ℕ) where
   -- one byte closes a list where it is zero
@@ -36,40 +36,40 @@ module _ (s : List ℕ) where
 
 -- the cases of `nextOf`
 
-pub next-none : (s : List ℕ) → length s ≡ 0 → nextOf s ≡ Fault unclosedReason 0
-unfolding nextOf
+pub next-none : (s : List ℕ) → length s ≡ 0 → nextEntry s ≡ Fault unclosedReason 0
+unfolding nextEntry
 next-none s h = simp (eq-eqb (length s) 0 h)
 
 module _ (s : List ℕ) (h : 0 < length s) where
-  pub next-trailing : getD s 0 0 ≡ 0 → nextOf s ≡ Fault trailingReason 1
-  unfolding nextOf
+  pub next-trailing : getD s 0 0 ≡ 0 → nextEntry s ≡ Fault trailingReason 1
+  unfolding nextEntry
   next-trailing z = simp (ne-eqb (length s) 0 (omega arith), eq-eqb (getD s 0 0) 0 z)
 
-  pub next-short : 0 < getD s 0 0 → getD s 0 0 < 5 → nextOf s ≡ Fault shortReason 0
-  unfolding nextOf
+  pub next-short : 0 < getD s 0 0 → getD s 0 0 < 5 → nextEntry s ≡ Fault shortReason 0
+  unfolding nextEntry
   next-short p z =
       simp (ne-eqb (length s) 0 (omega arith), ne-eqb (getD s 0 0) 0 (omega arith), lt-ltb (getD s 0 0) 5 z)
 
-  pub next-over : 5 ≤ getD s 0 0 → length s < getD s 0 0 → nextOf s ≡ Fault overReason 0
-  unfolding nextOf
+  pub next-over : 5 ≤ getD s 0 0 → length s < getD s 0 0 → nextEntry s ≡ Fault pastEndReason 0
+  unfolding nextEntry
   next-over p z =
       simp (ne-eqb (length s) 0 (omega arith), ne-eqb (getD s 0 0) 0 (omega arith), le-ltb (getD s 0 0) 5 p, lt-ltb (length s) (getD s 0 0) z)
 
 pub next-is : (s : List ℕ) → 5 ≤ getD s 0 0 → getD s 0 0 ≤ length s
-    → nextOf s ≡ Entry (getD s 0 0) (getD s 1 0) (getD s 2 0) (wordAt s 3)
-unfolding nextOf
+    → nextEntry s ≡ Entry (getD s 0 0) (getD s 1 0) (getD s 2 0) (wordAt s 3)
+unfolding nextEntry
 next-is s p z =
     simp (ne-eqb (length s) 0 (omega arith), ne-eqb (getD s 0 0) 0 (omega arith), le-ltb (getD s 0 0) 5 p, le-ltb (length s) (getD s 0 0) z)
 
 -- what each case says of the bytes; a fault is one where they do not close the list
-abbrev pub Means : List ℕ → Next → Type 0
+abbrev pub Means : List ℕ → NextEntry → Type 0
 Means s (Entry l p c h) =
     (5 ≤ l) × (l ≤ length s) × (l ≡ getD s 0 0) × (p ≡ getD s 1 0) × (c ≡ getD s 2 0) × (h ≡ wordAt s 3)
-Means s (Fault r a) = closing s ≡ false → Blame s r a
+Means s (Fault r a) = closing s ≡ false → FaultAt s r a
 
 module _ (s : List ℕ) where
-  pub next-means : Means s (nextOf s)
-  unfolding nextOf
+  pub next-means : Means s (nextEntry s)
+  unfolding nextEntry
   next-means =
       by-cond (Means s) (eqb (length s) 0) _ _ (λ n o. unclosed refl (omega (arith, eqb-true (length s) 0 n))) λ n.
       by-cond (Means s) (eqb (getD s 0 0) 0) _ _
@@ -81,17 +81,17 @@ module _ (s : List ℕ) where
       (λ p o. short refl (omega (arith, eqb-false (length s) 0 n)) (omega (arith, eqb-false (getD s 0 0) 0 z)) (ltb-true _ _ p))
       λ p.
       by-cond (Means s) (ltb (length s) (getD s 0 0)) _ _
-      (λ q o. over refl (omega (arith, eqb-false (length s) 0 n)) (ltb-false _ _ p) (omega (arith, ltb-true (length s) (getD s 0 0) q)))
+      (λ q o. pastEnd refl (omega (arith, eqb-false (length s) 0 n)) (ltb-false _ _ p) (omega (arith, ltb-true (length s) (getD s 0 0) q)))
       λ q.
       (ltb-false _ _ p, ltb-false _ _ q, refl, refl, refl, refl)
 
-  pub next-facts : {n : Next} → nextOf s ≡ n → Means s n
+  pub next-facts : {n : NextEntry} → nextEntry s ≡ n → Means s n
   next-facts e = subst (Means s) e next-means
 
   -- an entry has at least five bytes, and at most those that remain
-  pub entry-sized : {l p c h : ℕ} → nextOf s ≡ Entry l p c h → (5 ≤ l) × (l ≤ length s)
+  pub entry-sized : {l p c h : ℕ} → nextEntry s ≡ Entry l p c h → (5 ≤ l) × (l ≤ length s)
   entry-sized e = let z = next-facts e in (z .0, z .1)
 
   -- where an entry stands, the list is not closed
-  pub entry-open : {l p c h : ℕ} → nextOf s ≡ Entry l p c h → closing s ≡ false
+  pub entry-open : {l p c h : ℕ} → nextEntry s ≡ Entry l p c h → closing s ≡ false
   entry-open e = let z = entry-sized e in more-open s (omega arith)

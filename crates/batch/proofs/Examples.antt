@@ -1,23 +1,23 @@
 -- Lists read, with the reason and the place where they break; the ErrN are among the worked examples of acceptance.
 use mathlib.Core.Path.{_≡_, refl}
 use mathlib.Core.List.{[], _∷_}
-use Rattle.batch.specs.declared.list.Listed.the-variants.{Sound, Broken}
-use Rattle.batch.specs.Batch.{nextOf, readFrom, reading}
+use Rattle.batch.specs.declared.list.ListCheck.the-variants.{Sound, Broken}
+use Rattle.batch.specs.Batch.{nextEntry, readFrom, reading}
 
 -- `00` has no entries
-pub zero-alone : reading (0 ∷ []) ≡ record { items = []; listed = Sound }
-unfolding nextOf readFrom
+pub zero-alone : reading (0 ∷ []) ≡ record { items = []; check = Sound }
+unfolding nextEntry readFrom
 zero-alone = refl
 
 -- `04 00` has a length under five
-pub four-zero : (reading (4 ∷ 0 ∷ [])) .listed ≡ Broken 1 0
-unfolding nextOf readFrom
+pub four-zero : (reading (4 ∷ 0 ∷ [])) .check ≡ Broken 1 0
+unfolding nextEntry readFrom
 four-zero = refl
 
-pub zero-zero : (reading (0 ∷ 0 ∷ [])) .listed ≡ Broken 4 1
-unfolding nextOf readFrom
+pub zero-zero : (reading (0 ∷ 0 ∷ [])) .check ≡ Broken 4 1
+unfolding nextEntry readFrom
 zero-zero = refl
 
-pub no-bytes : (reading []) .listed ≡ Broken 3 0
+pub no-bytes : (reading []) .check ≡ Broken 3 0
 unfolding readFrom
 no-bytes = refl

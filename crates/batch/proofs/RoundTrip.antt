@@ -6,14 +6,14 @@ use native.Mathlib.Omega.{arith}
 use native.Mathlib.Nat.{add-sub-cancel-left}
 use lib.ListN.{length, getD, take, drop, length-append, length-take, length-drop, take-append-drop}
 use lib.Seq.{take-add, take-append-seam, drop-at, drop-drop, length-take-le}
-use Rattle.dpa.specs.Lists.{Bytes, part}
+use Rattle.dpa.specs.Lists.{Bytes, slice, All}
 use Rattle.dpa.specs.Number.{low, high}
 use Rattle.dpa.proofs.Numbers.{word-split, low-word, high-word, word-max}
-use Rattle.batch.specs.declared.entry.Next.the-variants.{Entry}
-use Rattle.batch.specs.declared.list.Listed.{Listed}
-use Rattle.batch.specs.declared.list.Listed.the-variants.{Sound, Broken}
-use Rattle.batch.specs.Batch.{Item, item, entryBytes, entriesBytes, listBytes, Sendable, All, nextOf, Reading, further, andRest, reading}
-use Rattle.batch.proofs.Bytes.{bytes-none, bytes-cons, bytes-append, bytes-take, bytes-drop}
+use Rattle.batch.specs.declared.entry.NextEntry.the-variants.{Entry}
+use Rattle.batch.specs.declared.list.ListCheck.{ListCheck}
+use Rattle.batch.specs.declared.list.ListCheck.the-variants.{Sound, Broken}
+use Rattle.batch.specs.Batch.{Item, item, entryBytes, entriesBytes, listBytes, Sendable, nextEntry, Reading, shiftFault, andRest, reading}
+use Rattle.dpa.proofs.Bytes.{bytes-none, bytes-cons, bytes-append, bytes-take, bytes-drop}
 use Rattle.batch.proofs.Entries.{Means, zero-closes, closing-zero, next-is, next-facts}
 use Rattle.batch.proofs.Lists.{reading-closed, reading-entry, reading-fault, by-reading}
 use Rattle.batch.proofs.Faults.{not-sound}
@@ -26,7 +26,7 @@ module _ (i : Item) where
   entry-length = omega arith
 
   -- an entry's bytes stand first as that entry, with any bytes after them
-  pub entry-first : (t : List ℕ) → nextOf (entryBytes i ++ t) ≡ Entry (5 + length (i .pdata)) (i .pnum) (i .pcmd) (i .hwpid)
+  pub entry-first : (t : List ℕ) → nextEntry (entryBytes i ++ t) ≡ Entry (5 + length (i .pdata)) (i .pnum) (i .pcmd) (i .hwpid)
   unfolding entryBytes
   entry-first t =
       next-is (entryBytes i ++ t) (omega arith) (simp length-append (omega arith))
@@ -34,45 +34,45 @@ module _ (i : Item) where
 
   -- an entry is read, then what follows
   pub entry-reading : (t : List ℕ)
-      → reading (entryBytes i ++ t) ≡ record { items = i ∷ (reading t) .items; listed = further (5 + length (i .pdata)) ((reading t) .listed) }
+      → reading (entryBytes i ++ t) ≡ record { items = i ∷ (reading t) .items; check = shiftFault (5 + length (i .pdata)) ((reading t) .check) }
   unfolding entryBytes
   entry-reading t =
       let n = 5 + length (i .pdata) in
       reading-entry (entryBytes i ++ t) (entry-first t)
       ∙ ap (λ (u : List ℕ). andRest (Entry n (i .pnum) (i .pcmd) (i .hwpid)) (entryBytes i ++ t) (reading u)) (drop-at (entryBytes i) t n entry-length)
-      ∙ ap (λ (d : List ℕ). record { items = item (i .pnum) (i .pcmd) (i .hwpid) d ∷ (reading t) .items; listed = further n ((reading t) .listed) })
+      ∙ ap (λ (d : List ℕ). record { items = item (i .pnum) (i .pcmd) (i .hwpid) d ∷ (reading t) .items; check = shiftFault n ((reading t) .check) })
       (ap (λ (k : ℕ). take k (i .pdata ++ t)) (add-sub-cancel-left 5 (length (i .pdata))) ∙ take-append-seam (i .pdata) t)
 
-further-none : (x : Listed) → x ≡ further 0 x
+further-none : (x : ListCheck) → x ≡ shiftFault 0 x
 further-none Sound = refl
 further-none (Broken r a) = ap (Broken r) (omega arith)
 
-further-add : (m n : ℕ) (x : Listed) → further m (further n x) ≡ further (m + n) x
+further-add : (m n : ℕ) (x : ListCheck) → shiftFault m (shiftFault n x) ≡ shiftFault (m + n) x
 further-add m n Sound = refl
 further-add m n (Broken r a) = ap (Broken r) (omega arith)
 
 -- entries are read, then what follows them; a fault there keeps its reason and its place
 pub entries-reading : (is : List Item) (t : List ℕ)
-    → reading (entriesBytes is ++ t) ≡ record { items = is ++ (reading t) .items; listed = further (length (entriesBytes is)) ((reading t) .listed) }
+    → reading (entriesBytes is ++ t) ≡ record { items = is ++ (reading t) .items; check = shiftFault (length (entriesBytes is)) ((reading t) .check) }
 unfolding entriesBytes
-entries-reading [] t = ap (λ (x : Listed). record { items = (reading t) .items; listed = x }) (further-none ((reading t) .listed))
+entries-reading [] t = ap (λ (x : ListCheck). record { items = (reading t) .items; check = x }) (further-none ((reading t) .check))
 entries-reading (i ∷ is) t =
     let n = 5 + length (i .pdata) in
-    let x = (reading t) .listed in
+    let x = (reading t) .check in
     let k : n + length (entriesBytes is) ≡ length (entryBytes i ++ entriesBytes is) = sym (length-append (entryBytes i) (entriesBytes is) ∙ ap (λ (m : ℕ). m + length (entriesBytes is)) (entry-length i)) in
     ap reading (append-assoc (entryBytes i) (entriesBytes is) t)
     ∙ entry-reading i (entriesBytes is ++ t)
-    ∙ ap (λ (r : Reading). record { items = i ∷ r .items; listed = further n (r .listed) }) (entries-reading is t)
-    ∙ ap (λ (y : Listed). record { items = i ∷ (is ++ (reading t) .items); listed = y })
-    (further-add n (length (entriesBytes is)) x ∙ ap (λ (m : ℕ). further m x) k)
+    ∙ ap (λ (r : Reading). record { items = i ∷ r .items; check = shiftFault n (r .check) }) (entries-reading is t)
+    ∙ ap (λ (y : ListCheck). record { items = i ∷ (is ++ (reading t) .items); check = y })
+    (further-add n (length (entriesBytes is)) x ∙ ap (λ (m : ℕ). shiftFault m x) k)
 
 -- a list is read as the entries that it was made of, and is sound
-pub round-trip : (is : List Item) → reading (listBytes is) ≡ record { items = is; listed = Sound }
+pub round-trip : (is : List Item) → reading (listBytes is) ≡ record { items = is; check = Sound }
 round-trip is =
     entries-reading is (0 ∷ [])
-    ∙ ap (λ (r : Reading). record { items = is ++ r .items; listed = further (length (entriesBytes is)) (r .listed) })
+    ∙ ap (λ (r : Reading). record { items = is ++ r .items; check = shiftFault (length (entriesBytes is)) (r .check) })
     (reading-closed (0 ∷ []) (zero-closes (0 ∷ []) refl refl))
-    ∙ ap (λ (js : List Item). record { items = js; listed = Sound }) (append-nil is)
+    ∙ ap (λ (js : List Item). record { items = js; check = Sound }) (append-nil is)
 
 -- a list has at least the zero
 pub list-some : (is : List Item) → 0 < length (listBytes is)
@@ -111,27 +111,27 @@ one [] h z = absurd (omega arith)
 one (a ∷ []) h z = ap (λ (n : ℕ). n ∷ []) (sym z)
 one (a ∷ b ∷ s) h z = absurd (omega arith)
 
-module _ (s : List ℕ) {l p c h : ℕ} (by : Bytes s) (e : nextOf s ≡ Entry l p c h) where
+module _ (s : List ℕ) {l p c h : ℕ} (by : Bytes s) (e : nextEntry s ≡ Entry l p c h) where
   means : Means s (Entry l p c h)
   means = next-facts s e
 
-  part-length : length (part s 5 (l - 5)) ≡ l - 5
+  part-length : length (slice s 5 (l - 5)) ≡ l - 5
   part-length = let z = means in simp (length-take, length-drop) (omega arith)
 
   -- an entry that was read has these bytes
-  pub entry-written : entryBytes (item p c h (part s 5 (l - 5))) ≡ take l s
+  pub entry-written : entryBytes (item p c h (slice s 5 (l - 5))) ≡ take l s
   unfolding entryBytes
   entry-written =
       let z = means in
       let n = part-length in
-      let e0 : 5 + length (part s 5 (l - 5)) ≡ getD s 0 0 = omega arith in
+      let e0 : 5 + length (slice s 5 (l - 5)) ≡ getD s 0 0 = omega arith in
       let e3 : low h ≡ getD s 3 0 = ap low (z .5) ∙ low-word (getD s 3 0) (getD s 4 0) (by 3) in
       let e4 : high h ≡ getD s 4 0 = ap high (z .5) ∙ high-word (getD s 3 0) (getD s 4 0) (by 3) in
       let el : 5 + (l - 5) ≡ l = omega arith in
-      let t : take l s ≡ take 5 s ++ part s 5 (l - 5) = ap (λ (k : ℕ). take k s) (sym el) ∙ take-add 5 (l - 5) s in
+      let t : take l s ≡ take 5 s ++ slice s 5 (l - 5) = ap (λ (k : ℕ). take k s) (sym el) ∙ take-add 5 (l - 5) s in
       rw (e0, e3, e4, z .3, z .4, t, five s (omega arith))
 
-  pub entry-sendable : Sendable (item p c h (part s 5 (l - 5)))
+  pub entry-sendable : Sendable (item p c h (slice s 5 (l - 5)))
   entry-sendable =
       let z = means in
       let n = part-length in
@@ -152,7 +152,7 @@ Apart s r =
     let rest = drop (length (entriesBytes (r .items))) s in
     (entriesBytes (r .items) ++ rest ≡ s) × ((reading rest) .items ≡ [])
 
-further-sound : (l : ℕ) (x : Listed) → further l x ≡ Sound → x ≡ Sound
+further-sound : (l : ℕ) (x : ListCheck) → shiftFault l x ≡ Sound → x ≡ Sound
 further-sound l Sound e = refl
 further-sound l (Broken r a) e = absurd (not-sound e)
 
@@ -163,7 +163,7 @@ apart =
     by-reading (λ (s : List ℕ) (r : Reading). Bytes s → Apart s r)
     (λ s o by. (refl, ap (λ (x : Reading). x .items) (reading-closed s o)))
     (λ s l p c h e ih by.
-    let i = item p c h (part s 5 (l - 5)) in
+    let i = item p c h (slice s 5 (l - 5)) in
     let es = entriesBytes ((reading (drop l s)) .items) in
     let z = ih (bytes-drop l s by) in
     let w = entry-written s by e in
@@ -179,21 +179,21 @@ apart =
     (λ s k a o e by. (refl, ap (λ (x : Reading). x .items) (reading-fault s o e)))
 
 -- a sound list with no entry is the zero
-zero-left : (s : List ℕ) → (reading s) .items ≡ [] → (reading s) .listed ≡ Sound → 0 ∷ [] ≡ s
+zero-left : (s : List ℕ) → (reading s) .items ≡ [] → (reading s) .check ≡ Sound → 0 ∷ [] ≡ s
 zero-left =
-    by-reading (λ (s : List ℕ) (r : Reading). r .items ≡ [] → r .listed ≡ Sound → 0 ∷ [] ≡ s)
+    by-reading (λ (s : List ℕ) (r : Reading). r .items ≡ [] → r .check ≡ Sound → 0 ∷ [] ≡ s)
     (λ s o i t. let z = closing-zero s o in one s (z .0) (z .1))
     (λ s l p c h e ih i t. let z = ap length i in absurd (omega arith))
     (λ s k a o e i t. absurd (not-sound t))
 
 -- a sound list is exactly an encoding: the list of the entries that are read
-pub tight : (s : List ℕ) → Bytes s → (reading s) .listed ≡ Sound → listBytes ((reading s) .items) ≡ s
-tight s by t =
+pub readable-is-encoding : (s : List ℕ) → Bytes s → (reading s) .check ≡ Sound → listBytes ((reading s) .items) ≡ s
+readable-is-encoding s by t =
     let is = (reading s) .items in
     let z = apart s by in
     let rest = drop (length (entriesBytes is)) s in
-    let u = sym (ap (λ (r : Reading). r .listed) (entries-reading is rest)) ∙ ap (λ (x : List ℕ). (reading x) .listed) (z .0) ∙ t in
-    ap (λ (x : List ℕ). entriesBytes is ++ x) (zero-left rest (z .1) (further-sound (length (entriesBytes is)) ((reading rest) .listed) u)) ∙ z .0
+    let u = sym (ap (λ (r : Reading). r .check) (entries-reading is rest)) ∙ ap (λ (x : List ℕ). (reading x) .check) (z .0) ∙ t in
+    ap (λ (x : List ℕ). entriesBytes is ++ x) (zero-left rest (z .1) (further-sound (length (entriesBytes is)) ((reading rest) .check) u)) ∙ z .0
 
 -- the entries that are read from bytes are sendable
 pub read-sendable : (s : List ℕ) → Bytes s → All Sendable ((reading s) .items)

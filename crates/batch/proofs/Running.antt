@@ -4,11 +4,11 @@ use mathlib.Core.List.{List, [], _∷_, _++_}
 use mathlib.Core.Bool.{true}
 use Prim.Native.Nat.{ℕ, suc, _-_}
 use lib.ListN.{length, drop}
-use Rattle.dpa.specs.Lists.{part}
+use Rattle.dpa.specs.Lists.{slice}
 use Rattle.dpa.proofs.Bool.{by-test}
 use Rattle.dpa.proofs.Lists.{to-end}
-use Rattle.batch.specs.declared.entry.Next.the-variants.{Entry, Fault}
-use Rattle.batch.specs.Batch.{closing, nextOf, Item, Reading, reading, item, runItems, errorsOf}
+use Rattle.batch.specs.declared.entry.NextEntry.the-variants.{Entry, Fault}
+use Rattle.batch.specs.Batch.{closing, nextEntry, Item, Reading, reading, item, runItems, errorsOf}
 use Rattle.batch.proofs.Lists.{reading-closed, reading-entry, reading-fault}
 
 module _ {S : Type 0} (f : Item → S → S) (s : List ℕ) (st : S) where
@@ -21,13 +21,13 @@ module _ {S : Type 0} (f : Item → S → S) (s : List ℕ) (st : S) where
   items-closed o = none-left (reading-closed s o) refl
 
   -- where a fault stands, no entry runs
-  pub items-fault : {k a : ℕ} → nextOf s ≡ Fault k a → st ≡ runItems f ((reading s) .items) st
+  pub items-fault : {k a : ℕ} → nextEntry s ≡ Fault k a → st ≡ runItems f ((reading s) .items) st
   items-fault e = by-test (closing s) items-closed (λ o. none-left (reading-fault s o e) refl)
 
   -- the first entry runs, and then the rest with what that left
-  pub items-more : {l p c h : ℕ} {m r : S} → nextOf s ≡ Entry l p c h
-      → m ≡ f (item p c h (part s 5 (l - 5))) st
-      → r ≡ runItems f ((reading (part s l (length s - l))) .items) m
+  pub items-more : {l p c h : ℕ} {m r : S} → nextEntry s ≡ Entry l p c h
+      → m ≡ f (item p c h (slice s 5 (l - 5))) st
+      → r ≡ runItems f ((reading (slice s l (length s - l))) .items) m
       → r ≡ runItems f ((reading s) .items) st
   unfolding runItems
   items-more {l} {p} {c} {h} {m} {r} e d g =

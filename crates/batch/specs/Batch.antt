@@ -6,11 +6,11 @@ use mathlib.Core.Path.{_≡_}
 use lib.ListN.{length, getD}
 use lib.Dec.{ltb, eqb}
 use Rattle.dpa.specs.Number.{low, high, wordAt}
-use Rattle.dpa.specs.Lists.{Bytes, part}
-use Rattle.batch.specs.declared.entry.Next.{Next}
-use Rattle.batch.specs.declared.entry.Next.the-variants.{Entry, Fault}
-use Rattle.batch.specs.declared.list.Listed.{Listed}
-use Rattle.batch.specs.declared.list.Listed.the-variants.{Sound, Broken}
+use Rattle.dpa.specs.Lists.{Bytes, slice}
+use Rattle.batch.specs.declared.entry.NextEntry.{NextEntry}
+use Rattle.batch.specs.declared.entry.NextEntry.the-variants.{Entry, Fault}
+use Rattle.batch.specs.declared.list.ListCheck.{ListCheck}
+use Rattle.batch.specs.declared.list.ListCheck.the-variants.{Sound, Broken}
 
 -- an entry taken apart
 pub record Item : Type 0 where
@@ -42,11 +42,6 @@ pub record Sendable (i : Item) : Type 0 where
   pub pdata-bytes : Bytes (i .pdata)
   pub size : 5 + length (i .pdata) ≤ 255
 
--- every element has P
-abbrev pub All : {A : Type 0} → (A → Type 0) → List A → Type 0
-All P [] = Unit
-All P (x ∷ xs) = P x × All P xs
-
 -- the remaining bytes are the closing zero alone
 abbrev pub closing : List ℕ → Bool
 closing s = eqb (length s) 1 && eqb (getD s 0 0) 0
@@ -58,8 +53,8 @@ abbrev pub shortReason : ℕ
 shortReason = 1
 
 -- a length over the list's end
-abbrev pub overReason : ℕ
-overReason = 2
+abbrev pub pastEndReason : ℕ
+pastEndReason = 2
 
 -- no closing zero
 abbrev pub unclosedReason : ℕ
@@ -71,49 +66,49 @@ trailingReason = 4
 
 -- What stands first in the remaining bytes, where they are not the closing zero alone: an entry, or the reason why none
 -- can be taken apart and a place, counted from the first of these bytes.
-unfoldable pub nextOf : List ℕ → Next
-nextOf s =
+unfoldable pub nextEntry : List ℕ → NextEntry
+nextEntry s =
     cond (eqb (length s) 0) (Fault unclosedReason 0)
     (cond (eqb (getD s 0 0) 0) (Fault trailingReason 1)
     (cond (ltb (getD s 0 0) 5) (Fault shortReason 0)
-    (cond (ltb (length s) (getD s 0 0)) (Fault overReason 0)
+    (cond (ltb (length s) (getD s 0 0)) (Fault pastEndReason 0)
     (Entry (getD s 0 0) (getD s 1 0) (getD s 2 0) (wordAt s 3)))))
 
 -- the ErrN of each case: an entry can be taken apart, a fault cannot
-abbrev pub nextError : Next → ℕ
-nextError (Entry l p c h) = 0
-nextError (Fault r a) = 6
+abbrev pub nextEntryError : NextEntry → ℕ
+nextEntryError (Entry l p c h) = 0
+nextEntryError (Fault r a) = 6
 
 -- what a list reads as: the entries up to its end or its first fault, and which of the two came
 pub record Reading : Type 0 where
   pub items : List Item
-  pub listed : Listed
+  pub check : ListCheck
 
 -- no entries, and how the list came out
-abbrev pub stopped : Listed → Reading
-stopped x = record { items = []; listed = x }
+abbrev pub stopped : ListCheck → Reading
+stopped x = record { items = []; check = x }
 
 -- the bytes that the next entry takes
-abbrev pub lenOf : Next → ℕ
-lenOf (Entry l p c h) = l
-lenOf (Fault r a) = 0
+abbrev pub entryLength : NextEntry → ℕ
+entryLength (Entry l p c h) = l
+entryLength (Fault r a) = 0
 
 -- a fault's place, counted from l bytes before
-abbrev pub further : ℕ → Listed → Listed
-further l Sound = Sound
-further l (Broken r a) = Broken r (l + a)
+abbrev pub shiftFault : ℕ → ListCheck → ListCheck
+shiftFault l Sound = Sound
+shiftFault l (Broken r a) = Broken r (l + a)
 
 -- the fault that makes a list broken; an entry does not
-abbrev pub faultOf : Next → Listed
+abbrev pub faultOf : NextEntry → ListCheck
 faultOf (Entry l p c h) = Sound
 faultOf (Fault r a) = Broken r a
 
 -- what stands first in s, and a rest that reads as r
-abbrev pub andRest : Next → List ℕ → Reading → Reading
+abbrev pub andRest : NextEntry → List ℕ → Reading → Reading
 andRest (Entry l p c h) s r =
     record {
-      items = item p c h (part s 5 (l - 5)) ∷ r .items;
-      listed = further l (r .listed);
+      items = item p c h (slice s 5 (l - 5)) ∷ r .items;
+      check = shiftFault l (r .check);
     }
 andRest (Fault k a) s r = stopped (faultOf (Fault k a))
 
@@ -123,22 +118,22 @@ readFrom [] k = stopped (Broken unclosedReason 0)
 readFrom (b ∷ s) (suc k) = readFrom s k
 readFrom (b ∷ s) zero =
     cond (closing (b ∷ s)) (stopped Sound)
-    (andRest (nextOf (b ∷ s)) (b ∷ s) (readFrom s (lenOf (nextOf (b ∷ s)) - 1)))
+    (andRest (nextEntry (b ∷ s)) (b ∷ s) (readFrom s (entryLength (nextEntry (b ∷ s)) - 1)))
 
 abbrev pub reading : List ℕ → Reading
 reading s = readFrom s 0
 
 -- the ErrN of a batch with such a list
-abbrev pub listError : Listed → ℕ
+abbrev pub listError : ListCheck → ℕ
 listError Sound = 0
-listError (Broken r a) = nextError (Fault r a)
+listError (Broken r a) = nextEntryError (Fault r a)
 
 -- what a reason and a place say of a list
-pub data Blame (s : List ℕ) (r a : ℕ) : Type 0 where
-  short : r ≡ shortReason → a < length s → 0 < getD s a 0 → getD s a 0 < 5 → Blame s r a
-  over : r ≡ overReason → a < length s → 5 ≤ getD s a 0 → length s < a + getD s a 0 → Blame s r a
-  unclosed : r ≡ unclosedReason → a ≡ length s → Blame s r a
-  trailing : r ≡ trailingReason → 0 < a → a < length s → getD s (a - 1) 0 ≡ 0 → Blame s r a
+pub data FaultAt (s : List ℕ) (r a : ℕ) : Type 0 where
+  short : r ≡ shortReason → a < length s → 0 < getD s a 0 → getD s a 0 < 5 → FaultAt s r a
+  pastEnd : r ≡ pastEndReason → a < length s → 5 ≤ getD s a 0 → length s < a + getD s a 0 → FaultAt s r a
+  unclosed : r ≡ unclosedReason → a ≡ length s → FaultAt s r a
+  trailing : r ≡ trailingReason → 0 < a → a < length s → getD s (a - 1) 0 ≡ 0 → FaultAt s r a
 
 -- entries in order, each with the state that the one before left; f is what an entry does
 unfoldable pub runItems : {S : Type 0} → (Item → S → S) → List Item → S → S

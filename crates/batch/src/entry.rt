@@ -3,12 +3,12 @@ use crate::fault;
 use dpa::number::wide;
 use dpa::number::word_of;
 ghost use mathlib.Core.Path.{_≡_};
-ghost use Rattle.batch.specs.Batch.{closing, nextOf};
+ghost use Rattle.batch.specs.Batch.{closing, nextEntry};
 
 // The bytes of an entry before its PData.
 pub const HEAD: usize = 5;
 
-pub enum Next {
+pub enum NextEntry {
     // An entry of len bytes; its PData are those from HEAD on.
     Entry {
         len: usize,
@@ -34,35 +34,35 @@ pub fn at_end(s: &[u8]) -> bool
 }
 
 // What stands first where a list has not ended.
-pub fn next_entry(s: &[u8]) -> Next
-    ensures { λ r. ⌜ r ≡ nextOf (now (s .entry)) ⌝ }
+pub fn next_entry(s: &[u8]) -> NextEntry
+    ensures { λ r. ⌜ r ≡ nextEntry (now (s .entry)) ⌝ }
 {
     if s.len() == 0 {
-        return Next::Fault {
+        return NextEntry::Fault {
             reason: fault::UNCLOSED,
             at: 0,
         };
     }
     let len = wide(s[0]);
     if len == 0 {
-        return Next::Fault {
+        return NextEntry::Fault {
             reason: fault::TRAILING,
             at: 1,
         };
     }
     if len < HEAD {
-        return Next::Fault {
+        return NextEntry::Fault {
             reason: fault::SHORT,
             at: 0,
         };
     }
     if s.len() < len {
-        return Next::Fault {
-            reason: fault::OVER,
+        return NextEntry::Fault {
+            reason: fault::PAST_END,
             at: 0,
         };
     }
-    Next::Entry {
+    NextEntry::Entry {
         len,
         pnum: s[1],
         pcmd: s[2],

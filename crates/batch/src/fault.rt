@@ -2,7 +2,7 @@
 // A length of 1 to 4: the length byte.
 pub const SHORT: u8 = 1;
 // A length over the list's end: the length byte.
-pub const OVER: u8 = 2;
+pub const PAST_END: u8 = 2;
 // No closing zero: the list's length.
 pub const UNCLOSED: u8 = 3;
 // Bytes after the zero: the first of them.

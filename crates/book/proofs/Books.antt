@@ -12,12 +12,12 @@ use lib.Seq.{drop-cons, getD-drop}
 use borrow.Author.Tests.{lt-ltb, le-ltb, le-leb, lt-leb, eq-eqb, ne-eqb, eqb-true, leb-true}
 use Rattle.dpa.specs.Number.{word}
 use Rattle.dpa.proofs.Bool.{and-left, and-right}
-use Rattle.batch.specs.Batch.{All}
-use Rattle.book.specs.declared.contents.Content.{Content}
+use Rattle.dpa.specs.Lists.{All}
+use Rattle.book.specs.declared.contents.SceneLocation.{SceneLocation}
 use Rattle.book.specs.declared.step.Step.{Step}
-use Rattle.book.specs.Book.{scenesMax, stepsMax, contentLength, stepLength, content, countOf, stepsIn, contentsIn, chained, contentsOf, bookOk, sceneOf}
-use Rattle.book.specs.Step.{goodStep, badFrom}
-use Rattle.book.specs.Run.{stepAt, contentAt, AllGood}
+use Rattle.book.specs.Book.{scenesMax, stepsMax, locationLength, stepLength, content, countOf, stepsIn, locationsIn, chained, sceneLocations, bookOk, sceneOf}
+use Rattle.book.specs.Step.{goodStep, firstBadFrom}
+use Rattle.book.specs.Run.{stepAt, locationAt, AllGood}
 use Rattle.book.proofs.Joining.{steps-length, none as noStep, steps-at, next}
 use Rattle.book.proofs.Faults.{Good, no-bad}
 
@@ -25,79 +25,79 @@ step-next : (n : ℕ) (a : List ℕ) (i : ℕ) → i < n → drop i (stepsIn n a
 step-next n a i h = drop-cons (stepsIn n a) i noStep (omega (arith, steps-length n a)) ∙ rw (steps-at n a i h)
 
 pub bad-more : (n : ℕ) (a : List ℕ) (i : ℕ) (x : Step) → i < n → x ≡ stepAt a i → goodStep x ≡ true
-    → badFrom i (drop i (stepsIn n a)) ≡ badFrom (i + 1) (drop (i + 1) (stepsIn n a))
+    → firstBadFrom i (drop i (stepsIn n a)) ≡ firstBadFrom (i + 1) (drop (i + 1) (stepsIn n a))
 bad-more n a i x h e g = rw (add-one i, step-next n a i h, ap goodStep (sym e) ∙ g)
 
 pub bad-stop : (n : ℕ) (a : List ℕ) (i : ℕ) (x : Step) → i < n → x ≡ stepAt a i → goodStep x ≡ false
-    → badFrom i (drop i (stepsIn n a)) ≡ cond (ltb i n) (some i) none
+    → firstBadFrom i (drop i (stepsIn n a)) ≡ cond (ltb i n) (some i) none
 bad-stop n a i x h e g = rw (step-next n a i h, ap goodStep (sym e) ∙ g, lt-ltb i n h)
 
-pub bad-end : (n : ℕ) (a : List ℕ) (i : ℕ) → n ≤ i → badFrom i (drop i (stepsIn n a)) ≡ cond (ltb n n) (some n) none
+pub bad-end : (n : ℕ) (a : List ℕ) (i : ℕ) → n ≤ i → firstBadFrom i (drop i (stepsIn n a)) ≡ cond (ltb n n) (some n) none
 bad-end n a i h =
     let d : drop i (stepsIn n a) ≡ [] = drop-of-length-le (stepsIn n a) {i = i} (omega (arith, steps-length n a)) in
     rw (d, le-ltb n n (omega arith))
 
 -- ---- the contents of a book
 
-abbrev third : List ℕ → ℕ → Content
-third bs i = content (word (getD bs (contentLength * i) 0) (getD bs (contentLength * i + 1) 0)) (getD bs (contentLength * i + 2) 0)
+abbrev third : List ℕ → ℕ → SceneLocation
+third bs i = content (word (getD bs (locationLength * i) 0) (getD bs (locationLength * i + 1) 0)) (getD bs (locationLength * i + 2) 0)
 
-abbrev pub noContent : Content
+abbrev pub noContent : SceneLocation
 noContent = content 0 0
 
-third-next : (bs : List ℕ) (i : ℕ) → third (drop contentLength bs) i ≡ third bs (suc i)
+third-next : (bs : List ℕ) (i : ℕ) → third (drop locationLength bs) i ≡ third bs (suc i)
 third-next bs i =
-    let e0 : contentLength * suc i ≡ contentLength + contentLength * i = omega arith in
-    let e1 : contentLength * suc i + 1 ≡ contentLength + (contentLength * i + 1) = omega arith in
-    let e2 : contentLength * suc i + 2 ≡ contentLength + (contentLength * i + 2) = omega arith in
-    rw (e1, e2, e0, getD-drop contentLength bs (contentLength * i) 0, getD-drop contentLength bs (contentLength * i + 1) 0, getD-drop contentLength bs (contentLength * i + 2) 0)
+    let e0 : locationLength * suc i ≡ locationLength + locationLength * i = omega arith in
+    let e1 : locationLength * suc i + 1 ≡ locationLength + (locationLength * i + 1) = omega arith in
+    let e2 : locationLength * suc i + 2 ≡ locationLength + (locationLength * i + 2) = omega arith in
+    rw (e1, e2, e0, getD-drop locationLength bs (locationLength * i) 0, getD-drop locationLength bs (locationLength * i + 1) 0, getD-drop locationLength bs (locationLength * i + 2) 0)
 
-contents-at : (n : ℕ) (bs : List ℕ) (i : ℕ) → i < n → getD (contentsIn n bs) i noContent ≡ third bs i
+contents-at : (n : ℕ) (bs : List ℕ) (i : ℕ) → i < n → getD (locationsIn n bs) i noContent ≡ third bs i
 contents-at zero bs i h = absurd (omega arith)
 contents-at (suc n) bs zero h = refl
-contents-at (suc n) bs (suc i) h = contents-at n (drop contentLength bs) i (omega arith) ∙ third-next bs i
+contents-at (suc n) bs (suc i) h = contents-at n (drop locationLength bs) i (omega arith) ∙ third-next bs i
 
-contents-length : (n : ℕ) (bs : List ℕ) → length (contentsIn n bs) ≡ n
+contents-length : (n : ℕ) (bs : List ℕ) → length (locationsIn n bs) ≡ n
 contents-length zero bs = refl
-contents-length (suc n) bs = ap suc (contents-length n (drop contentLength bs))
+contents-length (suc n) bs = ap suc (contents-length n (drop locationLength bs))
 
-pub content-is : (b : List ℕ) (i : ℕ) → i < countOf b → getD (contentsOf b) i noContent ≡ contentAt b i
+pub content-is : (b : List ℕ) (i : ℕ) → i < countOf b → getD (sceneLocations b) i noContent ≡ locationAt b i
 content-is b i h =
-    let e0 : contentLength * i + 1 ≡ 1 + contentLength * i = omega arith in
-    let e1 : contentLength * i + 2 ≡ 1 + (contentLength * i + 1) = omega arith in
-    let e2 : contentLength * i + 3 ≡ 1 + (contentLength * i + 2) = omega arith in
-    contents-at (countOf b) (drop 1 b) i h ∙ rw (e2, e1, e0, getD-drop 1 b (contentLength * i) 0, getD-drop 1 b (1 + contentLength * i) 0, getD-drop 1 b (1 + (1 + contentLength * i)) 0)
+    let e0 : locationLength * i + 1 ≡ 1 + locationLength * i = omega arith in
+    let e1 : locationLength * i + 2 ≡ 1 + (locationLength * i + 1) = omega arith in
+    let e2 : locationLength * i + 3 ≡ 1 + (locationLength * i + 2) = omega arith in
+    contents-at (countOf b) (drop 1 b) i h ∙ rw (e2, e1, e0, getD-drop 1 b (locationLength * i) 0, getD-drop 1 b (1 + locationLength * i) 0, getD-drop 1 b (1 + (1 + locationLength * i)) 0)
 
-content-next : (b : List ℕ) (i : ℕ) → i < countOf b → drop i (contentsOf b) ≡ contentAt b i ∷ drop (suc i) (contentsOf b)
-content-next b i h = drop-cons (contentsOf b) i noContent (omega (arith, contents-length (countOf b) (drop 1 b))) ∙ rw (content-is b i h)
+content-next : (b : List ℕ) (i : ℕ) → i < countOf b → drop i (sceneLocations b) ≡ locationAt b i ∷ drop (suc i) (sceneLocations b)
+content-next b i h = drop-cons (sceneLocations b) i noContent (omega (arith, contents-length (countOf b) (drop 1 b))) ∙ rw (content-is b i h)
 
 -- ---- the loop of bodies_ok
-module _ (b : List ℕ) (i at end offset count : ℕ) (h : i < countOf b) (eo : offset ≡ contentAt b i .offset) (ec : count ≡ contentAt b i .steps) where
-  pub chain-more : offset ≡ at → count ≤ stepsMax → chained at (drop i (contentsOf b)) end ≡ chained (at + stepLength * count) (drop (i + 1) (contentsOf b)) end
+module _ (b : List ℕ) (i at end offset count : ℕ) (h : i < countOf b) (eo : offset ≡ locationAt b i .offset) (ec : count ≡ locationAt b i .steps) where
+  pub chain-more : offset ≡ at → count ≤ stepsMax → chained at (drop i (sceneLocations b)) end ≡ chained (at + stepLength * count) (drop (i + 1) (sceneLocations b)) end
   unfolding chained
   chain-more p q = rw (add-one i, content-next b i h, ← eo, ← ec, eq-eqb offset at p, le-leb count stepsMax q)
 
-  pub chain-apart : (offset ≡ at → ⊥) → chained at (drop i (contentsOf b)) end ≡ false
+  pub chain-apart : (offset ≡ at → ⊥) → chained at (drop i (sceneLocations b)) end ≡ false
   unfolding chained
   chain-apart p = rw (content-next b i h, ← eo, ← ec, ne-eqb offset at p)
 
-  pub chain-long : offset ≡ at → stepsMax < count → chained at (drop i (contentsOf b)) end ≡ false
+  pub chain-long : offset ≡ at → stepsMax < count → chained at (drop i (sceneLocations b)) end ≡ false
   unfolding chained
   chain-long p q = rw (content-next b i h, ← eo, ← ec, eq-eqb offset at p, lt-leb count stepsMax q)
 
-pub chain-end : (b : List ℕ) (i at end : ℕ) → countOf b ≤ i → chained at (drop i (contentsOf b)) end ≡ eqb at end
+pub chain-end : (b : List ℕ) (i at end : ℕ) → countOf b ≤ i → chained at (drop i (sceneLocations b)) end ≡ eqb at end
 unfolding chained
 chain-end b i at end h =
-    let d : drop i (contentsOf b) ≡ [] = drop-of-length-le (contentsOf b) {i = i} (omega (arith, contents-length (countOf b) (drop 1 b))) in
+    let d : drop i (sceneLocations b) ≡ [] = drop-of-length-le (sceneLocations b) {i = i} (omega (arith, contents-length (countOf b) (drop 1 b))) in
     rw d
 
 -- ---- a body is within the book
-chained-le : (at : ℕ) (cs : List Content) (end : ℕ) → chained at cs end ≡ true → at ≤ end
+chained-le : (at : ℕ) (cs : List SceneLocation) (end : ℕ) → chained at cs end ≡ true → at ≤ end
 unfolding chained
 chained-le at [] end e = omega (arith, eqb-true at end e)
 chained-le at (c ∷ cs) end e = omega (arith, chained-le (at + stepLength * c .steps) cs end (and-right (eqb (c .offset) at && leb (c .steps) stepsMax) _ e))
 
-body-in : (at : ℕ) (cs : List Content) (end i : ℕ) → chained at cs end ≡ true → i < length cs
+body-in : (at : ℕ) (cs : List SceneLocation) (end i : ℕ) → chained at cs end ≡ true → i < length cs
     → (getD cs i noContent .offset + stepLength * getD cs i noContent .steps ≤ end) × (getD cs i noContent .steps ≤ stepsMax)
 unfolding chained
 body-in at [] end i e h = absurd (omega arith)
@@ -113,27 +113,27 @@ body-in at (c ∷ cs) end zero e h =
 body-in at (c ∷ cs) end (suc i) e h = body-in (at + stepLength * c .steps) cs end i (and-right (eqb (c .offset) at && leb (c .steps) stepsMax) _ e) (omega arith)
 
 pub body-within : (b : List ℕ) (i : ℕ) → bookOk b ≡ true → i < countOf b
-    → (contentAt b i .offset + stepLength * contentAt b i .steps ≤ length b) × (contentAt b i .steps ≤ stepsMax)
+    → (locationAt b i .offset + stepLength * locationAt b i .steps ≤ length b) × (locationAt b i .steps ≤ stepsMax)
 unfolding bookOk
 body-within b i e h =
     rw (content-is b i h) at
-    (body-in (1 + contentLength * countOf b) (contentsOf b) (length b) i (and-right (leb 1 (length b) && leb (countOf b) scenesMax && leb (1 + contentLength * countOf b) (length b)) _ e)
+    (body-in (1 + locationLength * countOf b) (sceneLocations b) (length b) i (and-right (leb 1 (length b) && leb (countOf b) scenesMax && leb (1 + locationLength * countOf b) (length b)) _ e)
     (omega (arith, contents-length (countOf b) (drop 1 b))))
 
-pub book-facts : (b : List ℕ) → bookOk b ≡ true → (1 ≤ length b) × (countOf b ≤ scenesMax) × (1 + contentLength * countOf b ≤ length b)
+pub book-facts : (b : List ℕ) → bookOk b ≡ true → (1 ≤ length b) × (countOf b ≤ scenesMax) × (1 + locationLength * countOf b ≤ length b)
 unfolding bookOk
 book-facts b e =
     let f = and-left _ _ e in
     let g = and-left _ _ f in
     (leb-true _ _ (and-left _ _ g), leb-true _ _ (and-right (leb 1 (length b)) _ g), leb-true _ _ (and-right (leb 1 (length b) && leb (countOf b) scenesMax) _ f))
 
-pub scene-is : (b : List ℕ) (i : ℕ) → i < countOf b → sceneOf b i ≡ stepsIn (contentAt b i .steps) (drop (contentAt b i .offset) b)
+pub scene-is : (b : List ℕ) (i : ℕ) → i < countOf b → sceneOf b i ≡ stepsIn (locationAt b i .steps) (drop (locationAt b i .offset) b)
 unfolding sceneOf
-scene-is b i h = ap (λ (c : Content). stepsIn (c .steps) (drop (c .offset) b)) (content-is b i h)
+scene-is b i h = ap (λ (c : SceneLocation). stepsIn (c .steps) (drop (c .offset) b)) (content-is b i h)
 
 -- ---- a scene of a well-formed book has at most `stepsMax` steps
 
-chained-count : (start : ℕ) (cs : List Content) (end i : ℕ) → chained start cs end ≡ true → getD cs i (content 0 0) .steps ≤ stepsMax
+chained-count : (start : ℕ) (cs : List SceneLocation) (end i : ℕ) → chained start cs end ≡ true → getD cs i (content 0 0) .steps ≤ stepsMax
 unfolding chained
 chained-count start [] end i e = omega arith
 chained-count start (c ∷ cs) end zero e = leb-true _ _ (and-right (eqb (c .offset) start) _ (and-left _ _ e))
@@ -143,10 +143,10 @@ chained-count start (c ∷ cs) end (suc i) e =
 pub scene-length : (b : List ℕ) (k : ℕ) → bookOk b ≡ true → length (sceneOf b k) ≤ stepsMax
 unfolding bookOk sceneOf
 scene-length b k e =
-    let c = getD (contentsOf b) k (content 0 0) in
+    let c = getD (sceneLocations b) k (content 0 0) in
     rw (steps-length (c .steps) (drop (c .offset) b))
-    (chained-count (1 + contentLength * countOf b) (contentsOf b) (length b) k
-    (and-right (leb 1 (length b) && leb (countOf b) scenesMax && leb (1 + contentLength * countOf b) (length b)) _ e))
+    (chained-count (1 + locationLength * countOf b) (sceneLocations b) (length b) k
+    (and-right (leb 1 (length b) && leb (countOf b) scenesMax && leb (1 + locationLength * countOf b) (length b)) _ e))
 
 -- ---- good steps
 pub good-steps : (n : ℕ) (a : List ℕ) → AllGood a n → All Good (stepsIn n a)
@@ -158,5 +158,5 @@ all-index zero a g i h = absurd (omega arith)
 all-index (suc n) a g zero h = g .0
 all-index (suc n) a g (suc i) h = rw (← (next a i)) (all-index n (drop stepLength a) (g .1) i (omega arith))
 
-pub good-index : (n : ℕ) (a : List ℕ) → badFrom 0 (stepsIn n a) ≡ none → AllGood a n
+pub good-index : (n : ℕ) (a : List ℕ) → firstBadFrom 0 (stepsIn n a) ≡ none → AllGood a n
 good-index n a e = all-index n a (no-bad (stepsIn n a) .0 e)

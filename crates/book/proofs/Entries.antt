@@ -6,14 +6,14 @@ use native.Mathlib.Omega.{arith}
 use lib.ListN.{length, getD, take, drop}
 use borrow.Author.Tests.{eqb-true, ltb-true}
 use Rattle.dpa.proofs.Bool.{and-left}
-use Rattle.batch.specs.Batch.{All}
+use Rattle.dpa.specs.Lists.{All}
 use Rattle.book.specs.declared.step.Step.{Step}
 use Rattle.book.specs.Book.{stepLength, stepsIn}
 use Rattle.book.specs.Step.{ramKind}
 use Rattle.book.specs.Join.{follows, entriesOf}
-use Rattle.book.specs.Run.{oneStepMax, FirstRun, Writable, AllGood}
+use Rattle.book.specs.Run.{oneStepMax, FirstEntry, Writable, AllGood}
 use Rattle.book.proofs.Faults.{Good, lamp-good}
-use Rattle.book.proofs.Groups.{all-drop}
+use Rattle.dpa.proofs.All.{all-drop}
 use Rattle.book.proofs.Runs.{Linked, Run, runs}
 use Rattle.book.proofs.Joining.{steps-length, none, steps-at, steps-part}
 use Rattle.book.proofs.Books.{good-steps}
@@ -39,7 +39,7 @@ run-lamps entryMost (s ∷ ss) r k (suc j) h = linked-lamps s ss (r .1) k j (ome
 
 -- the steps of an entry can be written
 pub entry-ok : (entryMost : ℕ) → oneStepMax ≤ entryMost → (n i k size : ℕ) (a : List ℕ) → AllGood a n → i + k ≤ n
-    → FirstRun entryMost (drop i (stepsIn n a)) k size → Writable (drop (stepLength * i) a) k
+    → FirstEntry entryMost (drop i (stepsIn n a)) k size → Writable (drop (stepLength * i) a) k
 entry-ok entryMost six n i k size a g h f =
     let ss = drop i (stepsIn n a) in
     let b = drop (stepLength * i) a in

@@ -11,9 +11,9 @@ use borrow.Author.Tests.{eqb-true, eq-eqb, ne-eqb, ltb-true, ltb-false, leb-true
 use Rattle.dpa.proofs.Bool.{by-test, both, and-left, and-right, second-taken, first-taken}
 use Rattle.memory.specs.Block.{sizeOf}
 use Rattle.memory.specs.declared.block.Memory.the-variants.{Eeprom, Ram}
-use Rattle.batch.specs.Batch.{All}
+use Rattle.dpa.specs.Lists.{All}
 use Rattle.book.specs.declared.step.Step.{Step}
-use Rattle.book.specs.Step.{ramKind, eepromKind, isLamp, stepTimeOk, lampFault, byteFault, stepFault, goodStep, badFrom}
+use Rattle.book.specs.Step.{ramKind, eepromKind, isLamp, stepTimeOk, lampFault, byteFault, stepFault, goodStep, firstBadFrom}
 use Rattle.book.specs.Machine.{lampFormed, byteFormed, wellFormed}
 
 abbrev pub Good : Step → Type 0
@@ -119,14 +119,14 @@ good-formed s =
 bad-told : {j : ℕ} → _≡_ {A = Option ℕ} (some j) none → ⊥
 bad-told e = let z : _≡_ {A = ℕ} 0 1 = cc in absurd (omega arith)
 
-untold-good : (i : ℕ) (ss : List Step) → badFrom i ss ≡ none → All Good ss
+untold-good : (i : ℕ) (ss : List Step) → firstBadFrom i ss ≡ none → All Good ss
 untold-good i [] e = tt
 untold-good i (s ∷ ss) e = by-test (goodStep s) (λ g. (g, untold-good (suc i) ss (rw g at e))) (λ g. absurd (bad-told (rw g at e)))
 
-good-untold : (i : ℕ) (ss : List Step) → All Good ss → badFrom i ss ≡ none
+good-untold : (i : ℕ) (ss : List Step) → All Good ss → firstBadFrom i ss ≡ none
 good-untold i [] a = refl
 good-untold i (s ∷ ss) a = rw (a .0) (good-untold (suc i) ss (a .1))
 
 -- no bad step is told exactly when each step is good
-pub no-bad : (ss : List Step) → (badFrom 0 ss ≡ none) ↔ All Good ss
+pub no-bad : (ss : List Step) → (firstBadFrom 0 ss ≡ none) ↔ All Good ss
 no-bad ss = (untold-good 0 ss, good-untold 0 ss)

@@ -7,23 +7,10 @@ use native.Mathlib.Omega.{arith}
 use lib.ListN.{length, getD, take, drop}
 use lib.Seq.{take-suc, drop-cons}
 use Rattle.dpa.proofs.Bool.{by-cond}
-use Rattle.batch.specs.Batch.{All}
+use Rattle.dpa.specs.Lists.{All}
 use Rattle.book.specs.Group.{joined, grow, group}
 
 module _ {A : Type 0} where
-  pub all-snoc : (P : A → Type 0) (xs : List A) (x : A) → All P xs → P x → All P (xs ++ (x ∷ []))
-  all-snoc P [] x a p = (p, tt)
-  all-snoc P (y ∷ ys) x a p = (a .0, all-snoc P ys x (a .1) p)
-
-  pub all-weaken : (P Q : A → Type 0) → ((x : A) → P x → Q x) → (xs : List A) → All P xs → All Q xs
-  all-weaken P Q f [] a = tt
-  all-weaken P Q f (x ∷ xs) a = (f x (a .0), all-weaken P Q f xs (a .1))
-
-  pub all-drop : (P : A → Type 0) (xs : List A) (i : ℕ) → All P xs → All P (drop i xs)
-  all-drop P xs zero a = a
-  all-drop P [] (suc i) a = tt
-  all-drop P (x ∷ xs) (suc i) a = all-drop P xs i (a .1)
-
   pub joined-append : (xs ys : List (List A)) → joined (xs ++ ys) ≡ joined xs ++ joined ys
   joined-append [] ys = refl
   joined-append (x ∷ xs) ys = rw (joined-append xs ys, append-assoc x (joined xs) (joined ys))

@@ -16,9 +16,9 @@ use Rattle.book.specs.declared.step.Step.{Step}
 use Rattle.book.specs.Book.{stepLength, stepsIn}
 use Rattle.book.specs.Step.{isLamp}
 use Rattle.book.specs.Group.{grow}
-use Rattle.book.specs.Entry.{runData, entryData, powerBytes}
+use Rattle.book.specs.Entry.{groupData, entryData, powerBytes}
 use Rattle.book.specs.Join.{joins, entriesOf, follows, lastOf}
-use Rattle.book.specs.Run.{stepAt, stepSize, powerSize, firstSize, oneStepMax, joinedSize, FirstRun}
+use Rattle.book.specs.Run.{stepAt, stepSize, powerSize, firstSize, oneStepMax, joinedSize, FirstEntry}
 use Rattle.book.proofs.Sizes.{data-length}
 use Rattle.book.proofs.Groups.{begin, joined-on, left-off}
 
@@ -51,7 +51,7 @@ last-at p (s ∷ ss) (suc k) h = last-at s ss k (omega arith)
 
 -- one step more in the entry of the first k
 pub size-more : (ss : List Step) (k : ℕ) → 1 ≤ k → k < length ss
-    → length (runData (take (suc k) ss)) ≡ stepSize (getD ss 0 none .kind) (getD ss k none) + length (runData (take k ss))
+    → length (groupData (take (suc k) ss)) ≡ stepSize (getD ss 0 none .kind) (getD ss k none) + length (groupData (take k ss))
 size-more ss zero one h = absurd (omega arith)
 size-more [] (suc k) one h = absurd (omega arith)
 size-more (p ∷ ss) (suc k) one h =
@@ -59,14 +59,14 @@ size-more (p ∷ ss) (suc k) one h =
 
 pub joins-at : (most : ℕ) (ss : List Step) (k : ℕ) → 1 ≤ k → k < length ss
     → joins most (take k ss) (getD ss k none)
-    ≡ (follows (getD ss (k - 1) none) (getD ss k none) && leb (stepSize (getD ss 0 none .kind) (getD ss k none) + length (runData (take k ss))) most)
+    ≡ (follows (getD ss (k - 1) none) (getD ss k none) && leb (stepSize (getD ss 0 none .kind) (getD ss k none) + length (groupData (take k ss))) most)
 joins-at most ss zero one h = absurd (omega arith)
 joins-at most [] (suc k) one h = absurd (omega arith)
 joins-at most (p ∷ ss) (suc k) one h =
     let q : suc k - 1 ≡ k = omega arith in
     rw (q, last-at p ss k (omega arith), data-length p (take k ss) (getD ss k none), add-comm (length (entryData p (take k ss))) (stepSize (p .kind) (getD ss k none)))
 
-pub size-one : (ss : List Step) → 0 < length ss → length (runData (take 1 ss)) ≡ firstSize (getD ss 0 none)
+pub size-one : (ss : List Step) → 0 < length ss → length (groupData (take 1 ss)) ≡ firstSize (getD ss 0 none)
 unfolding entryData powerBytes stepSize powerSize firstSize
 size-one [] h = absurd (omega arith)
 size-one (p ∷ ss) h =
@@ -98,7 +98,7 @@ module _ (entryMost : ℕ) where
   -- ---- the loop of run_of: its invariant at k steps
   abbrev pub At : ℕ → List ℕ → ℕ → ℕ → Type 0
   At n a k size =
-      (1 ≤ k) × (k ≤ n) × (size ≤ entryMost) × (size ≡ length (runData (take k (stepsIn n a))))
+      (1 ≤ k) × (k ≤ n) × (size ≤ entryMost) × (size ≡ length (groupData (take k (stepsIn n a))))
       × (entriesOf entryMost (stepsIn n a) ≡ grow (joins entryMost) (take k (stepsIn n a)) (drop k (stepsIn n a)))
 
   pub run-start : oneStepMax ≤ entryMost → (n : ℕ) (a : List ℕ) (size : ℕ) → 0 < n → size ≡ firstSize (stepAt a 0) → size ≤ oneStepMax → At n a 1 size
@@ -107,7 +107,7 @@ module _ (entryMost : ℕ) where
       let long : 0 < length ss = omega (arith, steps-length n a) in
       (omega arith, omega arith, omega arith, e ∙ ap firstSize (sym (steps-at n a 0 h)) ∙ sym (size-one ss long), begin (joins entryMost) ss long)
 
-  pub run-end : (n : ℕ) (a : List ℕ) (k size : ℕ) → At n a k size → n ≤ k → FirstRun entryMost (stepsIn n a) k size
+  pub run-end : (n : ℕ) (a : List ℕ) (k size : ℕ) → At n a k size → n ≤ k → FirstEntry entryMost (stepsIn n a) k size
   run-end n a k size i h =
       let ss = stepsIn n a in
       let d : drop k ss ≡ [] = drop-of-length-le ss {i = k} (omega (arith, steps-length n a)) in
@@ -121,7 +121,7 @@ module _ (entryMost : ℕ) where
         joins-at entryMost (stepsIn n a) k (i .0) (omega (arith, steps-length n a))
         ∙ rw (steps-at n a (k - 1) (omega arith), steps-at n a k more, steps-at n a 0 (omega arith), head, i .3)
 
-    pub run-stop : r ≡ 0 → FirstRun entryMost (stepsIn n a) k size
+    pub run-stop : r ≡ 0 → FirstEntry entryMost (stepsIn n a) k size
     unfolding joinedSize
     run-stop z =
         by-test (follows (stepAt a (k - 1)) (stepAt a k) && leb (stepSize kind (stepAt a k) + size) entryMost)
@@ -142,7 +142,7 @@ module _ (entryMost : ℕ) where
         by-test (follows (stepAt a (k - 1)) (stepAt a k) && leb (stepSize kind (stepAt a k) + size) entryMost)
         (λ b. let q : r ≡ stepSize kind (stepAt a k) + size = given ∙ rw b in
         let w : stepSize kind (stepAt a k) + size ≤ entryMost = leb-true _ _ (and-right (follows (stepAt a (k - 1)) (stepAt a k)) _ b) in
-        let e : length (runData (take (suc k) ss)) ≡ stepSize kind (stepAt a k) + size
+        let e : length (groupData (take (suc k) ss)) ≡ stepSize kind (stepAt a k) + size
         = size-more ss k (i .0) long ∙ rw (steps-at n a k more, steps-at n a 0 (omega arith), head, i .3) in
         rw (add-one k)
         (omega arith, omega arith, omega arith, q ∙ sym e, i .4 ∙ joined-on (joins entryMost) none ss k long (joins-here ∙ b)))
@@ -158,7 +158,7 @@ steps-drop (suc n) (suc d) a h =
     rw (e, f, ← (drop-drop (stepLength * d) stepLength a)) (steps-drop n d (drop stepLength a) (omega arith))
 
 pub run-part : (entryMost n d : ℕ) (a : List ℕ) (k size : ℕ) → d ≤ n
-    → FirstRun entryMost (stepsIn (n - d) (take (length a - stepLength * d) (drop (stepLength * d) a))) k size → FirstRun entryMost (drop d (stepsIn n a)) k size
+    → FirstEntry entryMost (stepsIn (n - d) (take (length a - stepLength * d) (drop (stepLength * d) a))) k size → FirstEntry entryMost (drop d (stepsIn n a)) k size
 run-part entryMost n d a k size h f = rw (to-end (stepLength * d) a, steps-drop n d a h) at f
 
 -- the first k steps

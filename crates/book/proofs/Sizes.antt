@@ -8,7 +8,7 @@ use lib.ListN.{length, length-append}
 use Rattle.dpa.proofs.Bool.{by-test}
 use Rattle.book.specs.declared.step.Step.{Step}
 use Rattle.book.specs.Step.{isLamp}
-use Rattle.book.specs.Entry.{powerBytes, powersBytes, values, entryData, runData}
+use Rattle.book.specs.Entry.{powerBytes, powersBytes, values, entryData, groupData}
 use Rattle.book.specs.Run.{powerSize, stepSize}
 
 pub power-length : (s : Step) → length (powerBytes s) ≡ powerSize s
@@ -25,7 +25,7 @@ values-more [] x = refl
 values-more (s ∷ ss) x = omega (arith, values-more ss x)
 
 -- a step more in an entry
-pub data-length : (p : Step) (ps : List Step) (x : Step) → length (runData ((p ∷ ps) ++ (x ∷ []))) ≡ length (runData (p ∷ ps)) + stepSize (p .kind) x
+pub data-length : (p : Step) (ps : List Step) (x : Step) → length (groupData ((p ∷ ps) ++ (x ∷ []))) ≡ length (groupData (p ∷ ps)) + stepSize (p .kind) x
 unfolding entryData stepSize
 data-length p ps x =
     by-test (isLamp (p .kind))

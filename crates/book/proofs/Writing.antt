@@ -13,7 +13,7 @@ use Rattle.batch.specs.Batch.{entryBytes}
 use Rattle.book.specs.declared.step.Step.{Step}
 use Rattle.book.specs.Book.{stepsIn}
 use Rattle.book.specs.Step.{isLamp}
-use Rattle.book.specs.Entry.{powerBytes, powersBytes, values, bitmapOf, fourBytes, joinedItem, entryData, runData}
+use Rattle.book.specs.Entry.{powerBytes, powersBytes, values, bitmapOf, fourBytes, joinedItem, entryData, groupData}
 use Rattle.book.specs.Run.{stepAt, headBytes}
 use Rattle.book.proofs.Joining.{steps-length, none, steps-at}
 
@@ -141,12 +141,12 @@ sets-keep out out′ xs at e = ap length e ∙ length-sets out at xs
 
 -- ---- an entry's PData by its kind, and an entry's bytes
 pub data-lamp : (n : ℕ) (a : List ℕ) → 0 < n → isLamp (stepAt a 0 .kind) ≡ true
-    → runData (stepsIn n a) ≡ fourBytes (bitmapOf (stepsIn n a)) ++ powersBytes (stepsIn n a)
+    → groupData (stepsIn n a) ≡ fourBytes (bitmapOf (stepsIn n a)) ++ powersBytes (stepsIn n a)
 unfolding entryData
 data-lamp zero a h k = absurd (omega arith)
 data-lamp (suc n) a h k = rw k
 
-pub data-mem : (n : ℕ) (a : List ℕ) → 0 < n → isLamp (stepAt a 0 .kind) ≡ false → runData (stepsIn n a) ≡ (stepAt a 0 .target ∷ []) ++ values (stepsIn n a)
+pub data-mem : (n : ℕ) (a : List ℕ) → 0 < n → isLamp (stepAt a 0 .kind) ≡ false → groupData (stepsIn n a) ≡ (stepAt a 0 .target ∷ []) ++ values (stepsIn n a)
 unfolding entryData
 data-mem zero a h k = absurd (omega arith)
 data-mem (suc n) a h k = rw k
@@ -154,8 +154,8 @@ data-mem (suc n) a h k = rw k
 pub values-count : (n : ℕ) (a : List ℕ) → length (values (stepsIn n a)) ≡ n
 values-count n a = values-length (stepsIn n a) ∙ steps-length n a
 
-pub entry-split : (n : ℕ) (a : List ℕ) (h size : ℕ) → 0 < n → size ≡ length (runData (stepsIn n a))
-    → entryBytes (joinedItem h (stepsIn n a)) ≡ headBytes (stepAt a 0 .kind) h size ++ runData (stepsIn n a)
+pub entry-split : (n : ℕ) (a : List ℕ) (h size : ℕ) → 0 < n → size ≡ length (groupData (stepsIn n a))
+    → entryBytes (joinedItem h (stepsIn n a)) ≡ headBytes (stepAt a 0 .kind) h size ++ groupData (stepsIn n a)
 unfolding entryBytes
 entry-split zero a h size p e = absurd (omega arith)
 entry-split (suc n) a h size p e = rw e

@@ -39,9 +39,9 @@ entryData s ss =
     (fourBytes (bitmapOf (s ∷ ss)) ++ powersBytes (s ∷ ss))
     (s .target ∷ values (s ∷ ss))
 
-abbrev pub runData : List Step → List ℕ
-runData [] = []
-runData (s ∷ ss) = entryData s ss
+abbrev pub groupData : List Step → List ℕ
+groupData [] = []
+groupData (s ∷ ss) = entryData s ss
 
 abbrev pub kindOf : List Step → ℕ
 kindOf [] = 0
@@ -57,4 +57,4 @@ pcmdOf k = cond (isLamp k) k 0x01
 
 -- the entry of joined steps for the profile h
 abbrev pub joinedItem : ℕ → List Step → Item
-joinedItem h run = item (pnumOf (kindOf run)) (pcmdOf (kindOf run)) h (runData run)
+joinedItem h run = item (pnumOf (kindOf run)) (pcmdOf (kindOf run)) h (groupData run)

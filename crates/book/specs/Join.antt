@@ -6,7 +6,7 @@ use lib.Dec.{ltb, leb, eqb}
 use lib.ListN.{length}
 use Rattle.book.specs.declared.step.Step.{Step}
 use Rattle.book.specs.Step.{isLamp}
-use Rattle.book.specs.Entry.{runData}
+use Rattle.book.specs.Entry.{groupData}
 use Rattle.book.specs.Group.{group}
 
 -- the longest PData of an entry
@@ -26,7 +26,7 @@ follows p s =
 -- s joins the entry of the steps before it, whose PData stays at most `most`
 abbrev pub joins : ℕ → List Step → Step → Bool
 joins most [] s = false
-joins most (p ∷ ps) s = follows (lastOf p ps) s && leb (length (runData ((p ∷ ps) ++ (s ∷ [])))) most
+joins most (p ∷ ps) s = follows (lastOf p ps) s && leb (length (groupData ((p ∷ ps) ++ (s ∷ [])))) most
 
 -- a scene's entries, each the steps that are joined in it
 abbrev pub entriesOf : ℕ → List Step → List (List Step)

@@ -10,7 +10,7 @@ use Rattle.memory.specs.declared.block.Memory.the-variants.{Eeprom, Ram}
 use Rattle.lights.specs.Lamp.{changed, off}
 use Rattle.lights.specs.declared.lamp.Lamp.{Lamp}
 use Rattle.node.specs.Node.{withLamps, withRam}
-use Rattle.handler.specs.Request.{State, nodeIs, eepromIs}
+use Rattle.handler.specs.Request.{State, withNode, withEeprom}
 use Rattle.book.specs.declared.step.Step.{Step}
 use Rattle.book.specs.Step.{setKind, raiseKind, ramKind, eepromKind, isLamp, stepTimeOk}
 
@@ -66,9 +66,9 @@ machineByte s bytes = set bytes (s .target) (s .value)
 unfoldable pub machineEffect : Step → State → State
 machineEffect s st =
     let n = st .node in
-    cond (isLamp (s .kind)) (nodeIs st (withLamps n (machineLamps s (n .settings .«lamp_count») (n .lamps))))
-    (cond (eqb (s .kind) ramKind) (nodeIs st (withRam n (machineByte s (n .ram))))
-    (eepromIs st (machineByte s (st .eeprom))))
+    cond (isLamp (s .kind)) (withNode st (withLamps n (machineLamps s (n .settings .«lamp_count») (n .lamps))))
+    (cond (eqb (s .kind) ramKind) (withNode st (withRam n (machineByte s (n .ram))))
+    (withEeprom st (machineByte s (st .eeprom))))
 
 -- a bad step changes nothing
 unfoldable pub machineStep : Step → State → State

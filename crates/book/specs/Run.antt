@@ -8,11 +8,11 @@ use lib.Dec.{leb, eqb}
 use lib.ListN.{length, getD, take, drop}
 use Rattle.dpa.specs.Frame.{pdataMax}
 use Rattle.dpa.specs.Number.{word, low, high}
-use Rattle.book.specs.declared.contents.Content.{Content}
+use Rattle.book.specs.declared.contents.SceneLocation.{SceneLocation}
 use Rattle.book.specs.declared.step.Step.{Step}
-use Rattle.book.specs.Book.{contentLength, stepLength, content}
+use Rattle.book.specs.Book.{locationLength, stepLength, content}
 use Rattle.book.specs.Join.{follows, entriesOf}
-use Rattle.book.specs.Entry.{runData, pnumOf, pcmdOf}
+use Rattle.book.specs.Entry.{groupData, pnumOf, pcmdOf}
 use Rattle.book.specs.Step.{goodStep, isLamp}
 
 -- step i of a scene's bytes
@@ -26,8 +26,8 @@ stepAt s i =
     }
 
 -- contents entry i of a book
-abbrev pub contentAt : List ℕ → ℕ → Content
-contentAt b i = content (word (getD b (contentLength * i + 1) 0) (getD b (contentLength * i + 2) 0)) (getD b (contentLength * i + 3) 0)
+abbrev pub locationAt : List ℕ → ℕ → SceneLocation
+locationAt b i = content (word (getD b (locationLength * i + 1) 0) (getD b (locationLength * i + 2) 0)) (getD b (locationLength * i + 3) 0)
 
 -- a step's bytes in a lamp entry, and in an entry of kind k
 unfoldable pub powerSize : Step → ℕ
@@ -53,11 +53,11 @@ pub record EntryLimit (entryMost : ℕ) : Type 0 where
   pub frame : entryMost ≤ pdataMax
 
 -- the first entry takes k steps and has `size` bytes of PData
-pub record FirstRun (entryMost : ℕ) (ss : List Step) (k size : ℕ) : Type 0 where
+pub record FirstEntry (entryMost : ℕ) (ss : List Step) (k size : ℕ) : Type 0 where
   pub some : 1 ≤ k
   pub within : k ≤ length ss
   pub small : size ≤ entryMost
-  pub fits : size ≡ length (runData (take k ss))
+  pub fits : size ≡ length (groupData (take k ss))
   pub first : entriesOf entryMost ss ≡ take k ss ∷ entriesOf entryMost (drop k ss)
 
 -- each of the n steps is good

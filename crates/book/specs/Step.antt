@@ -61,6 +61,6 @@ abbrev pub goodStep : Step → Bool
 goodStep s = eqb (stepFault s) 0
 
 -- the number of the first bad step, counted from i
-abbrev pub badFrom : ℕ → List Step → Option ℕ
-badFrom i [] = none
-badFrom i (s ∷ ss) = cond (goodStep s) (badFrom (suc i) ss) (some i)
+abbrev pub firstBadFrom : ℕ → List Step → Option ℕ
+firstBadFrom i [] = none
+firstBadFrom i (s ∷ ss) = cond (goodStep s) (firstBadFrom (suc i) ss) (some i)

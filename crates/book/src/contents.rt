@@ -7,42 +7,42 @@ use dpa::number::word_of;
 ghost use mathlib.Core.Path.{_≡_};
 ghost use Prim.Native.Nat.{_+_, _*_, _≤_, _<_};
 ghost use lib.ListN.{length};
-ghost use Rattle.book.specs.Book.{scenesMax, contentLength, countOf, contentsOf, chained, bookOk};
-ghost use Rattle.book.specs.Run.{contentAt};
+ghost use Rattle.book.specs.Book.{scenesMax, locationLength, countOf, sceneLocations, chained, bookOk};
+ghost use Rattle.book.specs.Run.{locationAt};
 
 pub const SCENES_MAX: usize = 16;
 
 // The bytes of a contents entry.
-pub const CONTENT_LENGTH: usize = 3;
+pub const LOCATION_LENGTH: usize = 3;
 
 // Where a scene's body starts, and how many steps it has.
-pub struct Content {
+pub struct SceneLocation {
     pub offset: usize,
     pub steps: usize,
 }
 
-pub fn content_at(book: &[u8], scene: usize) -> Content
-    requires { ⌜ (1 + contentLength * scene + contentLength ≤ length (now book)) × (scene ≤ scenesMax) ⌝ }
-    ensures { λ r. ⌜ (r ≡ contentAt (now (book .entry)) scene) × (r .steps < 256) × (r .offset < 65536) ⌝ }
+pub fn scene_location(book: &[u8], scene: usize) -> SceneLocation
+    requires { ⌜ (1 + locationLength * scene + locationLength ≤ length (now book)) × (scene ≤ scenesMax) ⌝ }
+    ensures { λ r. ⌜ (r ≡ locationAt (now (book .entry)) scene) × (r .steps < 256) × (r .offset < 65536) ⌝ }
 {
-    Content {
+    SceneLocation {
         offset: wide_word(word_of(
-            book[CONTENT_LENGTH * scene + 1],
-            book[CONTENT_LENGTH * scene + 2],
+            book[LOCATION_LENGTH * scene + 1],
+            book[LOCATION_LENGTH * scene + 2],
         )),
-        steps: wide(book[CONTENT_LENGTH * scene + 3]),
+        steps: wide(book[LOCATION_LENGTH * scene + 3]),
     }
 }
 
 // Whether the bodies of the scenes follow one another up to the book's end.
 fn bodies_ok(book: &[u8], scenes: usize) -> bool
-    requires { ⌜ (1 + contentLength * scenes ≤ length (now book)) × (scenes ≤ scenesMax) × (scenes ≡ countOf (now book)) ⌝ }
-    ensures { λ r. ⌜ r ≡ chained (1 + contentLength * scenes) (contentsOf (now (book .entry))) (length (now (book .entry))) ⌝ }
+    requires { ⌜ (1 + locationLength * scenes ≤ length (now book)) × (scenes ≤ scenesMax) × (scenes ≡ countOf (now book)) ⌝ }
+    ensures { λ r. ⌜ r ≡ chained (1 + locationLength * scenes) (sceneLocations (now (book .entry))) (length (now (book .entry))) ⌝ }
 {
-    let mut start = 1 + CONTENT_LENGTH * scenes;
+    let mut start = 1 + LOCATION_LENGTH * scenes;
     let mut i: usize = 0;
     while i < scenes {
-        let content = content_at(book, i);
+        let content = scene_location(book, i);
         if content.offset != start {
             return false;
         }
@@ -65,7 +65,7 @@ pub fn book_ok(book: &[u8]) -> bool
     if SCENES_MAX < scenes {
         return false;
     }
-    if book.len() < 1 + CONTENT_LENGTH * scenes {
+    if book.len() < 1 + LOCATION_LENGTH * scenes {
         return false;
     }
     bodies_ok(book, scenes)

@@ -15,7 +15,7 @@ ghost use lib.Seq.{sets};
 ghost use Rattle.dpa.specs.Frame.{pdataMax};
 ghost use Rattle.batch.specs.Batch.{entryBytes};
 ghost use Rattle.book.specs.Book.{stepsMax, stepLength, stepsIn};
-ghost use Rattle.book.specs.Entry.{values, runData, pnumOf, pcmdOf, joinedItem};
+ghost use Rattle.book.specs.Entry.{values, groupData, pnumOf, pcmdOf, joinedItem};
 ghost use Rattle.book.specs.Run.{Writable, headBytes};
 
 // The values of `count` steps.
@@ -66,10 +66,10 @@ fn write_head(kind: u8, hwpid: u16, size: usize, out: &mut [u8], at: usize) -> u
 
 // The PData of an entry of `count` joined steps.
 fn write_pdata(body: &[u8], count: usize, out: &mut [u8], at: usize) -> usize
-    requires { ⌜ (stepLength * count ≤ length (now body)) × (0 < count) × (count ≤ stepsMax) × (at + length (runData (stepsIn count (now body))) ≤ length (now out))
+    requires { ⌜ (stepLength * count ≤ length (now body)) × (0 < count) × (count ≤ stepsMax) × (at + length (groupData (stepsIn count (now body))) ≤ length (now out))
         × Writable (now body) count ⌝ }
-    ensures { λ r. ⌜ (r ≡ at + length (runData (stepsIn count (now (body .entry)))))
-        × (now (out .exit) ≡ sets (now (out .entry)) at (runData (stepsIn count (now (body .entry))))) ⌝ }
+    ensures { λ r. ⌜ (r ≡ at + length (groupData (stepsIn count (now (body .entry)))))
+        × (now (out .exit) ≡ sets (now (out .entry)) at (groupData (stepsIn count (now (body .entry))))) ⌝ }
 {
     let step = step_at(body, 0);
     let kind = step.kind;
@@ -92,7 +92,7 @@ fn write_entry(
     at: usize,
 ) -> usize
     requires { ⌜ (stepLength * count ≤ length (now body)) × (0 < count) × (count ≤ stepsMax) × (size ≤ pdataMax)
-        × (size ≡ length (runData (stepsIn count (now body)))) × (at + 5 + size ≤ length (now out)) × Writable (now body) count ⌝ }
+        × (size ≡ length (groupData (stepsIn count (now body)))) × (at + 5 + size ≤ length (now out)) × Writable (now body) count ⌝ }
     ensures { λ r. ⌜ (r ≡ at + 5 + size)
         × (now (out .exit) ≡ sets (now (out .entry)) at (entryBytes (joinedItem hwpid (stepsIn count (now (body .entry)))))) ⌝ }
 {
@@ -112,7 +112,7 @@ pub fn write_entry_at(
     at: usize,
 ) -> usize
     requires { ⌜ (stepLength * (done + taken) ≤ length (now body)) × (0 < taken) × (done + taken ≤ stepsMax) × (size ≤ pdataMax)
-        × (size ≡ length (runData (stepsIn taken (drop (stepLength * done) (now body))))) × (at + 5 + size ≤ length (now out))
+        × (size ≡ length (groupData (stepsIn taken (drop (stepLength * done) (now body))))) × (at + 5 + size ≤ length (now out))
         × Writable (drop (stepLength * done) (now body)) taken ⌝ }
     ensures { λ r. ⌜ (r ≡ at + 5 + size)
         × (now (out .exit) ≡ sets (now (out .entry)) at (entryBytes (joinedItem hwpid (stepsIn taken (drop (stepLength * done) (now (body .entry))))))) ⌝ }

@@ -9,7 +9,7 @@ ghost use Prim.Native.Nat.{_+_, _*_, _-_, _≤_, _<_};
 ghost use lib.ListN.{length, drop};
 ghost use Rattle.book.specs.Book.{stepsMax, stepLength, stepsIn};
 ghost use Rattle.book.specs.Join.{follows};
-ghost use Rattle.book.specs.Run.{EntryLimit, stepAt, stepSize, firstSize, joinedSize, FirstRun};
+ghost use Rattle.book.specs.Run.{EntryLimit, stepAt, stepSize, firstSize, joinedSize, FirstEntry};
 
 // Whether a step may join an entry whose last step is `before`.
 fn may_follow(before: Step, step: Step) -> bool
@@ -70,9 +70,9 @@ pub struct Run {
 }
 
 // The first entry of a scene, with at most `most` bytes of PData.
-pub fn run_of(body: &[u8], count: usize, most: usize) -> Run
+pub fn first_entry(body: &[u8], count: usize, most: usize) -> Run
     requires { ⌜ (stepLength * count ≤ length (now body)) × (0 < count) × (count ≤ stepsMax) × EntryLimit most ⌝ }
-    ensures { λ r. ⌜ FirstRun most (stepsIn count (now (body .entry))) (r .steps) (r .size) ⌝ }
+    ensures { λ r. ⌜ FirstEntry most (stepsIn count (now (body .entry))) (r .steps) (r .size) ⌝ }
 {
     let first = step_at(body, 0);
     let kind = first.kind;
@@ -90,10 +90,10 @@ pub fn run_of(body: &[u8], count: usize, most: usize) -> Run
 }
 
 // The entry that begins at step `done`.
-pub fn run_from(body: &[u8], count: usize, done: usize, most: usize) -> Run
+pub fn entry_from(body: &[u8], count: usize, done: usize, most: usize) -> Run
     requires { ⌜ (stepLength * count ≤ length (now body)) × (done < count) × (count ≤ stepsMax) × EntryLimit most ⌝ }
-    ensures { λ r. ⌜ FirstRun most (drop done (stepsIn count (now (body .entry)))) (r .steps) (r .size) ⌝ }
+    ensures { λ r. ⌜ FirstEntry most (drop done (stepsIn count (now (body .entry)))) (r .steps) (r .size) ⌝ }
 {
     let from = STEP_LENGTH * done;
-    run_of(&body[from..], count - done, most)
+    first_entry(&body[from..], count - done, most)
 }

@@ -14,7 +14,7 @@ ghost use lib.ListN.{length};
 ghost use lib.Dec.{ltb};
 ghost use Rattle.memory.specs.Block.{sizeOf};
 ghost use Rattle.book.specs.Book.{stepsMax, stepLength, stepsIn};
-ghost use Rattle.book.specs.Step.{lampFault, byteFault, stepFault, badFrom};
+ghost use Rattle.book.specs.Step.{lampFault, byteFault, stepFault, firstBadFrom};
 ghost use Rattle.book.specs.Run.{stepAt};
 
 // The steps that a scene has at most.
@@ -91,9 +91,9 @@ pub fn step_fault(step: Step) -> u8
 }
 
 // The number of the first bad step, or `count`.
-pub fn first_bad(body: &[u8], count: usize) -> usize
+pub fn first_bad_step(body: &[u8], count: usize) -> usize
     requires { ⌜ (stepLength * count ≤ length (now body)) × (count ≤ stepsMax) ⌝ }
-    ensures { λ r. ⌜ (r ≤ count) × (badFrom 0 (stepsIn count (now (body .entry))) ≡ cond (ltb r count) (some r) none) ⌝ }
+    ensures { λ r. ⌜ (r ≤ count) × (firstBadFrom 0 (stepsIn count (now (body .entry))) ≡ cond (ltb r count) (some r) none) ⌝ }
 {
     let mut i: usize = 0;
     while i < count {

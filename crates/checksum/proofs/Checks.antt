@@ -7,13 +7,13 @@ use native.Mathlib.Omega.{arith}
 use lib.Dec.{eqb, leb, ltb}
 use lib.ListN.{length, take, drop, getD, set}
 use borrow.Author.Tests.{lt-ltb, le-ltb, lt-leb, eq-eqb, ne-eqb, ltb-false, eqb-false}
-use Rattle.dpa.specs.Served.{Served, refused, laid, layOut}
+use Rattle.dpa.specs.Reply.{Reply, refused, replySeen, replyInBuffer}
 use Rattle.dpa.proofs.Bool.{by-cond, first-taken, second-taken}
 use Rattle.dpa.proofs.Lists.{set-first}
 use Rattle.checksum.specs.declared.sums.Sums.{Sums}
 use Rattle.checksum.specs.Sums.{sums, start, checksum}
 use Rattle.checksum.specs.declared.check.Image.{Image}
-use Rattle.checksum.specs.Check.{externalSize, imageOf, unitOf, firstOf, imageError, imageMatches, answered, codeCheck}
+use Rattle.checksum.specs.Check.{externalSize, imageOf, blockSize, initialLow, imageError, imageMatches, answered, codeCheck}
 
 -- the error, by the tests on the way
 module _ (i : Image) (f : i .flags < 4) (n : ℕ) (en : n ≡ i .length) where
@@ -21,7 +21,7 @@ module _ (i : Image) (f : i .flags < 4) (n : ℕ) (en : n ≡ i .length) where
   unfolding imageError
   no-bytes h = simp (lt-leb 4 (i .flags) f, ← en, eq-eqb n 0 h)
 
-  module _ (h : n ≡ 0 → ⊥) (u : ℕ) (eu : u ≡ unitOf (i .flags)) where
+  module _ (h : n ≡ 0 → ⊥) (u : ℕ) (eu : u ≡ blockSize (i .flags)) where
     pub no-multiple : (n % u ≡ 0 → ⊥) → 6 ≡ imageError i
     unfolding imageError
     no-multiple k = simp (lt-leb 4 (i .flags) f, ← en, ne-eqb n 0 h, ← eu, ne-eqb (n % u) 0 k)
@@ -41,12 +41,12 @@ unfolding imageError
 image-fits i e =
     let a = second-taken (leb 4 (i .flags)) 1 _ 0 (λ q. omega arith) e in
     let b = second-taken (eqb (i .length) 0) 6 _ 0 (λ q. omega arith) (a .1) in
-    let d = first-taken (eqb (i .length % unitOf (i .flags)) 0) _ 6 0 (λ q. omega arith) (b .1) in
+    let d = first-taken (eqb (i .length % blockSize (i .flags)) 0) _ 6 0 (λ q. omega arith) (b .1) in
     let g = second-taken (ltb externalSize (i .address + i .length)) 4 0 0 (λ q. omega arith) (d .1) in
     ltb-false _ _ (g .0)
 
 -- the word that was computed, held against the one that was sent
-pub image-compared : (x : List ℕ) (i : Image) (s : Sums) (a n f w : ℕ) → a ≡ i .address → n ≡ i .length → f ≡ firstOf (i .flags)
+pub image-compared : (x : List ℕ) (i : Image) (s : Sums) (a n f w : ℕ) → a ≡ i .address → n ≡ i .length → f ≡ initialLow (i .flags)
     → s ≡ sums (start f) (take (a + n - a) (drop a x)) → w ≡ checksum s → eqb w (i .sum) ≡ imageMatches x i
 unfolding imageMatches
 image-compared x i s a n f w ea en ef es ew =
@@ -70,14 +70,14 @@ module _ (x p : List ℕ) where
 
   -- a match and none, as they stand in the buffer
   module _ (out : List ℕ) (i : Image) (l : length p ≡ 7) (o : 0 < length out) (e : i ≡ imageOf p) (z : imageError i ≡ 0) where
-    pub check-match : imageMatches x i ≡ true → laid (eqb (i .flags % 2) 1) 0 1 (set out 0 1) ≡ layOut (codeCheck x p) out
+    pub check-match : imageMatches x i ≡ true → replySeen (eqb (i .flags % 2) 1) 0 1 (set out 0 1) ≡ replyInBuffer (codeCheck x p) out
     check-match m = rw (check-answered l (ap imageError (sym e) ∙ z), ap (imageMatches x) (sym e) ∙ m, set-first out 1 o, e)
 
-    pub check-other : imageMatches x i ≡ false → laid false 0 1 (set out 0 0) ≡ layOut (codeCheck x p) out
+    pub check-other : imageMatches x i ≡ false → replySeen false 0 1 (set out 0 0) ≡ replyInBuffer (codeCheck x p) out
     check-other m = rw (check-answered l (ap imageError (sym e) ∙ z), ap (imageMatches x) (sym e) ∙ m, set-first out 0 o)
 
   -- what holds of every error and of every answer holds of a check
-  pub check-cases : (P : Served Bool → Type 0) → ((e : ℕ) → (e ≡ 0 → ⊥) → P (refused false e)) → ((b : Bool) → P (answered b (imageOf p))) → P (codeCheck x p)
+  pub check-cases : (P : Reply Bool → Type 0) → ((e : ℕ) → (e ≡ 0 → ⊥) → P (refused false e)) → ((b : Bool) → P (answered b (imageOf p))) → P (codeCheck x p)
   unfolding codeCheck
   check-cases P errors answers =
       by-cond P (eqb (length p) 7) _ _
@@ -87,17 +87,17 @@ module _ (x p : List ℕ) where
   -- an error sets no mark and answers no data
   pub check-harmless : (codeCheck x p .error ≡ 0 → ⊥) → (codeCheck x p .after ≡ false) × (codeCheck x p .bytes ≡ [])
   check-harmless =
-      check-cases (λ (a : Served Bool). (a .error ≡ 0 → ⊥) → (a .after ≡ false) × (a .bytes ≡ []))
+      check-cases (λ (a : Reply Bool). (a .error ≡ 0 → ⊥) → (a .after ≡ false) × (a .bytes ≡ []))
       (λ e n h. (refl, refl)) (λ b h. absurd (h refl))
 
   -- an answer is one byte at most
   pub check-max : length (codeCheck x p .bytes) ≤ 1
-  check-max = check-cases (λ (a : Served Bool). length (a .bytes) ≤ 1) (λ e n. omega arith) (λ b. omega arith)
+  check-max = check-cases (λ (a : Reply Bool). length (a .bytes) ≤ 1) (λ e n. omega arith) (λ b. omega arith)
 
   -- the load mark stands exactly on a match with flag bit 0
   pub load-exactly : codeCheck x p .after ≡ (eqb (getD (codeCheck x p .bytes) 0 0) 1 && eqb (getD p 0 0 % 2) 1)
   load-exactly =
-      check-cases (λ (a : Served Bool). a .after ≡ (eqb (getD (a .bytes) 0 0) 1 && eqb (getD p 0 0 % 2) 1))
+      check-cases (λ (a : Reply Bool). a .after ≡ (eqb (getD (a .bytes) 0 0) 1 && eqb (getD p 0 0 % 2) 1))
       (λ e n. refl) answer
     where
       answer : (b : Bool) → (b && eqb (getD p 0 0 % 2) 1) ≡ (eqb (getD (cond b 1 0 ∷ []) 0 0) 1 && eqb (getD p 0 0 % 2) 1)

@@ -4,16 +4,16 @@ use mathlib.Core.List.{List, [], _∷_, _++_}
 use mathlib.Core.Bool.{true, false}
 use Prim.Native.Nat.{ℕ}
 use lib.ListN.{replicate}
-use Rattle.dpa.specs.Served.{served}
-use Rattle.checksum.specs.Sums.{around, addByte, sums}
-use Rattle.checksum.specs.Check.{unitOf, firstOf, imageError, imageMatches, codeCheck}
+use Rattle.dpa.specs.Reply.{reply}
+use Rattle.checksum.specs.Sums.{addWithCarry, addByte, sums}
+use Rattle.checksum.specs.Check.{blockSize, initialLow, imageError, imageMatches, codeCheck}
 
 -- 64 zeros at the front of external memory, checked with the load flag, without it, and against another checksum
 pub record Checks (rest : List ℕ) : Type 0 where
-  pub load : codeCheck (replicate 64 0 ++ rest) (1 ∷ 0 ∷ 0 ∷ 64 ∷ 0 ∷ 0x01 ∷ 0x40 ∷ []) ≡ served true 0 (1 ∷ [])
-  pub check : codeCheck (replicate 64 0 ++ rest) (0 ∷ 0 ∷ 0 ∷ 64 ∷ 0 ∷ 0x01 ∷ 0x40 ∷ []) ≡ served false 0 (1 ∷ [])
-  pub other : codeCheck (replicate 64 0 ++ rest) (1 ∷ 0 ∷ 0 ∷ 64 ∷ 0 ∷ 0x02 ∷ 0x40 ∷ []) ≡ served false 0 (0 ∷ [])
+  pub load : codeCheck (replicate 64 0 ++ rest) (1 ∷ 0 ∷ 0 ∷ 64 ∷ 0 ∷ 0x01 ∷ 0x40 ∷ []) ≡ reply true 0 (1 ∷ [])
+  pub check : codeCheck (replicate 64 0 ++ rest) (0 ∷ 0 ∷ 0 ∷ 64 ∷ 0 ∷ 0x01 ∷ 0x40 ∷ []) ≡ reply false 0 (1 ∷ [])
+  pub other : codeCheck (replicate 64 0 ++ rest) (1 ∷ 0 ∷ 0 ∷ 64 ∷ 0 ∷ 0x02 ∷ 0x40 ∷ []) ≡ reply false 0 (0 ∷ [])
 
 pub checks : (rest : List ℕ) → Checks rest
-unfolding around addByte sums unitOf firstOf imageError imageMatches codeCheck
+unfolding addWithCarry addByte sums blockSize initialLow imageError imageMatches codeCheck
 checks rest = record { load = refl; check = refl; other = refl }

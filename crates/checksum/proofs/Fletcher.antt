@@ -10,19 +10,19 @@ use lib.Seq.{drop-cons, drop-drop}
 use borrow.Author.Tests.{lt-ltb, le-ltb, ltb-true, ltb-false}
 use Rattle.dpa.proofs.Bool.{by-cond}
 use Rattle.checksum.specs.declared.sums.Sums.{Sums}
-use Rattle.checksum.specs.Sums.{byteMax, around, addByte, sums}
+use Rattle.checksum.specs.Sums.{byteMax, addWithCarry, addByte, sums}
 
 -- a wrapped sum below its first term has passed 255
-pub carried : (a b s : ℕ) → a < 256 → b < 256 → s ≡ (a + b) % 2 ^ 8 → s < a → (s + 1) % 2 ^ 8 ≡ around a b
-unfolding around
+pub carried : (a b s : ℕ) → a < 256 → b < 256 → s ≡ (a + b) % 2 ^ 8 → s < a → (s + 1) % 2 ^ 8 ≡ addWithCarry a b
+unfolding addWithCarry
 carried a b s ha hb e h = let k : byteMax < a + b = omega arith in simp (lt-ltb byteMax (a + b) k) (omega arith)
 
-pub plain : (a b s : ℕ) → a < 256 → b < 256 → s ≡ (a + b) % 2 ^ 8 → a ≤ s → s ≡ around a b
-unfolding around
+pub plain : (a b s : ℕ) → a < 256 → b < 256 → s ≡ (a + b) % 2 ^ 8 → a ≤ s → s ≡ addWithCarry a b
+unfolding addWithCarry
 plain a b s ha hb e h = let k : a + b ≤ byteMax = omega arith in simp (le-ltb byteMax (a + b) k) (omega arith)
 
 -- low plus byte, then high plus low
-pub byte-added : (s : Sums) (b low high : ℕ) → low ≡ around (s .low) b → high ≡ around (s .high) low
+pub byte-added : (s : Sums) (b low high : ℕ) → low ≡ addWithCarry (s .low) b → high ≡ addWithCarry (s .high) low
     → _≡_ {A = Sums} (record { low = low; high = high }) (addByte s b)
 unfolding addByte
 byte-added s b low high l h = rw (h, l)
@@ -54,18 +54,18 @@ unfolding sums
 sums-done block s i h = rw (drop-of-length-le block {i = i} h)
 
 -- a byte sum is a byte
-pub around-byte : (a b : ℕ) → a < 256 → b < 256 → around a b < 256
-unfolding around
+pub around-byte : (a b : ℕ) → a < 256 → b < 256 → addWithCarry a b < 256
+unfolding addWithCarry
 around-byte a b ha hb = by-cond (λ (n : ℕ). n < 256) (ltb byteMax (a + b)) _ _ (λ q. omega arith) (λ q. let k : a + b ≤ byteMax = ltb-false byteMax (a + b) q in omega arith)
 
 -- a byte sum has the remainder by 255 of the plain sum, but it is 0 only where both terms are
-pub around-remainder : (a b : ℕ) → a < 256 → b < 256 → around a b % byteMax ≡ (a + b) % byteMax
-unfolding around
+pub around-remainder : (a b : ℕ) → a < 256 → b < 256 → addWithCarry a b % byteMax ≡ (a + b) % byteMax
+unfolding addWithCarry
 around-remainder a b ha hb =
     by-cond (λ (n : ℕ). n % byteMax ≡ (a + b) % byteMax) (ltb byteMax (a + b)) _ _
     (λ q. let k : byteMax < a + b = ltb-true byteMax (a + b) q in omega arith)
     (λ q. refl)
 
-pub around-zero : (a b : ℕ) → around a b ≡ 0 → a + b ≡ 0
-unfolding around
+pub around-zero : (a b : ℕ) → addWithCarry a b ≡ 0 → a + b ≡ 0
+unfolding addWithCarry
 around-zero a b = by-cond (λ (n : ℕ). n ≡ 0 → a + b ≡ 0) (ltb byteMax (a + b)) _ _ (λ q e. absurd (omega arith)) (λ q e. e)

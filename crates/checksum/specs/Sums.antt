@@ -11,12 +11,12 @@ abbrev pub byteMax : ℕ
 byteMax = 255
 
 -- a byte sum, and where it passed 255 one is added: a + b less 256, plus 1
-unfoldable pub around : ℕ → ℕ → ℕ
-around a b = cond (ltb byteMax (a + b)) (a + b - 256 + 1) (a + b)
+unfoldable pub addWithCarry : ℕ → ℕ → ℕ
+addWithCarry a b = cond (ltb byteMax (a + b)) (a + b - 256 + 1) (a + b)
 
 -- for a byte: low plus byte, then high plus low
 unfoldable pub addByte : Sums → ℕ → Sums
-addByte s b = record { low = around (s .low) b; high = around (s .high) (around (s .low) b) }
+addByte s b = record { low = addWithCarry (s .low) b; high = addWithCarry (s .high) (addWithCarry (s .low) b) }
 
 unfoldable pub sums : Sums → List ℕ → Sums
 sums s [] = s

@@ -6,14 +6,14 @@ ghost use mathlib.Core.Path.{_≡_};
 ghost use Prim.Native.Nat.{_≤_};
 ghost use lib.ListN.{length};
 ghost use Rattle.dpa.specs.Frame.{pdataMax};
-ghost use Rattle.dpa.specs.Served.{laid, layOut};
-ghost use Rattle.checksum.specs.Check.{externalSize, unitOf, firstOf, imageOf, imageError, imageMatches, codeCheck};
+ghost use Rattle.dpa.specs.Reply.{replySeen, replyInBuffer};
+ghost use Rattle.checksum.specs.Check.{externalSize, blockSize, initialLow, imageOf, imageError, imageMatches, codeCheck};
 
 // Bytes of external memory.
 const EXTERNAL_SIZE: usize = 16384;
 
 // What a code check tells of its answer, and whether the image is to be loaded.
-pub struct Checked {
+pub struct CheckReply {
     pub error: u8,
     pub length: usize,
     pub load: bool,
@@ -28,8 +28,8 @@ pub struct Image {
 }
 
 // An image's length is a multiple of this: by flag bit 1, 64 or 20.
-fn unit_of(flags: u8) -> usize
-    ensures { λ r. ⌜ (r ≡ unitOf flags) × (1 ≤ r) ⌝ }
+fn block_size(flags: u8) -> usize
+    ensures { λ r. ⌜ (r ≡ blockSize flags) × (1 ≤ r) ⌝ }
 {
     if flags / 2 % 2 == 0 {
         return 64;
@@ -38,8 +38,8 @@ fn unit_of(flags: u8) -> usize
 }
 
 // What the low sum starts at.
-fn first_of(flags: u8) -> u8
-    ensures { λ r. ⌜ r ≡ firstOf flags ⌝ }
+fn initial_low(flags: u8) -> u8
+    ensures { λ r. ⌜ r ≡ initialLow flags ⌝ }
 {
     if flags / 2 % 2 == 0 {
         return 1;
@@ -71,7 +71,7 @@ fn image_error(image: Image) -> u8
     if count == 0 {
         return dpa::error::DATA;
     }
-    if count % unit_of(image.flags) != 0 {
+    if count % block_size(image.flags) != 0 {
         return dpa::error::DATA;
     }
     if EXTERNAL_SIZE < wide_word(image.address) + count {
@@ -89,20 +89,20 @@ fn image_matches(external: &[u8], image: Image) -> bool
     let end = address + wide_word(image.length);
     let s = image_sums(
         &external[address..end],
-        first_of(image.flags),
-        unit_of(image.flags),
+        initial_low(image.flags),
+        block_size(image.flags),
     );
     word_of(s.low, s.high) == image.sum
 }
 
 // The request. Its answer is one byte at the front of out; an error writes nothing.
-pub fn code_check(external: &[u8], pdata: &[u8], out: &mut [u8]) -> Checked
+pub fn code_check(external: &[u8], pdata: &[u8], out: &mut [u8]) -> CheckReply
     requires { ⌜ (length (now external) ≡ externalSize) × (pdataMax ≤ length (now out)) ⌝ }
-    ensures { λ r. ⌜ laid (r .load) (r .error) (r .length) (now (out .exit))
-        ≡ layOut (codeCheck (now (external .entry)) (now (pdata .entry))) (now (out .entry)) ⌝ }
+    ensures { λ r. ⌜ replySeen (r .load) (r .error) (r .length) (now (out .exit))
+        ≡ replyInBuffer (codeCheck (now (external .entry)) (now (pdata .entry))) (now (out .entry)) ⌝ }
 {
     if pdata.len() != 7 {
-        return Checked {
+        return CheckReply {
             error: dpa::error::DATA_LEN,
             length: 0,
             load: false,
@@ -111,7 +111,7 @@ pub fn code_check(external: &[u8], pdata: &[u8], out: &mut [u8]) -> Checked
     let image = read_image(pdata);
     let error = image_error(image);
     if error != 0 {
-        return Checked {
+        return CheckReply {
             error,
             length: 0,
             load: false,
@@ -119,14 +119,14 @@ pub fn code_check(external: &[u8], pdata: &[u8], out: &mut [u8]) -> Checked
     }
     if image_matches(external, image) {
         out[0] = 1;
-        return Checked {
+        return CheckReply {
             error: 0,
             length: 1,
             load: image.flags % 2 == 1,
         };
     }
     out[0] = 0;
-    Checked {
+    CheckReply {
         error: 0,
         length: 1,
         load: false,

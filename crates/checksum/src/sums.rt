@@ -2,7 +2,7 @@
 use std::num::wrapping_add_u8;
 ghost use mathlib.Core.Path.{_≡_};
 ghost use Prim.Native.Nat.{_≤_};
-ghost use Rattle.checksum.specs.Sums.{around, addByte, sums, start};
+ghost use Rattle.checksum.specs.Sums.{addWithCarry, addByte, sums, start};
 
 pub struct Sums {
     pub low: u8,
@@ -10,8 +10,8 @@ pub struct Sums {
 }
 
 // A byte sum; where it passed 255, one is added.
-fn around(a: u8, b: u8) -> u8
-    ensures { λ r. ⌜ r ≡ around a b ⌝ }
+fn add_with_carry(a: u8, b: u8) -> u8
+    ensures { λ r. ⌜ r ≡ addWithCarry a b ⌝ }
 {
     let sum = wrapping_add_u8(a, b);
     if sum < a {
@@ -35,8 +35,8 @@ impl Sums {
     pub fn add_byte(self, byte: u8) -> Sums
         ensures { λ r. ⌜ r ≡ addByte self byte ⌝ }
     {
-        let low = around(self.low, byte);
-        let high = around(self.high, low);
+        let low = add_with_carry(self.low, byte);
+        let high = add_with_carry(self.high, low);
         Sums { low, high }
     }
 
@@ -54,7 +54,7 @@ impl Sums {
     }
 }
 
-fn least(a: usize, b: usize) -> usize
+fn smaller(a: usize, b: usize) -> usize
     ensures { λ r. ⌜ (r ≤ a) × (r ≤ b) × (1 ≤ a → 1 ≤ b → 1 ≤ r) ⌝ }
 {
     if a < b {
@@ -71,7 +71,7 @@ pub fn image_sums(image: &[u8], first: u8, unit: usize) -> Sums
     let mut s = Sums::start(first);
     let mut at: usize = 0;
     while at < image.len() {
-        let end = at + least(unit, image.len() - at);
+        let end = at + smaller(unit, image.len() - at);
         s = s.add_block(&image[at..end]);
         at = end;
     }

@@ -3,4 +3,6 @@ pub mod Lists
 pub mod Numbers
 pub mod Ranges
 pub mod Headers
-pub mod Serving
+pub mod Replies
+pub mod All
+pub mod Bytes

@@ -6,20 +6,20 @@ use native.Mathlib.Omega.{arith}
 use lib.ListN.{length, take, drop, set, length-append, length-drop, take-append-drop, drop-of-length-le}
 use lib.Seq.{sets, sets-eq, take-all, drop-at, drop-drop, drop-set-lt, length-take-le}
 use borrow.Rule.Slice.PartMut.{midOf, postOf, putMid}
-use Rattle.dpa.specs.Lists.{over}
+use Rattle.dpa.specs.Lists.{overwriteFront}
 
 -- a part up to the end
 pub to-end : {A : Type 0} (a : ℕ) (s : List A) → take (length s - a) (drop a s) ≡ drop a s
 to-end a s = take-all (length s - a) (drop a s) (simp length-drop (omega arith))
 
 -- stores at the front of a buffer
-pub front : (vs l : List ℕ) → length vs ≤ length l → sets l 0 vs ≡ over vs l
+pub front : (vs l : List ℕ) → length vs ≤ length l → sets l 0 vs ≡ overwriteFront vs l
 front vs l h = rw (sets-eq vs l 0 (omega arith), zero-add)
   where
     zero-add : (n : ℕ) → 0 + n ≡ n
     zero-add n = omega arith
 
-pub set-first : (xs : List ℕ) (v : ℕ) → 0 < length xs → set xs 0 v ≡ over (v ∷ []) xs
+pub set-first : (xs : List ℕ) (v : ℕ) → 0 < length xs → set xs 0 v ≡ overwriteFront (v ∷ []) xs
 set-first [] v h = absurd (omega arith)
 set-first (x ∷ xs) v h = refl
 
@@ -34,8 +34,8 @@ kept-more out old k r e =
     drop-set-lt (k + 1) out k r u ∙ kept-next out old k e
 
 -- a buffer whose first k bytes are xs and whose later ones stayed
-pub over-done : (xs out old : List ℕ) (k : ℕ) → k ≤ length out → xs ≡ take k out → drop k out ≡ drop k old → out ≡ over xs old
-over-done xs out old k h e d = rw (e, length-take-le k out h, ← d) (sym (take-append-drop k out))
+pub front-written : (xs out old : List ℕ) (k : ℕ) → k ≤ length out → xs ≡ take k out → drop k out ≡ drop k old → out ≡ overwriteFront xs old
+front-written xs out old k h e d = rw (e, length-take-le k out h, ← d) (sym (take-append-drop k out))
 
 -- the rear part of a buffer as it is lent on, and as it comes back
 pub rear-lent : (a : ℕ) (xs : List ℕ) → midOf a (length xs - a) xs ≡ drop a xs
@@ -48,5 +48,5 @@ rear-back a xs ys h =
     ∙ ap (λ (z : List ℕ). ys ++ z) (drop-of-length-le (drop a xs) j) ∙ append-nil ys
 
 -- a header in front of data that was written into the rear part
-pub header-over : (h d o : List ℕ) → over (h ++ d) o ≡ h ++ over d (drop (length h) o)
-header-over h d o = rw (append-assoc, length-append, drop-drop)
+pub header-written : (h d o : List ℕ) → overwriteFront (h ++ d) o ≡ h ++ overwriteFront d (drop (length h) o)
+header-written h d o = rw (append-assoc, length-append, drop-drop)

@@ -3,4 +3,4 @@ pub mod Lists
 pub mod Settings
 pub mod Frame
 pub mod Pnum
-pub mod Served
+pub mod Reply

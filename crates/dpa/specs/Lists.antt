@@ -1,16 +1,16 @@
 -- Lists of bytes, and tests over an index.
 use Prim.Native.Nat.{ℕ, zero, suc, _<_}
-use mathlib.Core.List.{List, _++_}
+use mathlib.Core.List.{List, [], _∷_, _++_}
 use mathlib.Core.Bool.{Bool, true, _&&_}
 use lib.ListN.{length, take, drop, getD}
 
 -- xs at the front of ys; the later bytes of ys stay
-abbrev pub over : List ℕ → List ℕ → List ℕ
-over xs ys = xs ++ drop (length xs) ys
+abbrev pub overwriteFront : List ℕ → List ℕ → List ℕ
+overwriteFront xs ys = xs ++ drop (length xs) ys
 
 -- n bytes of a list from a start
-abbrev pub part : List ℕ → ℕ → ℕ → List ℕ
-part xs start n = take n (drop start xs)
+abbrev pub slice : List ℕ → ℕ → ℕ → List ℕ
+slice xs start n = take n (drop start xs)
 
 -- every element is a byte
 abbrev pub Bytes : List ℕ → Type 0
@@ -20,3 +20,8 @@ Bytes s = (i : ℕ) → getD s i 0 < 256
 unfoldable pub allBelow : ℕ → (ℕ → Bool) → Bool
 allBelow zero f = true
 allBelow (suc n) f = allBelow n f && f n
+
+-- every element has P
+abbrev pub All : {A : Type 0} → (A → Type 0) → List A → Type 0
+All P [] = Unit
+All P (x ∷ xs) = P x × All P xs

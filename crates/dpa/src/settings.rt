@@ -5,6 +5,9 @@ ghost use Rattle.dpa.specs.Settings.{stepOk, settingsOk};
 // The largest address of a node.
 pub const LAST_ADDRESS: u16 = 239;
 
+// The most lamps that a node can have.
+pub const MAX_LAMPS: u8 = 32;
+
 #[repr(C)]
 pub struct Settings {
     pub address: u16,
@@ -36,7 +39,7 @@ pub fn settings_ok(settings: Settings) -> bool
     if settings.lamp_count < 1 {
         return false;
     }
-    if 32 < settings.lamp_count {
+    if MAX_LAMPS < settings.lamp_count {
         return false;
     }
     step_ok(settings.step)

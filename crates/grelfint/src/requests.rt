@@ -5,7 +5,7 @@ use memory::view::view_status;
 use node::record::Node;
 ghost use mathlib.Core.Path.{_≡_};
 ghost use Rattle.memory.specs.View.{viewStatus};
-ghost use Rattle.handler.specs.Request.{state, called, requestOf};
+ghost use Rattle.handler.specs.Request.{state, callResult, handleRequest};
 
 #[no_mangle]
 pub extern "C" fn grelfint_handle_request(
@@ -15,8 +15,8 @@ pub extern "C" fn grelfint_handle_request(
     external: &mut [u8],
     response: &mut [u8],
 ) -> RequestAnswer
-    ensures { λ r. ⌜ called r (now (eeprom .exit)) (now (external .exit)) (now (response .exit))
-        ≡ requestOf (now (frame .entry)) (state node (now (eeprom .entry)) (now (external .entry))) (now (response .entry)) ⌝ }
+    ensures { λ r. ⌜ callResult r (now (eeprom .exit)) (now (external .exit)) (now (response .exit))
+        ≡ handleRequest (now (frame .entry)) (state node (now (eeprom .entry)) (now (external .entry))) (now (response .entry)) ⌝ }
 {
     handle_request(node, frame, eeprom, external, response)
 }

@@ -5,7 +5,7 @@ use Prim.Native.Nat.{ℕ}
 use lib.Dec.{eqb}
 use lib.ListN.{length}
 use borrow.Author.Tests.{ne-eqb}
-use Rattle.dpa.specs.Served.{Served, Harmless, refused, within}
+use Rattle.dpa.specs.Reply.{Reply, Harmless, refused, mapState}
 use Rattle.dpa.proofs.Bool.{by-cond}
 use Rattle.memory.proofs.Requests.{request-harmless}
 use Rattle.lights.proofs.Requests as lights
@@ -13,43 +13,43 @@ use Rattle.checksum.specs.Check.{codeCheck}
 use Rattle.checksum.proofs.Checks.{check-harmless}
 use Rattle.batch.specs.Batch.{Item, reading, listError}
 use Rattle.node.specs.Node.{withLamps}
-use Rattle.handler.specs.Request.{State, nodeIs, memoryOf, withMemory, perform, forNode, entryOf, loadReport, noReport, Outcome, plain, batchOf, codeCheckOf, carryOut, itemOf, Called, silent, refusalOf, requestOf}
+use Rattle.handler.specs.Request.{State, withNode, memoryOf, withMemory, perform, hwpidMatches, executeEntry, loadReport, noReport, Outcome, plain, batchRequest, codeCheckRequest, execute, itemOf, CallResult, noResponse, refusalOf, handleRequest}
 use Rattle.handler.proofs.Performing.{memory-same, perform-cases}
-use Rattle.handler.proofs.Carrying.{os-cases, carry-cases}
-use Rattle.handler.proofs.Taking.{call-refused, call-cases}
+use Rattle.handler.proofs.Executing.{os-cases, execute-cases}
+use Rattle.handler.proofs.Handling.{call-refused, call-cases}
 
 -- seen on a larger state, a harmless request is harmless
-harmless-within : {S T : Type 0} (put : S → T) (s : S) (t : T) (a : Served S) → put s ≡ t → Harmless s a → Harmless t (within put a)
+harmless-within : {S T : Type 0} (put : S → T) (s : S) (t : T) (a : Reply S) → put s ≡ t → Harmless s a → Harmless t (mapState put a)
 harmless-within put s t a e h n = (ap put (h n .0) ∙ e, h n .1)
 
 -- a request to a peripheral that has an error changes nothing and has no data
 pub perform-harmless : (pnum pcmd : ℕ) (d : List ℕ) (st : State) → Harmless st (perform pnum pcmd d st)
 perform-harmless pnum pcmd d st =
-    perform-cases pnum pcmd d st (λ (a : Served State). Harmless st a)
+    perform-cases pnum pcmd d st (λ (a : Reply State). Harmless st a)
     (λ m. harmless-within (withMemory m st) (memoryOf m st) st _ (memory-same m st) (request-harmless m d (memoryOf m st) pcmd))
-    (harmless-within (λ ls. nodeIs st (withLamps (st .node) ls)) (st .node .lamps) st _ refl (lights.request-harmless (st .node .settings) d (st .node .lamps) pcmd))
+    (harmless-within (λ ls. withNode st (withLamps (st .node) ls)) (st .node .lamps) st _ refl (lights.request-harmless (st .node .settings) d (st .node .lamps) pcmd))
     (λ e n. (refl, refl))
 
 -- an entry of a batch that has an error changes nothing and has no data
-pub entry-harmless : (i : Item) (st : State) → Harmless st (entryOf i st)
-unfolding entryOf
+pub entry-harmless : (i : Item) (st : State) → Harmless st (executeEntry i st)
+unfolding executeEntry
 entry-harmless i st =
-    by-cond (λ (a : Served State). Harmless st a) (forNode (st .node .settings) (i .hwpid)) _ _
+    by-cond (λ (a : Reply State). Harmless st a) (hwpidMatches (st .node .settings) (i .hwpid)) _ _
     (λ _. perform-harmless (i .pnum) (i .pcmd) (i .pdata) st) (λ _ n. (refl, refl))
 
 -- a batch that cannot be read runs nothing
-pub batch-unread : (d : List ℕ) (st : State) → (listError (reading d .listed) ≡ 0 → ⊥) → (batchOf d st .after ≡ st) × (batchOf d st .entries ≡ [])
-unfolding batchOf
+pub batch-unread : (d : List ℕ) (st : State) → (listError (reading d .check) ≡ 0 → ⊥) → (batchRequest d st .after ≡ st) × (batchRequest d st .entries ≡ [])
+unfolding batchRequest
 batch-unread d st n =
     by-cond (λ (a : Outcome). (a .after ≡ st) × (a .entries ≡ [])) (eqb (length d) 0) _ _ (λ _. (refl, refl))
-    (λ _. rw (ne-eqb (listError (reading d .listed)) 0 n) (refl, refl))
+    (λ _. rw (ne-eqb (listError (reading d .check)) 0 n) (refl, refl))
 
 -- an outcome with an error: nothing changed, no data, no entry run, nothing to report
 abbrev Clean : State → Outcome → Type 0
 Clean st a = (a .error ≡ 0 → ⊥) → a ≡ plain (refused st (a .error))
 
-check-clean : (d : List ℕ) (st : State) → Clean st (codeCheckOf d st)
-unfolding codeCheckOf
+check-clean : (d : List ℕ) (st : State) → Clean st (codeCheckRequest d st)
+unfolding codeCheckRequest
 check-clean d st n =
     let h = check-harmless (st .external) d n in
     λ j. record { after = st; error = codeCheck (st .external) d .error; bytes = h .1 j; entries = []; report = loadReport (h .0 j) }
@@ -60,18 +60,18 @@ perform-clean pnum pcmd d st n =
     λ j. record { after = h .0 j; error = perform pnum pcmd d st .error; bytes = h .1 j; entries = []; report = noReport }
 
 -- a request with an error changes nothing, has no data, ran no entry and has nothing to report
-pub carry-harmless : (i : Item) (st : State) → (carryOut i st .error ≡ 0 → ⊥) → carryOut i st ≡ plain (refused st (carryOut i st .error))
-carry-harmless i st =
-    carry-cases (Clean st) st (λ e n. refl) i
+pub execute-harmless : (i : Item) (st : State) → (execute i st .error ≡ 0 → ⊥) → execute i st ≡ plain (refused st (execute i st .error))
+execute-harmless i st =
+    execute-cases (Clean st) st (λ e n. refl) i
     (os-cases (Clean st) st (λ e n. refl) (i .pcmd) (i .pdata) (λ n. absurd (n refl)) (check-clean (i .pdata) st))
     (perform-clean (i .pnum) (i .pcmd) (i .pdata) st)
 
 -- sent or not, a frame whose request has an error leaves the state as it was
-pub error-keeps : (f : List ℕ) (st : State) (o : List ℕ) → (carryOut (itemOf f) st .error ≡ 0 → ⊥) → requestOf f st o .after ≡ st
+pub error-keeps : (f : List ℕ) (st : State) (o : List ℕ) → (execute (itemOf f) st .error ≡ 0 → ⊥) → handleRequest f st o .after ≡ st
 error-keeps f st o n =
-    let e : carryOut (itemOf f) st .after ≡ st = ap (λ (a : Outcome). a .after) (carry-harmless (itemOf f) st n) in
-    call-cases (λ (a : Called). a .after ≡ st) f st o (λ k. refl) (λ _. e) (λ _. e)
+    let e : execute (itemOf f) st .after ≡ st = ap (λ (a : Outcome). a .after) (execute-harmless (itemOf f) st n) in
+    call-cases (λ (a : CallResult). a .after ≡ st) f st o (λ k. refl) (λ _. e) (λ _. e)
 
 -- a refused call hands everything back as it came
-pub refused-keeps : (f : List ℕ) (st : State) (o : List ℕ) → (refusalOf f st o ≡ 0 → ⊥) → requestOf f st o ≡ silent st (refusalOf f st o) o
+pub refused-keeps : (f : List ℕ) (st : State) (o : List ℕ) → (refusalOf f st o ≡ 0 → ⊥) → handleRequest f st o ≡ noResponse st (refusalOf f st o) o
 refused-keeps f st o n = sym (call-refused f st o refl n)

@@ -1,7 +1,7 @@
 pub mod Performing
 pub mod Entering
-pub mod Carrying
-pub mod Taking
+pub mod Executing
+pub mod Handling
 pub mod Soundness
 pub mod Listing
 pub mod Sizes

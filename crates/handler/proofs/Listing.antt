@@ -6,10 +6,10 @@ use Prim.Native.Nat.{ℕ, _+_, _-_, _≤_}
 use native.Mathlib.Omega.{arith}
 use lib.ListN.{length, take, drop, length-drop}
 use lib.Seq.{drop-drop}
-use Rattle.dpa.specs.Lists.{part}
+use Rattle.dpa.specs.Lists.{slice}
 use Rattle.dpa.proofs.Lists.{to-end}
-use Rattle.batch.specs.declared.entry.Next.the-variants.{Entry, Fault}
-use Rattle.batch.specs.Batch.{closing, nextOf, item, reading, runItems}
+use Rattle.batch.specs.declared.entry.NextEntry.the-variants.{Entry, Fault}
+use Rattle.batch.specs.Batch.{closing, nextEntry, item, reading, runItems}
 use Rattle.batch.proofs.Entries.{entry-sized}
 use Rattle.batch.proofs.Running.{items-closed, items-fault, items-more}
 use Rattle.handler.specs.Request.{State, StateRule, entryAfter}
@@ -36,32 +36,32 @@ module _ (list : List ℕ) (old : State) (at : ℕ) (st : State) (h : Running li
   tail-is = to-end at list
 
   -- an entry stands within the list
-  pub turn-sized : {l p c w : ℕ} → nextOf tail ≡ Entry l p c w → (5 ≤ l) × (at + l ≤ length list)
+  pub turn-sized : {l p c w : ℕ} → nextEntry tail ≡ Entry l p c w → (5 ≤ l) × (at + l ≤ length list)
   turn-sized e =
-      let z = entry-sized (drop at list) (ap nextOf (sym tail-is) ∙ e) in
+      let z = entry-sized (drop at list) (ap nextEntry (sym tail-is) ∙ e) in
       let n : length (drop at list) ≡ length list - at = length-drop at list in
       let k = h .place-max in
       (z .0, omega arith)
 
   -- an entry runs, and the place is after it
-  pub turn-runs : {l p c w : ℕ} {next : State} → nextOf tail ≡ Entry l p c w
+  pub turn-runs : {l p c w : ℕ} {next : State} → nextEntry tail ≡ Entry l p c w
       → next ≡ entryAfter (item p c w (take ((at + l) - (at + 5)) (drop (at + 5) list))) st
       → Running list old (at + l) next
   turn-runs {l} {p} {c} {w} {next} e q =
       let d : (at + l) - (at + 5) ≡ l - 5 = omega arith in
-      let i : take ((at + l) - (at + 5)) (drop (at + 5) list) ≡ part (drop at list) 5 (l - 5) = rw (d, drop-drop) refl in
+      let i : take ((at + l) - (at + 5)) (drop (at + 5) list) ≡ slice (drop at list) 5 (l - 5) = rw (d, drop-drop) refl in
       record {
         place-max = turn-sized e .1;
         sound = subst StateRule (sym q) (entry-sound (item p c w (take ((at + l) - (at + 5)) (drop (at + 5) list))) st (h .sound));
         rest =
             ap (λ (s : List ℕ). ranAt s next) (sym (drop-drop l at list) ∙ sym (to-end l (drop at list)))
-            ∙ items-more entryAfter (drop at list) st (ap nextOf (sym tail-is) ∙ e) (q ∙ ap (λ (s : List ℕ). entryAfter (item p c w s) st) i) refl
+            ∙ items-more entryAfter (drop at list) st (ap nextEntry (sym tail-is) ∙ e) (q ∙ ap (λ (s : List ℕ). entryAfter (item p c w s) st) i) refl
             ∙ h .rest;
       }
 
   -- where a fault stands, the run has ended
-  pub fault-ends : {k a : ℕ} → nextOf tail ≡ Fault k a → st ≡ ranAt list old
-  fault-ends e = items-fault entryAfter (drop at list) st (ap nextOf (sym tail-is) ∙ e) ∙ h .rest
+  pub fault-ends : {k a : ℕ} → nextEntry tail ≡ Fault k a → st ≡ ranAt list old
+  fault-ends e = items-fault entryAfter (drop at list) st (ap nextEntry (sym tail-is) ∙ e) ∙ h .rest
 
   -- and so at the closing zero
   pub run-ends : closing tail ≡ true → st ≡ ranAt list old

@@ -5,14 +5,14 @@ use Prim.Native.Nat.{ℕ}
 use lib.Dec.{eqb}
 use borrow.Author.Tests.{ne-eqb}
 use Rattle.dpa.specs.Pnum.{lightsPnum}
-use Rattle.dpa.specs.Served.{Served, laid, refused}
+use Rattle.dpa.specs.Reply.{Reply, replySeen, refused}
 use Rattle.dpa.proofs.Bool.{by-cond}
 use Rattle.memory.specs.declared.block.Memory.{Memory}
 use Rattle.memory.specs.declared.block.Memory.the-variants.{Eeprom, Ram, External}
 use Rattle.memory.specs.Block.{memoryPnum}
 use Rattle.lights.specs.declared.request.LampsReply.{LampsReply}
 use Rattle.node.specs.declared.record.ReadOnly.{ReadOnly}
-use Rattle.handler.specs.Request.{State, held, memoryOf, withMemory, onMemory, onLights, perform}
+use Rattle.handler.specs.Request.{State, stateFromParts, memoryOf, withMemory, onMemory, onLights, perform}
 
 module _ (pnum pcmd : ℕ) (d : List ℕ) (st : State) where
   -- by the PNUM of a memory
@@ -33,7 +33,7 @@ module _ (pnum pcmd : ℕ) (d : List ℕ) (st : State) where
   perform-unknown a b c e = simp (ne-eqb pnum 3 a, ne-eqb pnum 4 b, ne-eqb pnum 5 c, ne-eqb pnum 0x71 e)
 
   -- what holds of a request to each memory and to the lights, and of every error, holds of every PNUM
-  pub perform-cases : (P : Served State → Type 0) → ((m : Memory) → P (onMemory m pcmd d st)) → P (onLights pcmd d st)
+  pub perform-cases : (P : Reply State → Type 0) → ((m : Memory) → P (onMemory m pcmd d st)) → P (onLights pcmd d st)
       → ((e : ℕ) → P (refused st e)) → P (perform pnum pcmd d st)
   unfolding perform
   perform-cases P memory lights error =
@@ -49,6 +49,6 @@ memory-same Memory.Ram st = refl
 memory-same Memory.External st = refl
 
 -- what the code leaves
-pub laid-as : {k : ReadOnly} {a b : LampsReply} {r e x o : List ℕ} → a ≡ b
-    → laid (held k (a .lamps) r e x) (a .error) (a .length) o ≡ laid (held k (b .lamps) r e x) (b .error) (b .length) o
-laid-as {k} {a} {b} {r} {e} {x} {o} q = ap (λ (t : LampsReply). laid (held k (t .lamps) r e x) (t .error) (t .length) o) q
+pub reply-as : {k : ReadOnly} {a b : LampsReply} {r e x o : List ℕ} → a ≡ b
+    → replySeen (stateFromParts k (a .lamps) r e x) (a .error) (a .length) o ≡ replySeen (stateFromParts k (b .lamps) r e x) (b .error) (b .length) o
+reply-as {k} {a} {b} {r} {e} {x} {o} q = ap (λ (t : LampsReply). replySeen (stateFromParts k (t .lamps) r e x) (t .error) (t .length) o) q

@@ -3,17 +3,17 @@ use mathlib.Core.List.{List}
 use Prim.Native.Nat.{ℕ, _≤_}
 use native.Mathlib.Omega.{arith}
 use lib.ListN.{length}
-use Rattle.dpa.specs.Served.{Served}
+use Rattle.dpa.specs.Reply.{Reply}
 use Rattle.memory.proofs.Requests.{request-max}
 use Rattle.lights.proofs.Requests.{answer-max}
 use Rattle.batch.specs.Batch.{Item}
 use Rattle.checksum.proofs.Checks.{check-max}
 use Rattle.node.proofs.Nodes.{node-lamps}
-use Rattle.handler.specs.Request.{State, StateRule, memoryOf, perform, Outcome, codeCheckOf, carryOut}
+use Rattle.handler.specs.Request.{State, StateRule, memoryOf, perform, Outcome, codeCheckRequest, execute}
 use Rattle.handler.proofs.Performing.{perform-cases}
-use Rattle.handler.proofs.Carrying.{os-cases, carry-cases}
+use Rattle.handler.proofs.Executing.{os-cases, execute-cases}
 
-abbrev Short : Served State → Type 0
+abbrev Short : Reply State → Type 0
 Short a = length (a .bytes) ≤ 56
 
 abbrev Fits : Outcome → Type 0
@@ -26,9 +26,9 @@ perform-fits pnum pcmd d st h =
     (λ e. omega arith)
 
 -- the data of every request fits a response
-pub carry-fits : (i : Item) (st : State) → StateRule st → Fits (carryOut i st)
-unfolding codeCheckOf
-carry-fits i st h =
-    carry-cases Fits st (λ e. omega arith) i
+pub execute-fits : (i : Item) (st : State) → StateRule st → Fits (execute i st)
+unfolding codeCheckRequest
+execute-fits i st h =
+    execute-cases Fits st (λ e. omega arith) i
     (os-cases Fits st (λ e. omega arith) (i .pcmd) (i .pdata) (omega arith) (omega (arith, check-max (st .external) (i .pdata))))
     (perform-fits (i .pnum) (i .pcmd) (i .pdata) st h)

@@ -4,7 +4,7 @@ use mathlib.Core.List.{List}
 use mathlib.Core.Bool.{true}
 use Prim.Native.Nat.{ℕ}
 use lib.ListN.{length}
-use Rattle.dpa.specs.Served.{Served}
+use Rattle.dpa.specs.Reply.{Reply}
 use Rattle.dpa.proofs.Bool.{by-cond}
 use Rattle.memory.specs.declared.block.Memory.{Memory}
 use Rattle.memory.specs.Block.{sizeOf}
@@ -15,14 +15,14 @@ use Rattle.batch.proofs.Running.{items-keep}
 use Rattle.lights.specs.Lights.{lightsRequest}
 use Rattle.node.specs.declared.record.Node.{Node}
 use Rattle.node.specs.Node.{nodeOk, withLamps}
-use Rattle.handler.specs.Request.{State, StateRule, nodeIs, memoryOf, withMemory, perform, forNode, entryOf, entryAfter, Outcome, codeCheckOf, carryOut, itemOf, Called, refusalOf, requestOf}
+use Rattle.handler.specs.Request.{State, StateRule, withNode, memoryOf, withMemory, perform, hwpidMatches, executeEntry, entryAfter, Outcome, codeCheckRequest, execute, itemOf, CallResult, refusalOf, handleRequest}
 use Rattle.handler.proofs.Performing.{perform-cases}
-use Rattle.handler.proofs.Carrying.{os-cases, carry-cases}
-use Rattle.handler.proofs.Taking.{call-cases, taken-rule}
+use Rattle.handler.proofs.Executing.{os-cases, execute-cases}
+use Rattle.handler.proofs.Handling.{call-cases, accepted-rule}
 use Rattle.node.proofs.Nodes.{node-ram, ram-sound, lamps-sound, node-lamps, node-fits}
 
 -- a sound node in the place of another
-node-rule : (st : State) → StateRule st → {n : Node} → nodeOk n ≡ true → StateRule (nodeIs st n)
+node-rule : (st : State) → StateRule st → {n : Node} → nodeOk n ≡ true → StateRule (withNode st n)
 node-rule st h e = record { node-ok = e; eeprom-size = h .eeprom-size; external-size = h .external-size }
 
 -- other lamps of a sound node, by a lights request
@@ -31,7 +31,7 @@ lights-sound n pcmd d e =
     lamps-sound n (lightsRequest (n .settings) pcmd d (n .lamps) .after) e (lamps-stay (n .settings) d (n .lamps) pcmd ∙ node-lamps n e)
     (λ k h. request-keeps (n .settings) d (n .lamps) (node-lamps n e) pcmd k (node-fits n e k h))
 
-abbrev Kept : Served State → Type 0
+abbrev Kept : Reply State → Type 0
 Kept a = StateRule (a .after)
 
 abbrev RuleAfter : Outcome → Type 0
@@ -59,27 +59,27 @@ perform-sound pnum pcmd d st h =
 
 -- under an entry of a batch
 pub entry-sound : (i : Item) (st : State) → StateRule st → StateRule (entryAfter i st)
-unfolding entryOf
+unfolding executeEntry
 entry-sound i st h =
-    by-cond Kept (forNode (st .node .settings) (i .hwpid)) _ _ (λ _. perform-sound (i .pnum) (i .pcmd) (i .pdata) st h) (λ _. h)
+    by-cond Kept (hwpidMatches (st .node .settings) (i .hwpid)) _ _ (λ _. perform-sound (i .pnum) (i .pcmd) (i .pdata) st h) (λ _. h)
 
 -- under every request that is carried out
-pub carry-sound : (i : Item) (st : State) → StateRule st → RuleAfter (carryOut i st)
-unfolding codeCheckOf
-carry-sound i st h =
-    carry-cases RuleAfter st (λ e. h) i
+pub execute-sound : (i : Item) (st : State) → StateRule st → RuleAfter (execute i st)
+unfolding codeCheckRequest
+execute-sound i st h =
+    execute-cases RuleAfter st (λ e. h) i
     (os-cases RuleAfter st (λ e. h) (i .pcmd) (i .pdata) (items-keep entryAfter StateRule entry-sound (reading (i .pdata) .items) st h) h)
     (perform-sound (i .pnum) (i .pcmd) (i .pdata) st h)
 
 -- a sound node with memories of their sizes stays so under every call
-pub request-rule : (f : List ℕ) (st : State) (o : List ℕ) → StateRule st → StateRule (requestOf f st o .after)
+pub request-rule : (f : List ℕ) (st : State) (o : List ℕ) → StateRule st → StateRule (handleRequest f st o .after)
 request-rule f st o h =
-    let k = carry-sound (itemOf f) st h in
-    call-cases (λ (a : Called). StateRule (a .after)) f st o (λ _. h) (λ _. k) (λ _. k)
+    let k = execute-sound (itemOf f) st h in
+    call-cases (λ (a : CallResult). StateRule (a .after)) f st o (λ _. h) (λ _. k) (λ _. k)
 
 -- a sound node stays sound under every call, also where a memory has another size
-pub request-sound : (f : List ℕ) (st : State) (o : List ℕ) → nodeOk (st .node) ≡ true → nodeOk (requestOf f st o .after .node) ≡ true
+pub request-sound : (f : List ℕ) (st : State) (o : List ℕ) → nodeOk (st .node) ≡ true → nodeOk (handleRequest f st o .after .node) ≡ true
 request-sound f st o e =
-    let sound : refusalOf f st o ≡ 0 → nodeOk (carryOut (itemOf f) st .after .node) ≡ true =
-    λ z. carry-sound (itemOf f) st (taken-rule (st .node) (st .eeprom) (st .external) (length f) (length o) z) .node-ok in
-    call-cases (λ (a : Called). nodeOk (a .after .node) ≡ true) f st o (λ _. e) sound sound
+    let sound : refusalOf f st o ≡ 0 → nodeOk (execute (itemOf f) st .after .node) ≡ true =
+    λ z. execute-sound (itemOf f) st (accepted-rule (st .node) (st .eeprom) (st .external) (length f) (length o) z) .node-ok in
+    call-cases (λ (a : CallResult). nodeOk (a .after .node) ≡ true) f st o (λ _. e) sound sound

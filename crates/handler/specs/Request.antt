@@ -6,10 +6,10 @@ use mathlib.Core.Bool.{Bool, true, false, cond, _||_}
 use lib.ListN.{length}
 use lib.Dec.{ltb, eqb}
 use Rattle.dpa.specs.declared.settings.Settings.{Settings}
-use Rattle.dpa.specs.Lists.{over}
+use Rattle.dpa.specs.Lists.{overwriteFront}
 use Rattle.dpa.specs.Frame.{responseHeaderSize, longestResponse, broadcastNadr, anyHwpid, headerOf, pdataOf, frameFits, responseHeader}
 use Rattle.dpa.specs.Pnum.{osPnum, lightsPnum}
-use Rattle.dpa.specs.Served.{Served, served, refused, within}
+use Rattle.dpa.specs.Reply.{Reply, reply, refused, mapState}
 use Rattle.memory.specs.declared.block.Memory.{Memory}
 use Rattle.memory.specs.declared.block.Memory.the-variants.{Eeprom, Ram, External}
 use Rattle.memory.specs.Block.{memoryPnum, sizeOf}
@@ -20,10 +20,10 @@ use Rattle.checksum.specs.Check.{codeCheck}
 use Rattle.batch.specs.Batch.{Item, item, reading, listError, runItems, errorsOf}
 use Rattle.node.specs.declared.record.Node.{Node}
 use Rattle.node.specs.declared.record.ReadOnly.{ReadOnly}
-use Rattle.handler.specs.declared.os.Carried.{Carried}
+use Rattle.handler.specs.declared.os.RequestReply.{RequestReply}
 use Rattle.handler.specs.declared.answer.RequestAnswer.{RequestAnswer}
 use Rattle.handler.specs.declared.answer.Report.{Report}
-use Rattle.handler.specs.declared.answer.Taken.{Taken}
+use Rattle.handler.specs.declared.answer.Handled.{Handled}
 use Rattle.node.specs.Node.{nodeOk, nodeFromParts, withLamps, withRam}
 
 -- the node with both memories
@@ -42,14 +42,14 @@ pub record StateRule (st : State) : Type 0 where
   pub external-size : length (st .external) ≡ sizeOf External
 
 -- the state with another node, another EEPROM or another external memory
-abbrev pub nodeIs : State → Node → State
-nodeIs st n = state n (st .eeprom) (st .external)
+abbrev pub withNode : State → Node → State
+withNode st n = state n (st .eeprom) (st .external)
 
-abbrev pub eepromIs : State → List ℕ → State
-eepromIs st e = state (st .node) e (st .external)
+abbrev pub withEeprom : State → List ℕ → State
+withEeprom st e = state (st .node) e (st .external)
 
-abbrev pub externalIs : State → List ℕ → State
-externalIs st x = state (st .node) (st .eeprom) x
+abbrev pub withExternal : State → List ℕ → State
+withExternal st x = state (st .node) (st .eeprom) x
 
 -- the bytes of one of the three memories, and the state with other bytes there
 abbrev pub memoryOf : Memory → State → List ℕ
@@ -58,20 +58,20 @@ memoryOf Memory.Ram st = st .node .ram
 memoryOf Memory.External st = st .external
 
 abbrev pub withMemory : Memory → State → List ℕ → State
-withMemory Memory.Eeprom st bytes = eepromIs st bytes
-withMemory Memory.Ram st bytes = nodeIs st (withRam (st .node) bytes)
-withMemory Memory.External st bytes = externalIs st bytes
+withMemory Memory.Eeprom st bytes = withEeprom st bytes
+withMemory Memory.Ram st bytes = withNode st (withRam (st .node) bytes)
+withMemory Memory.External st bytes = withExternal st bytes
 
 -- a request to one of the memories, and one to the lights
-abbrev pub onMemory : Memory → ℕ → List ℕ → State → Served State
-onMemory m pcmd pdata st = within (withMemory m st) (memoryRequest m pcmd pdata (memoryOf m st))
+abbrev pub onMemory : Memory → ℕ → List ℕ → State → Reply State
+onMemory m pcmd pdata st = mapState (withMemory m st) (memoryRequest m pcmd pdata (memoryOf m st))
 
-abbrev pub onLights : ℕ → List ℕ → State → Served State
+abbrev pub onLights : ℕ → List ℕ → State → Reply State
 onLights pcmd pdata st =
-    within (nodeIs st) (within (withLamps (st .node)) (lightsRequest (st .node .settings) pcmd pdata (st .node .lamps)))
+    mapState (withNode st) (mapState (withLamps (st .node)) (lightsRequest (st .node .settings) pcmd pdata (st .node .lamps)))
 
 -- the memories and the lights, by PNUM
-unfoldable pub perform : ℕ → ℕ → List ℕ → State → Served State
+unfoldable pub perform : ℕ → ℕ → List ℕ → State → Reply State
 perform pnum pcmd pdata st =
     cond (eqb pnum (memoryPnum Eeprom)) (onMemory Eeprom pcmd pdata st)
     (cond (eqb pnum (memoryPnum External)) (onMemory External pcmd pdata st)
@@ -80,19 +80,19 @@ perform pnum pcmd pdata st =
     (refused st 3))))
 
 -- the node's hardware profile, or the one that every node takes
-unfoldable pub forNode : Settings → ℕ → Bool
-forNode s hwpid = eqb hwpid (s .hwpid) || eqb hwpid anyHwpid
+unfoldable pub hwpidMatches : Settings → ℕ → Bool
+hwpidMatches s hwpid = eqb hwpid (s .hwpid) || eqb hwpid anyHwpid
 
 -- an entry of a batch; PNUM 02 is not among those that it may name
-unfoldable pub entryOf : Item → State → Served State
-entryOf i st =
-    cond (forNode (st .node .settings) (i .hwpid)) (perform (i .pnum) (i .pcmd) (i .pdata) st) (refused st 7)
+unfoldable pub executeEntry : Item → State → Reply State
+executeEntry i st =
+    cond (hwpidMatches (st .node .settings) (i .hwpid)) (perform (i .pnum) (i .pcmd) (i .pdata) st) (refused st 7)
 
 abbrev pub entryAfter : Item → State → State
-entryAfter i st = entryOf i st .after
+entryAfter i st = executeEntry i st .after
 
 abbrev pub entryError : Item → State → ℕ
-entryError i st = entryOf i st .error
+entryError i st = executeEntry i st .error
 
 -- a load mark to report, and nothing to report
 abbrev pub loadReport : Bool → Report
@@ -110,41 +110,41 @@ pub record Outcome : Type 0 where
   pub entries : List ℕ
   pub report : Report
 
-abbrev pub outcome : Served State → List ℕ → Report → Outcome
+abbrev pub outcome : Reply State → List ℕ → Report → Outcome
 outcome a es m = record { after = a .after; error = a .error; bytes = a .bytes; entries = es; report = m }
 
 -- a request that is no batch and has nothing to report
-abbrev pub plain : Served State → Outcome
+abbrev pub plain : Reply State → Outcome
 plain a = outcome a [] noReport
 
 -- entries in order, each at the state that the one before left; the batch itself answers 0 and no data
-abbrev pub ran : List Item → State → Outcome
-ran is st = outcome (served (runItems entryAfter is st) 0 []) (errorsOf entryError entryAfter is st) noReport
+abbrev pub batchOutcome : List Item → State → Outcome
+batchOutcome is st = outcome (reply (runItems entryAfter is st) 0 []) (errorsOf entryError entryAfter is st) noReport
 
 -- OS 02, PCMD 05: a list that cannot be read runs nothing
-unfoldable pub batchOf : List ℕ → State → Outcome
-batchOf pdata st =
+unfoldable pub batchRequest : List ℕ → State → Outcome
+batchRequest pdata st =
     cond (eqb (length pdata) 0) (plain (refused st 5))
-    (cond (eqb (listError (reading pdata .listed)) 0) (ran (reading pdata .items) st)
-    (plain (refused st (listError (reading pdata .listed)))))
+    (cond (eqb (listError (reading pdata .check)) 0) (batchOutcome (reading pdata .items) st)
+    (plain (refused st (listError (reading pdata .check)))))
 
 -- OS 02, PCMD 0A: nothing changes, and the load mark is the check's
-unfoldable pub codeCheckOf : List ℕ → State → Outcome
-codeCheckOf pdata st =
-    outcome (within (λ _. st) (codeCheck (st .external) pdata)) [] (loadReport (codeCheck (st .external) pdata .after))
+unfoldable pub codeCheckRequest : List ℕ → State → Outcome
+codeCheckRequest pdata st =
+    outcome (mapState (λ _. st) (codeCheck (st .external) pdata)) [] (loadReport (codeCheck (st .external) pdata .after))
 
 -- OS 02
-unfoldable pub osOf : ℕ → List ℕ → State → Outcome
-osOf pcmd pdata st =
-    cond (eqb pcmd 5) (batchOf pdata st)
-    (cond (eqb pcmd 0x0A) (codeCheckOf pdata st)
+unfoldable pub osRequest : ℕ → List ℕ → State → Outcome
+osRequest pcmd pdata st =
+    cond (eqb pcmd 5) (batchRequest pdata st)
+    (cond (eqb pcmd 0x0A) (codeCheckRequest pdata st)
     (plain (refused st 2)))
 
 -- a request from HWPID on: the first error that applies
-unfoldable pub carryOut : Item → State → Outcome
-carryOut i st =
-    cond (forNode (st .node .settings) (i .hwpid))
-    (cond (eqb (i .pnum) osPnum) (osOf (i .pcmd) (i .pdata) st) (plain (perform (i .pnum) (i .pcmd) (i .pdata) st)))
+unfoldable pub execute : Item → State → Outcome
+execute i st =
+    cond (hwpidMatches (st .node .settings) (i .hwpid))
+    (cond (eqb (i .pnum) osPnum) (osRequest (i .pcmd) (i .pdata) st) (plain (perform (i .pnum) (i .pcmd) (i .pdata) st)))
     (plain (refused st 7))
 
 -- the request of a frame
@@ -153,7 +153,7 @@ itemOf f = item (headerOf f .pnum) (headerOf f .pcmd) (headerOf f .hwpid) (pdata
 
 -- What a call leaves: the state, the refusal, the response's length, the report, whether the request was for this node
 -- or for all, and the response buffer.
-pub record Called : Type 0 where
+pub record CallResult : Type 0 where
   pub after : State
   pub refusal : ℕ
   pub length : ℕ
@@ -162,15 +162,15 @@ pub record Called : Type 0 where
   pub response : List ℕ
 
 -- nothing is done and nothing answered: the response buffer stays
-abbrev pub silent : State → ℕ → List ℕ → Called
-silent st refusal o = record { after = st; refusal = refusal; length = 0; report = noReport; addressed = false; response = o }
+abbrev pub noResponse : State → ℕ → List ℕ → CallResult
+noResponse st refusal o = record { after = st; refusal = refusal; length = 0; report = noReport; addressed = false; response = o }
 
 -- a broadcast is carried out and never answered
-abbrev pub broadcast : Outcome → List ℕ → Called
+abbrev pub broadcast : Outcome → List ℕ → CallResult
 broadcast a o = record { after = a .after; refusal = 0; length = 0; report = a .report; addressed = true; response = o }
 
 -- a response: header and data, later bytes as they were
-abbrev pub respond : Settings → Item → Outcome → List ℕ → Called
+abbrev pub respond : Settings → Item → Outcome → List ℕ → CallResult
 respond s i a o =
     record {
       after = a .after;
@@ -178,15 +178,15 @@ respond s i a o =
       length = responseHeaderSize + length (a .bytes);
       report = a .report;
       addressed = true;
-      response = over (responseHeader s (i .pnum) (i .pcmd) (a .error) ++ a .bytes) o;
+      response = overwriteFront (responseHeader s (i .pnum) (i .pcmd) (a .error) ++ a .bytes) o;
     }
 
 -- a frame that was not refused: carried out in silence for all, answered for the node's address, else not mine
-unfoldable pub takenOf : List ℕ → State → List ℕ → Called
-takenOf f st o =
-    cond (eqb (headerOf f .nadr) broadcastNadr) (broadcast (carryOut (itemOf f) st) o)
-    (cond (eqb (headerOf f .nadr) (st .node .settings .address)) (respond (st .node .settings) (itemOf f) (carryOut (itemOf f) st) o)
-    (silent st 0 o))
+unfoldable pub handleFrame : List ℕ → State → List ℕ → CallResult
+handleFrame f st o =
+    cond (eqb (headerOf f .nadr) broadcastNadr) (broadcast (execute (itemOf f) st) o)
+    (cond (eqb (headerOf f .nadr) (st .node .settings .address)) (respond (st .node .settings) (itemOf f) (execute (itemOf f) st) o)
+    (noResponse st 0 o))
 
 -- refusals 1, 2, 3, 4 in this order, by the node and the lengths of what is lent; 0 for none
 unfoldable pub requestRefusal : Node → ℕ → ℕ → ℕ → ℕ → ℕ
@@ -205,31 +205,31 @@ abbrev pub refusalOf : List ℕ → State → List ℕ → ℕ
 refusalOf f st o = requestRefusal (st .node) (length f) (length (st .eeprom)) (length (st .external)) (length o)
 
 -- the call
-unfoldable pub requestOf : List ℕ → State → List ℕ → Called
-requestOf f st o =
-    cond (eqb (refusalOf f st o) 0) (takenOf f st o) (silent st (refusalOf f st o) o)
+unfoldable pub handleRequest : List ℕ → State → List ℕ → CallResult
+handleRequest f st o =
+    cond (eqb (refusalOf f st o) 0) (handleFrame f st o) (noResponse st (refusalOf f st o) o)
 
 -- ---- how the code shows it
 
 -- the state of a node in parts: what is only read, lamps, RAM
-abbrev pub held : ReadOnly → List Lamp → List ℕ → List ℕ → List ℕ → State
-held k ls r e x = state (nodeFromParts k ls r) e x
+abbrev pub stateFromParts : ReadOnly → List Lamp → List ℕ → List ℕ → List ℕ → State
+stateFromParts k ls r e x = state (nodeFromParts k ls r) e x
 
 -- what carrying out leaves: the state, ErrN, the data's length, the report and the lent buffer
-pub record Delivered : Type 0 where
+pub record SeenOutcome : Type 0 where
   pub after : State
   pub error : ℕ
   pub length : ℕ
   pub report : Report
   pub out : List ℕ
 
-abbrev pub delivered : ReadOnly → Carried → List ℕ → List ℕ → List ℕ → List ℕ → Delivered
-delivered k c r e x o =
-    record { after = held k (c .lamps) r e x; error = c .error; length = c .length; report = c .report; out = o }
+abbrev pub outcomeSeen : ReadOnly → RequestReply → List ℕ → List ℕ → List ℕ → List ℕ → SeenOutcome
+outcomeSeen k c r e x o =
+    record { after = stateFromParts k (c .lamps) r e x; error = c .error; length = c .length; report = c .report; out = o }
 
-abbrev pub deliver : Outcome → List ℕ → Delivered
-deliver a o =
-    record { after = a .after; error = a .error; length = length (a .bytes); report = a .report; out = over (a .bytes) o }
+abbrev pub outcomeInBuffer : Outcome → List ℕ → SeenOutcome
+outcomeInBuffer a o =
+    record { after = a .after; error = a .error; length = length (a .bytes); report = a .report; out = overwriteFront (a .bytes) o }
 
 -- the call's answer has the report's fields among its own; the report taken out of it again
 abbrev pub answerOf : ℕ → ℕ → Report → Bool → Node → RequestAnswer
@@ -239,11 +239,11 @@ abbrev pub reportOf : RequestAnswer → Report
 reportOf r = record { load = r .load }
 
 -- a call by its answer, both memories and the response buffer
-abbrev pub called : RequestAnswer → List ℕ → List ℕ → List ℕ → Called
-called r e x o =
+abbrev pub callResult : RequestAnswer → List ℕ → List ℕ → List ℕ → CallResult
+callResult r e x o =
     record { after = state (r .node) e x; refusal = r .refusal; length = r .length; report = reportOf r; addressed = r .addressed; response = o }
 
 -- the same of a call that was not refused, of a node in parts
-abbrev pub calledInParts : ReadOnly → Taken → List ℕ → List ℕ → List ℕ → List ℕ → Called
-calledInParts k t r e x o =
-    record { after = held k (t .lamps) r e x; refusal = 0; length = t .length; report = t .report; addressed = true; response = o }
+abbrev pub callResultFromParts : ReadOnly → Handled → List ℕ → List ℕ → List ℕ → List ℕ → CallResult
+callResultFromParts k t r e x o =
+    record { after = stateFromParts k (t .lamps) r e x; refusal = 0; length = t .length; report = t .report; addressed = true; response = o }

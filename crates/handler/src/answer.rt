@@ -1,5 +1,6 @@
 // What a call reports of a request.
 use dpa::refusal;
+use lights::lamp::LAMPS;
 use lights::lamp::Lamp;
 use node::record::Node;
 use node::record::ReadOnly;
@@ -29,10 +30,10 @@ impl Report {
 }
 
 // The report, the response's length, and the lamps afterwards.
-pub struct Taken {
+pub struct Handled {
     pub report: Report,
     pub length: usize,
-    pub lamps: [Lamp; 32],
+    pub lamps: [Lamp; LAMPS],
 }
 
 // The call's answer has the report's fields among its own.
@@ -55,14 +56,14 @@ fn answer_of(
 }
 
 // Nothing done: not this node's, or refused.
-pub fn unanswered(node: Node, refusal: u8) -> RequestAnswer
+pub fn answer_unhandled(node: Node, refusal: u8) -> RequestAnswer
     ensures { λ r. ⌜ r ≡ answerOf refusal 0 noReport false node ⌝ }
 {
     answer_of(refusal, 0, Report::NONE, false, node)
 }
 
 // Carried out: not refused, and the node put together again.
-pub fn answered(fixed: ReadOnly, done: Taken, ram: [u8; 48]) -> RequestAnswer
+pub fn answer_handled(fixed: ReadOnly, done: Handled, ram: [u8; 48]) -> RequestAnswer
     ensures { λ r. ⌜ r ≡ answerOf 0 (done .length) (done .report) true (nodeFromParts fixed (done .lamps) ram) ⌝ }
 {
     let lamps = done.lamps;

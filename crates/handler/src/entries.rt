@@ -1,20 +1,21 @@
 // The entries of a batch, one after the other.
 use crate::peripheral::peripheral;
 use batch::entry::HEAD;
-use batch::entry::Next;
+use batch::entry::NextEntry;
 use batch::entry::at_end;
 use batch::entry::next_entry;
 use dpa::frame::Frame;
 use dpa::settings::Settings;
+use lights::lamp::LAMPS;
 use lights::lamp::Lamp;
 use node::record::ReadOnly;
 ghost use mathlib.Core.Path.{_≡_};
 ghost use Rattle.batch.specs.Batch.{item, reading, runItems};
-ghost use Rattle.handler.specs.Request.{held, StateRule, forNode, entryAfter};
+ghost use Rattle.handler.specs.Request.{stateFromParts, StateRule, hwpidMatches, entryAfter};
 
 // Whether a request's HWPID is the node's or the wildcard.
-pub fn for_node(settings: Settings, hwpid: u16) -> bool
-    ensures { λ r. ⌜ r ≡ forNode settings hwpid ⌝ }
+pub fn hwpid_matches(settings: Settings, hwpid: u16) -> bool
+    ensures { λ r. ⌜ r ≡ hwpidMatches settings hwpid ⌝ }
 {
     if hwpid == settings.hwpid {
         return true;
@@ -25,7 +26,7 @@ pub fn for_node(settings: Settings, hwpid: u16) -> bool
 // One entry. Its answer is not sent: the data goes to a scratch buffer.
 fn run_entry(
     fixed: ReadOnly,
-    lamps: [Lamp; 32],
+    lamps: [Lamp; LAMPS],
     pnum: u8,
     pcmd: u8,
     hwpid: u16,
@@ -33,12 +34,12 @@ fn run_entry(
     ram: &mut [u8],
     eeprom: &mut [u8],
     external: &mut [u8],
-) -> [Lamp; 32]
-    requires { ⌜ StateRule (held fixed lamps (now ram) (now eeprom) (now external)) ⌝ }
-    ensures { λ r. ⌜ held fixed r (now (ram .exit)) (now (eeprom .exit)) (now (external .exit))
-        ≡ entryAfter (item pnum pcmd hwpid (now (pdata .entry))) (held fixed lamps (now (ram .entry)) (now (eeprom .entry)) (now (external .entry))) ⌝ }
+) -> [Lamp; LAMPS]
+    requires { ⌜ StateRule (stateFromParts fixed lamps (now ram) (now eeprom) (now external)) ⌝ }
+    ensures { λ r. ⌜ stateFromParts fixed r (now (ram .exit)) (now (eeprom .exit)) (now (external .exit))
+        ≡ entryAfter (item pnum pcmd hwpid (now (pdata .entry))) (stateFromParts fixed lamps (now (ram .entry)) (now (eeprom .entry)) (now (external .entry))) ⌝ }
 {
-    if for_node(fixed.settings, hwpid) {
+    if hwpid_matches(fixed.settings, hwpid) {
         let mut scratch = [0u8; Frame::PDATA_MAX];
         let reply = peripheral(
             fixed,
@@ -59,19 +60,19 @@ fn run_entry(
 // The entries that a list reads as, each with the lamps and the memories that the one before left.
 pub fn run_list(
     fixed: ReadOnly,
-    mut lamps: [Lamp; 32],
+    mut lamps: [Lamp; LAMPS],
     list: &[u8],
     ram: &mut [u8],
     eeprom: &mut [u8],
     external: &mut [u8],
-) -> [Lamp; 32]
-    requires { ⌜ StateRule (held fixed lamps (now ram) (now eeprom) (now external)) ⌝ }
-    ensures { λ r. ⌜ held fixed r (now (ram .exit)) (now (eeprom .exit)) (now (external .exit))
-        ≡ runItems entryAfter (reading (now (list .entry)) .items) (held fixed lamps (now (ram .entry)) (now (eeprom .entry)) (now (external .entry))) ⌝ }
+) -> [Lamp; LAMPS]
+    requires { ⌜ StateRule (stateFromParts fixed lamps (now ram) (now eeprom) (now external)) ⌝ }
+    ensures { λ r. ⌜ stateFromParts fixed r (now (ram .exit)) (now (eeprom .exit)) (now (external .exit))
+        ≡ runItems entryAfter (reading (now (list .entry)) .items) (stateFromParts fixed lamps (now (ram .entry)) (now (eeprom .entry)) (now (external .entry))) ⌝ }
 {
     let mut at: usize = 0;
     while !at_end(&list[at..]) {
-        let Next::Entry {
+        let NextEntry::Entry {
             len,
             pnum,
             pcmd,

@@ -2,6 +2,7 @@
 use dpa::error;
 use dpa::pnum;
 use dpa::reply::Reply;
+use lights::lamp::LAMPS;
 use lights::lamp::Lamp;
 use lights::request::LampsReply;
 use memory::block::Memory;
@@ -10,11 +11,11 @@ ghost use mathlib.Core.Path.{_≡_};
 ghost use Prim.Native.Nat.{_≤_};
 ghost use lib.ListN.{length};
 ghost use Rattle.dpa.specs.Frame.{pdataMax};
-ghost use Rattle.dpa.specs.Served.{laid, layOut};
-ghost use Rattle.handler.specs.Request.{held, StateRule, perform};
+ghost use Rattle.dpa.specs.Reply.{replySeen, replyInBuffer};
+ghost use Rattle.handler.specs.Request.{stateFromParts, StateRule, perform};
 
 // A request to a memory leaves the lamps alone.
-fn of_memory(lamps: [Lamp; 32], reply: Reply) -> LampsReply
+fn memory_reply(lamps: [Lamp; LAMPS], reply: Reply) -> LampsReply
     ensures { λ r. ⌜ r ≡ record { error = reply .error; length = reply .length; lamps = lamps } ⌝ }
 {
     LampsReply {
@@ -27,7 +28,7 @@ fn of_memory(lamps: [Lamp; 32], reply: Reply) -> LampsReply
 // The answer's data goes to the front of `out`.
 pub fn peripheral(
     fixed: ReadOnly,
-    lamps: [Lamp; 32],
+    lamps: [Lamp; LAMPS],
     pnum: u8,
     pcmd: u8,
     pdata: &[u8],
@@ -36,21 +37,21 @@ pub fn peripheral(
     external: &mut [u8],
     out: &mut [u8],
 ) -> LampsReply
-    requires { ⌜ StateRule (held fixed lamps (now ram) (now eeprom) (now external)) × (pdataMax ≤ length (now out)) ⌝ }
-    ensures { λ r. ⌜ laid (held fixed (r .lamps) (now (ram .exit)) (now (eeprom .exit)) (now (external .exit))) (r .error) (r .length) (now (out .exit))
-        ≡ layOut (perform pnum pcmd (now (pdata .entry)) (held fixed lamps (now (ram .entry)) (now (eeprom .entry)) (now (external .entry)))) (now (out .entry)) ⌝ }
+    requires { ⌜ StateRule (stateFromParts fixed lamps (now ram) (now eeprom) (now external)) × (pdataMax ≤ length (now out)) ⌝ }
+    ensures { λ r. ⌜ replySeen (stateFromParts fixed (r .lamps) (now (ram .exit)) (now (eeprom .exit)) (now (external .exit))) (r .error) (r .length) (now (out .exit))
+        ≡ replyInBuffer (perform pnum pcmd (now (pdata .entry)) (stateFromParts fixed lamps (now (ram .entry)) (now (eeprom .entry)) (now (external .entry)))) (now (out .entry)) ⌝ }
 {
     if pnum == pnum::EEPROM {
         let reply = memory::request::request(Memory::Eeprom, eeprom, pcmd, pdata, out);
-        return of_memory(lamps, reply);
+        return memory_reply(lamps, reply);
     }
     if pnum == pnum::EXTERNAL {
         let reply = memory::request::request(Memory::External, external, pcmd, pdata, out);
-        return of_memory(lamps, reply);
+        return memory_reply(lamps, reply);
     }
     if pnum == pnum::RAM {
         let reply = memory::request::request(Memory::Ram, ram, pcmd, pdata, out);
-        return of_memory(lamps, reply);
+        return memory_reply(lamps, reply);
     }
     if pnum == pnum::LIGHTS {
         return lights::request::request(fixed.settings, lamps, pcmd, pdata, out);

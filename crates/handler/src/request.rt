@@ -1,11 +1,11 @@
 // Taking a request: from the frame to the response buffer.
+use crate::answer::Handled;
 use crate::answer::Report;
 use crate::answer::RequestAnswer;
-use crate::answer::Taken;
-use crate::answer::answered;
-use crate::answer::unanswered;
-use crate::entries::for_node;
-use crate::os::Carried;
+use crate::answer::answer_handled;
+use crate::answer::answer_unhandled;
+use crate::entries::hwpid_matches;
+use crate::os::RequestReply;
 use crate::os::os;
 use crate::os::without_data;
 use crate::peripheral::peripheral;
@@ -14,6 +14,7 @@ use dpa::frame::Frame;
 use dpa::frame::write_header;
 use dpa::pnum;
 use dpa::refusal;
+use lights::lamp::LAMPS;
 use lights::lamp::Lamp;
 use lights::request::LampsReply;
 use memory::block::Memory;
@@ -28,14 +29,14 @@ ghost use Prim.Native.Nat.{ℕ, _≤_};
 ghost use lib.ListN.{length};
 ghost use Rattle.dpa.specs.Frame.{headerSize, pdataMax, longestResponse};
 ghost use Rattle.batch.specs.Batch.{item};
-ghost use Rattle.handler.specs.Request.{state, noReport, held, StateRule, delivered, deliver, carryOut, called, calledInParts, broadcast, respond, takenOf, requestRefusal, requestOf};
+ghost use Rattle.handler.specs.Request.{state, noReport, stateFromParts, StateRule, outcomeSeen, outcomeInBuffer, execute, callResult, callResultFromParts, broadcast, respond, handleFrame, requestRefusal, handleRequest};
 
 // A request to a peripheral has nothing to report.
-fn of_peripheral(reply: LampsReply) -> Carried
+fn peripheral_reply(reply: LampsReply) -> RequestReply
     ensures { λ r. ⌜ r ≡ record { error = reply .error; report = noReport; length = reply .length; lamps = reply .lamps } ⌝ }
 {
     let lamps = reply.lamps;
-    Carried {
+    RequestReply {
         error: reply.error,
         report: Report::NONE,
         length: reply.length,
@@ -44,22 +45,22 @@ fn of_peripheral(reply: LampsReply) -> Carried
 }
 
 // A request from HWPID on. The answer's data goes to the front of `out`.
-fn carry_out(
+fn execute(
     fixed: ReadOnly,
-    lamps: [Lamp; 32],
+    lamps: [Lamp; LAMPS],
     header: Frame,
     pdata: &[u8],
     ram: &mut [u8],
     eeprom: &mut [u8],
     external: &mut [u8],
     out: &mut [u8],
-) -> Carried
-    requires { ⌜ StateRule (held fixed lamps (now ram) (now eeprom) (now external)) × (pdataMax ≤ length (now out)) ⌝ }
-    ensures { λ r. ⌜ delivered fixed r (now (ram .exit)) (now (eeprom .exit)) (now (external .exit)) (now (out .exit))
-        ≡ deliver (carryOut (item (header .pnum) (header .pcmd) (header .hwpid) (now (pdata .entry)))
-        (held fixed lamps (now (ram .entry)) (now (eeprom .entry)) (now (external .entry)))) (now (out .entry)) ⌝ }
+) -> RequestReply
+    requires { ⌜ StateRule (stateFromParts fixed lamps (now ram) (now eeprom) (now external)) × (pdataMax ≤ length (now out)) ⌝ }
+    ensures { λ r. ⌜ outcomeSeen fixed r (now (ram .exit)) (now (eeprom .exit)) (now (external .exit)) (now (out .exit))
+        ≡ outcomeInBuffer (execute (item (header .pnum) (header .pcmd) (header .hwpid) (now (pdata .entry)))
+        (stateFromParts fixed lamps (now (ram .entry)) (now (eeprom .entry)) (now (external .entry)))) (now (out .entry)) ⌝ }
 {
-    if !for_node(fixed.settings, header.hwpid) {
+    if !hwpid_matches(fixed.settings, header.hwpid) {
         return without_data(lamps, error::HWPID);
     }
     let pcmd = header.pcmd;
@@ -77,26 +78,26 @@ fn carry_out(
         external,
         out,
     );
-    of_peripheral(reply)
+    peripheral_reply(reply)
 }
 
 // A broadcast is carried out and never answered: its data goes to a scratch buffer.
-fn take_broadcast(
+fn handle_broadcast(
     fixed: ReadOnly,
-    lamps: [Lamp; 32],
+    lamps: [Lamp; LAMPS],
     header: Frame,
     pdata: &[u8],
     ram: &mut [u8],
     eeprom: &mut [u8],
     external: &mut [u8],
-) -> Taken
-    requires { ⌜ StateRule (held fixed lamps (now ram) (now eeprom) (now external)) ⌝ }
-    ensures { λ r. ⌜ ((o : List ℕ) → calledInParts fixed r (now (ram .exit)) (now (eeprom .exit)) (now (external .exit)) o
-        ≡ broadcast (carryOut (item (header .pnum) (header .pcmd) (header .hwpid) (now (pdata .entry)))
-        (held fixed lamps (now (ram .entry)) (now (eeprom .entry)) (now (external .entry)))) o) ⌝ }
+) -> Handled
+    requires { ⌜ StateRule (stateFromParts fixed lamps (now ram) (now eeprom) (now external)) ⌝ }
+    ensures { λ r. ⌜ ((o : List ℕ) → callResultFromParts fixed r (now (ram .exit)) (now (eeprom .exit)) (now (external .exit)) o
+        ≡ broadcast (execute (item (header .pnum) (header .pcmd) (header .hwpid) (now (pdata .entry)))
+        (stateFromParts fixed lamps (now (ram .entry)) (now (eeprom .entry)) (now (external .entry)))) o) ⌝ }
 {
     let mut scratch = [0u8; Frame::PDATA_MAX];
-    let done = carry_out(
+    let done = execute(
         fixed,
         lamps,
         header,
@@ -108,7 +109,7 @@ fn take_broadcast(
     );
     let report = done.report;
     let after = done.lamps;
-    Taken {
+    Handled {
         report,
         length: 0,
         lamps: after,
@@ -116,23 +117,23 @@ fn take_broadcast(
 }
 
 // A request to this node: the data part after the header is lent on, then the header is written in front of it.
-fn take_own(
+fn handle_unicast(
     fixed: ReadOnly,
-    lamps: [Lamp; 32],
+    lamps: [Lamp; LAMPS],
     header: Frame,
     pdata: &[u8],
     ram: &mut [u8],
     eeprom: &mut [u8],
     external: &mut [u8],
     response: &mut [u8],
-) -> Taken
-    requires { ⌜ StateRule (held fixed lamps (now ram) (now eeprom) (now external)) × (longestResponse ≤ length (now response)) ⌝ }
-    ensures { λ r. ⌜ calledInParts fixed r (now (ram .exit)) (now (eeprom .exit)) (now (external .exit)) (now (response .exit))
+) -> Handled
+    requires { ⌜ StateRule (stateFromParts fixed lamps (now ram) (now eeprom) (now external)) × (longestResponse ≤ length (now response)) ⌝ }
+    ensures { λ r. ⌜ callResultFromParts fixed r (now (ram .exit)) (now (eeprom .exit)) (now (external .exit)) (now (response .exit))
         ≡ respond (fixed .settings) (item (header .pnum) (header .pcmd) (header .hwpid) (now (pdata .entry)))
-        (carryOut (item (header .pnum) (header .pcmd) (header .hwpid) (now (pdata .entry)))
-        (held fixed lamps (now (ram .entry)) (now (eeprom .entry)) (now (external .entry)))) (now (response .entry)) ⌝ }
+        (execute (item (header .pnum) (header .pcmd) (header .hwpid) (now (pdata .entry)))
+        (stateFromParts fixed lamps (now (ram .entry)) (now (eeprom .entry)) (now (external .entry)))) (now (response .entry)) ⌝ }
 {
-    let done = carry_out(
+    let done = execute(
         fixed,
         lamps,
         header,
@@ -152,7 +153,7 @@ fn take_own(
     let report = done.report;
     let length = Frame::RESPONSE_HEADER + done.length;
     let after = done.lamps;
-    Taken {
+    Handled {
         report,
         length,
         lamps: after,
@@ -160,7 +161,7 @@ fn take_own(
 }
 
 // A frame that passed the refusals. The node is taken apart, since only its lamps and its RAM change.
-fn take_frame(
+fn handle_frame(
     node: Node,
     frame: &[u8],
     eeprom: &mut [u8],
@@ -168,8 +169,8 @@ fn take_frame(
     response: &mut [u8],
 ) -> RequestAnswer
     requires { ⌜ StateRule (state node (now eeprom) (now external)) × (headerSize ≤ length (now frame)) × (longestResponse ≤ length (now response)) ⌝ }
-    ensures { λ r. ⌜ called r (now (eeprom .exit)) (now (external .exit)) (now (response .exit))
-        ≡ takenOf (now (frame .entry)) (state node (now (eeprom .entry)) (now (external .entry))) (now (response .entry)) ⌝ }
+    ensures { λ r. ⌜ callResult r (now (eeprom .exit)) (now (external .exit)) (now (response .exit))
+        ≡ handleFrame (now (frame .entry)) (state node (now (eeprom .entry)) (now (external .entry))) (now (response .entry)) ⌝ }
 {
     let header = Frame::read(frame);
     let pdata = &frame[Frame::HEADER..];
@@ -177,11 +178,11 @@ fn take_frame(
     let lamps = node.lamps;
     let mut ram = node.ram;
     if header.nadr == Frame::BROADCAST {
-        let done = take_broadcast(fixed, lamps, header, pdata, &mut ram, eeprom, external);
-        return answered(fixed, done, ram);
+        let done = handle_broadcast(fixed, lamps, header, pdata, &mut ram, eeprom, external);
+        return answer_handled(fixed, done, ram);
     }
     if header.nadr == node.settings.address {
-        let done = take_own(
+        let done = handle_unicast(
             fixed,
             lamps,
             header,
@@ -191,9 +192,9 @@ fn take_frame(
             external,
             response,
         );
-        return answered(fixed, done, ram);
+        return answer_handled(fixed, done, ram);
     }
-    unanswered(node, refusal::NONE)
+    answer_unhandled(node, refusal::NONE)
 }
 
 // The refusal of a call, 0 for none.
@@ -226,8 +227,8 @@ pub fn handle_request(
     external: &mut [u8],
     response: &mut [u8],
 ) -> RequestAnswer
-    ensures { λ r. ⌜ called r (now (eeprom .exit)) (now (external .exit)) (now (response .exit))
-        ≡ requestOf (now (frame .entry)) (state node (now (eeprom .entry)) (now (external .entry))) (now (response .entry)) ⌝ }
+    ensures { λ r. ⌜ callResult r (now (eeprom .exit)) (now (external .exit)) (now (response .exit))
+        ≡ handleRequest (now (frame .entry)) (state node (now (eeprom .entry)) (now (external .entry))) (now (response .entry)) ⌝ }
 {
     let refusal = request_refusal(
         node,
@@ -237,7 +238,7 @@ pub fn handle_request(
         response.len(),
     );
     if refusal != refusal::NONE {
-        return unanswered(node, refusal);
+        return answer_unhandled(node, refusal);
     }
-    take_frame(node, frame, eeprom, external, response)
+    handle_frame(node, frame, eeprom, external, response)
 }

@@ -7,7 +7,7 @@ use native.Mathlib.Omega.{arith}
 use lib.ListN.{length, drop}
 use borrow.Author.Tests.{lt-ltb, le-ltb, ne-eqb}
 use Rattle.dpa.specs.Lists.{Bytes}
-use Rattle.dpa.specs.Served.{Served, refused, laid, layOut}
+use Rattle.dpa.specs.Reply.{Reply, refused, replySeen, replyInBuffer}
 use Rattle.dpa.specs.declared.settings.Settings.{Settings}
 use Rattle.lights.specs.Bits.{bits, count, bitmap, maskOf}
 use Rattle.lights.specs.Lights.{entries, isGood, levelsBefore, answered, commandOf, changeLamps, enumerateLamps, lightsRequest}
@@ -18,10 +18,10 @@ use Rattle.lights.specs.declared.lamp.Lamp.{Lamp}
 use Rattle.lights.specs.declared.request.LampsReply.{LampsReply}
 
 -- a refused request leaves the lent bytes
-pub laid-refused : (r : LampsReply) (x : Served (List Lamp)) (e : ℕ) (ls : List Lamp) (o : List ℕ)
+pub reply-refused : (r : LampsReply) (x : Reply (List Lamp)) (e : ℕ) (ls : List Lamp) (o : List ℕ)
     → r ≡ record { error = e; length = 0; lamps = ls } → x ≡ refused ls e
-    → laid (r .lamps) (r .error) (r .length) o ≡ layOut x o
-laid-refused r x e ls o p q = rw (p, q)
+    → replySeen (r .lamps) (r .error) (r .length) o ≡ replyInBuffer x o
+reply-refused r x e ls o p q = rw (p, q)
 
 -- the answer has a byte for each selected lamp
 pub levels-length : (s : Settings) (n : ℕ) (bs : List ℕ) (ls : List Lamp) → length bs ≤ length ls → length (levelsBefore s n bs ls) ≡ count bs
@@ -52,8 +52,8 @@ module _ (s : Settings) (c : Command) (xs : List ℕ) (ls : List Lamp) where
 
     -- what the walk over valid entries leaves
     pub change-good : (after : List Lamp) (out old : List ℕ)
-        → laid after 0 (count (bits 32 m)) out ≡ layOut (answered s c (bits 32 m) ls (entries (count (bits 32 m)) (drop 4 xs))) old
-        → laid after 0 k out ≡ layOut (changeLamps s c xs ls) old
+        → replySeen after 0 (count (bits 32 m)) out ≡ replyInBuffer (answered s c (bits 32 m) ls (entries (count (bits 32 m)) (drop 4 xs))) old
+        → replySeen after 0 k out ≡ replyInBuffer (changeLamps s c xs ls) old
     change-good after out old p = rw (change-read, q) p
 
 -- the count of lamps asked with PData

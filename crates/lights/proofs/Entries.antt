@@ -11,9 +11,9 @@ use lib.Dec.{ltb, eqb}
 use borrow.Author.Tests.{lt-ltb, le-ltb, ltb-true, ltb-false, eq-eqb, ne-eqb}
 use Rattle.dpa.proofs.Bool.{by-test}
 use Rattle.lights.specs.Lights.{powerOk, timeOk, secondsOf, change, timedEntry, firstEntry, isValid, Reading, good, bad, prepend, andThen, entries, isGood}
-use Rattle.lights.specs.declared.entry.Change.{Change}
-use Rattle.lights.specs.declared.entry.Entry.{Entry}
-use Rattle.lights.specs.declared.entry.Entry.the-variants.{Valid, Invalid}
+use Rattle.lights.specs.declared.entry.LampChange.{LampChange}
+use Rattle.lights.specs.declared.entry.PowerEntry.{PowerEntry}
+use Rattle.lights.specs.declared.entry.PowerEntry.the-variants.{Valid, Invalid}
 
 -- ---- the entry at a place, one law for each way to read it
 
@@ -73,11 +73,11 @@ module _ (src : List ℕ) (at : ℕ) (v : isValid (firstEntry (drop at src)) ≡
 -- ---- the entries of a request
 
 -- an entry of zeros, where a list has none
-abbrev pub still : Change
+abbrev pub still : LampChange
 still = change 0 0
 
 -- the entries that were read
-abbrev pub itemsOf : Reading → List Change
+abbrev pub itemsOf : Reading → List LampChange
 itemsOf (good es) = es
 itemsOf bad = []
 
@@ -90,21 +90,21 @@ bad-entries (good es) g = let z : _≡_ {A = ℕ} 0 1 = cc in absurd (omega arit
 bad-entries bad g = refl
 
 -- an entry in front
-pub good-prepend : (e : Change) (r : Reading) → isGood (prepend (e ∷ []) r) ≡ isGood r
+pub good-prepend : (e : LampChange) (r : Reading) → isGood (prepend (e ∷ []) r) ≡ isGood r
 good-prepend e (good es) = refl
 good-prepend e bad = refl
 
-pub items-prepend : (e : Change) (r : Reading) → isGood r ≡ true → itemsOf (prepend (e ∷ []) r) ≡ e ∷ itemsOf r
+pub items-prepend : (e : LampChange) (r : Reading) → isGood r ≡ true → itemsOf (prepend (e ∷ []) r) ≡ e ∷ itemsOf r
 items-prepend e (good es) g = refl
 items-prepend e bad g = let z : _≡_ {A = ℕ} 0 1 = cc in absurd (omega arith)
 
 -- where all entries are valid the first one is
-pub good-first : (f : Entry) (rest : ℕ → Reading) → isGood (andThen f rest) ≡ true → isValid f ≡ true
+pub good-first : (f : PowerEntry) (rest : ℕ → Reading) → isGood (andThen f rest) ≡ true → isValid f ≡ true
 good-first (Valid e size) rest g = refl
 good-first Invalid rest g = g
 
 -- an entry is no longer than the bytes that it is read from
-first-size : (xs : List ℕ) (e : Change) (size : ℕ) → firstEntry xs ≡ Valid e size → size ≤ length xs
+first-size : (xs : List ℕ) (e : LampChange) (size : ℕ) → firstEntry xs ≡ Valid e size → size ≤ length xs
 first-size [] e size h = let z : _≡_ {A = ℕ} 0 1 = cc in absurd (omega arith)
 first-size (b ∷ xs) e size h = go (powerOk (b % 128)) (ltb b 128) xs h
   where
@@ -121,12 +121,12 @@ first-size (b ∷ xs) e size h = go (powerOk (b % 128)) (ltb b 128) xs h
     go true false (t ∷ ys) r = last (b % 128) (secondsOf t) ys (timeOk t) r
     go false q ys r = none (b ∷ ys) r
 
-pub first-room : (src : List ℕ) (at : ℕ) (e : Change) (size : ℕ) → firstEntry (drop at src) ≡ Valid e size → size ≤ length src - at
+pub first-room : (src : List ℕ) (at : ℕ) (e : LampChange) (size : ℕ) → firstEntry (drop at src) ≡ Valid e size → size ≤ length src - at
 first-room src at e size h = rw length-drop at (first-size (drop at src) e size h)
 
 module _ (src : List ℕ) (at k n : ℕ) where
   -- one entry more
-  pub good-more : (e : Change) (size : ℕ) → k < n → firstEntry (drop at src) ≡ Valid e size
+  pub good-more : (e : LampChange) (size : ℕ) → k < n → firstEntry (drop at src) ≡ Valid e size
       → isGood (entries (n - k) (drop at src)) ≡ isGood (entries (n - (k + 1)) (drop (at + size) src))
   good-more e size h q =
       let j : n - k ≡ suc (n - (k + 1)) = omega arith in
@@ -151,34 +151,34 @@ module _ (src : List ℕ) (at k n : ℕ) where
 -- ---- what has been read
 
 -- as many entries as asked for, and each with what every valid entry of these bytes has
-pub entries-each : (Q : Change → Type 0) → Q still → (n : ℕ) (xs : List ℕ) (es : List Change)
-    → ((j : ℕ) (e : Change) (size : ℕ) → firstEntry (drop j xs) ≡ Valid e size → Q e)
+pub entries-each : (Q : LampChange → Type 0) → Q still → (n : ℕ) (xs : List ℕ) (es : List LampChange)
+    → ((j : ℕ) (e : LampChange) (size : ℕ) → firstEntry (drop j xs) ≡ Valid e size → Q e)
     → entries n xs ≡ good es → (length es ≡ n) × ((i : ℕ) → Q (getD es i still))
 entries-each Q q zero [] es w h = let e : es ≡ [] = cc in rw e (refl, λ i. q)
 entries-each Q q zero (x ∷ xs) es w h = let z : _≡_ {A = ℕ} 0 1 = cc in absurd (omega arith)
 entries-each Q q (suc n) xs es w h = go (λ size fs. entries-each Q q n (drop size xs) fs) (firstEntry xs) refl h
   where
-    Each : ℕ → List Change → Type 0
+    Each : ℕ → List LampChange → Type 0
     Each k fs = (length fs ≡ k) × ((i : ℕ) → Q (getD fs i still))
 
     Later : Type 0
-    Later = (size : ℕ) (fs : List Change) → ((j : ℕ) (e : Change) (m : ℕ) → firstEntry (drop j (drop size xs)) ≡ Valid e m → Q e)
+    Later = (size : ℕ) (fs : List LampChange) → ((j : ℕ) (e : LampChange) (m : ℕ) → firstEntry (drop j (drop size xs)) ≡ Valid e m → Q e)
         → entries n (drop size xs) ≡ good fs → Each n fs
 
-    each : (e : Change) (fs : List Change) → Q e → Each n fs → (i : ℕ) → Q (getD (e ∷ fs) i still)
+    each : (e : LampChange) (fs : List LampChange) → Q e → Each n fs → (i : ℕ) → Q (getD (e ∷ fs) i still)
     each e fs a r zero = a
     each e fs a r (suc i) = r .1 i
 
-    rest : Later → (e : Change) (size : ℕ) (r : Reading) → firstEntry xs ≡ Valid e size → entries n (drop size xs) ≡ r → prepend (e ∷ []) r ≡ good es → Each (suc n) es
+    rest : Later → (e : LampChange) (size : ℕ) (r : Reading) → firstEntry xs ≡ Valid e size → entries n (drop size xs) ≡ r → prepend (e ∷ []) r ≡ good es → Each (suc n) es
     rest ih e size bad f g p = let z : _≡_ {A = ℕ} 0 1 = cc in absurd (omega arith)
     rest ih e size (good fs) f g p =
         let k : es ≡ e ∷ fs = cc in
         let t : Each n fs = ih size fs (λ j d m u. w (size + j) d m (sym (ap firstEntry (drop-drop j size xs)) ∙ u)) g in
         rw k (ap suc (t .0), each e fs (w 0 e size f) t)
 
-    go : Later → (f : Entry) → firstEntry xs ≡ f → andThen f (λ size. entries n (drop size xs)) ≡ good es → Each (suc n) es
+    go : Later → (f : PowerEntry) → firstEntry xs ≡ f → andThen f (λ size. entries n (drop size xs)) ≡ good es → Each (suc n) es
     go ih (Valid e size) f p = rest ih e size (entries n (drop size xs)) f refl p
     go ih Invalid f p = let z : _≡_ {A = ℕ} 0 1 = cc in absurd (omega arith)
 
-pub entries-length : (n : ℕ) (xs : List ℕ) (es : List Change) → entries n xs ≡ good es → length es ≡ n
-entries-length n xs es h = entries-each (λ (e : Change). Unit {0}) tt n xs es (λ j e size f. tt) h .0
+pub entries-length : (n : ℕ) (xs : List ℕ) (es : List LampChange) → entries n xs ≡ good es → length es ≡ n
+entries-length n xs es h = entries-each (λ (e : LampChange). Unit {0}) tt n xs es (λ j e size f. tt) h .0

@@ -15,10 +15,10 @@ use Rattle.lights.specs.Lights.{lampAfter, lampsAfter, levelsBefore}
 use Rattle.lights.proofs.Entries.{still}
 use Rattle.lights.specs.declared.apply.Command.{Command}
 use Rattle.lights.specs.declared.lamp.Lamp.{Lamp}
-use Rattle.lights.specs.declared.entry.Change.{Change}
+use Rattle.lights.specs.declared.entry.LampChange.{LampChange}
 
 -- a lamp after its own entry
-abbrev pub lampBy : Command → Lamp → Change → Lamp
+abbrev pub lampBy : Command → Lamp → LampChange → Lamp
 lampBy c l e = lampAfter c l (e .power) (e .seconds)
 
 ltb-less : (i n : ℕ) → ltb i (n - 1) ≡ ltb (suc i) n
@@ -29,7 +29,7 @@ ltb-less i n = go (ltb (suc i) n) refl
     go false e = le-ltb i (n - 1) (omega (arith, ltb-false (suc i) n e))
 
 -- a selected, implemented lamp takes the entry with the number of selected lamps below it; any other lamp stays
-pub lamp-place : (c : Command) (n : ℕ) (bs : List ℕ) (es : List Change) (ls : List Lamp) (k : ℕ) → length bs ≤ length ls → count bs ≤ length es
+pub lamp-place : (c : Command) (n : ℕ) (bs : List ℕ) (es : List LampChange) (ls : List Lamp) (k : ℕ) → length bs ≤ length ls → count bs ≤ length es
     → getD (lampsAfter c n bs es ls) k off
     ≡ cond (isOne (getD bs k 0) && ltb k n) (lampBy c (getD ls k off) (getD es (count (take k bs)) still)) (getD ls k off)
 unfolding lampsAfter
@@ -46,14 +46,14 @@ lamp-place c n (suc b ∷ bs) (e ∷ es) (l ∷ ls) (suc k) h q =
     ∙ ap (λ (t : Bool). cond (isOne (getD bs k 0) && t) (lampBy c (getD ls k off) (getD es (count (take k bs)) still)) (getD ls k off)) (ltb-less k n)
 
 -- a lamp from the count up stays
-pub lamp-idle : (c : Command) (n : ℕ) (bs : List ℕ) (es : List Change) (ls : List Lamp) (k : ℕ) → length bs ≤ length ls → count bs ≤ length es → n ≤ k
+pub lamp-idle : (c : Command) (n : ℕ) (bs : List ℕ) (es : List LampChange) (ls : List Lamp) (k : ℕ) → length bs ≤ length ls → count bs ≤ length es → n ≤ k
     → getD (lampsAfter c n bs es ls) k off ≡ getD ls k off
 lamp-idle c n bs es ls k h q l =
     lamp-place c n bs es ls k h q
     ∙ ap (λ (t : Bool). cond t (lampBy c (getD ls k off) (getD es (count (take k bs)) still)) (getD ls k off))
     (not-both (isOne (getD bs k 0)) (ltb k n) (le-ltb k n l))
 
-pub lamps-length : (c : Command) (n : ℕ) (bs : List ℕ) (es : List Change) (ls : List Lamp) → length (lampsAfter c n bs es ls) ≡ length ls
+pub lamps-length : (c : Command) (n : ℕ) (bs : List ℕ) (es : List LampChange) (ls : List Lamp) → length (lampsAfter c n bs es ls) ≡ length ls
 unfolding lampsAfter
 lamps-length c n [] es ls = refl
 lamps-length c n (b ∷ bs) es [] = refl

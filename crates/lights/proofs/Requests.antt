@@ -7,7 +7,7 @@ use native.Mathlib.Omega.{arith}
 use lib.ListN.{length, getD, take, drop}
 use lib.Dec.{ltb, eqb}
 use borrow.Author.Tests.{ltb-false}
-use Rattle.dpa.specs.Served.{Harmless, Served, served, refused}
+use Rattle.dpa.specs.Reply.{Harmless, Reply, reply, refused}
 use Rattle.dpa.proofs.Bool.{by-cond}
 use Rattle.dpa.specs.declared.settings.Settings.{Settings}
 use Rattle.lights.specs.Bits.{count, bitmap, isOne, selected, numberBelow}
@@ -23,20 +23,20 @@ use Rattle.lights.proofs.Rule.{ChangeRule, entries-rule, lamp-after-rul
 use Rattle.lights.specs.declared.apply.Command.{Command}
 use Rattle.lights.specs.declared.apply.Command.the-variants.{Set, Raise, Lower}
 use Rattle.lights.specs.declared.lamp.Lamp.{Lamp}
-use Rattle.lights.specs.declared.entry.Change.{Change}
+use Rattle.lights.specs.declared.entry.LampChange.{LampChange}
 
 -- the entries that PData holds, and lamp k's own among them
-abbrev pub entriesOf : List ℕ → List Change
+abbrev pub entriesOf : List ℕ → List LampChange
 entriesOf xs = itemsOf (entries (count (bitmap xs)) (drop 4 xs))
 
-abbrev pub entryOf : List ℕ → ℕ → Change
+abbrev pub entryOf : List ℕ → ℕ → LampChange
 entryOf xs k = getD (entriesOf xs) (numberBelow k (selected xs)) still
 
 module _ (s : Settings) (xs : List ℕ) (ls : List Lamp) where
   -- a request to change lamps is refused with 6, or its entries are all valid
-  pub change-cases : (c : Command) (P : Served (List Lamp) → Type 0) → P (refused ls 6)
-      → ((es : List Change) → 4 ≤ length xs → entries (count (bitmap xs)) (drop 4 xs) ≡ good es
-      → P (served (lampsAfter c (s .«lamp_count») (bitmap xs) es ls) 0 (levelsBefore s (s .«lamp_count») (bitmap xs) ls)))
+  pub change-cases : (c : Command) (P : Reply (List Lamp) → Type 0) → P (refused ls 6)
+      → ((es : List LampChange) → 4 ≤ length xs → entries (count (bitmap xs)) (drop 4 xs) ≡ good es
+      → P (reply (lampsAfter c (s .«lamp_count») (bitmap xs) es ls) 0 (levelsBefore s (s .«lamp_count») (bitmap xs) ls)))
       → P (changeLamps s c xs ls)
   unfolding changeLamps
   change-cases c P f g =
@@ -47,11 +47,11 @@ module _ (s : Settings) (xs : List ℕ) (ls : List Lamp) where
       go bad e h = f
 
   -- any request is refused with an error, tells the count, or has entries that are all valid
-  pub request-cases : (p : ℕ) (P : Served (List Lamp) → Type 0)
+  pub request-cases : (p : ℕ) (P : Reply (List Lamp) → Type 0)
       → ((e : ℕ) → (e ≡ 0 → ⊥) → P (refused ls e))
-      → P (served ls 0 (s .«lamp_count» ∷ []))
-      → ((c : Command) (es : List Change) → 4 ≤ length xs → entries (count (bitmap xs)) (drop 4 xs) ≡ good es
-      → P (served (lampsAfter c (s .«lamp_count») (bitmap xs) es ls) 0 (levelsBefore s (s .«lamp_count») (bitmap xs) ls)))
+      → P (reply ls 0 (s .«lamp_count» ∷ []))
+      → ((c : Command) (es : List LampChange) → 4 ≤ length xs → entries (count (bitmap xs)) (drop 4 xs) ≡ good es
+      → P (reply (lampsAfter c (s .«lamp_count») (bitmap xs) es ls) 0 (levelsBefore s (s .«lamp_count») (bitmap xs) ls)))
       → P (lightsRequest s p xs ls)
   unfolding lightsRequest enumerateLamps
   request-cases p P f n g =
@@ -66,33 +66,33 @@ module _ (s : Settings) (xs : List ℕ) (ls : List Lamp) where
   -- a request whose error is not 0 leaves the lamps and has no data
   pub request-harmless : (p : ℕ) → Harmless ls (lightsRequest s p xs ls)
   request-harmless p =
-      request-cases p (λ (x : Served (List Lamp)). Harmless ls x)
+      request-cases p (λ (x : Reply (List Lamp)). Harmless ls x)
       (λ e n h. (refl, refl)) (λ h. absurd (h refl)) (λ c es l e h. absurd (h refl))
 
   -- no request changes the number of lamps
   pub lamps-stay : (p : ℕ) → length (lightsRequest s p xs ls .after) ≡ length ls
   lamps-stay p =
-      request-cases p (λ (x : Served (List Lamp)). length (x .after) ≡ length ls)
+      request-cases p (λ (x : Reply (List Lamp)). length (x .after) ≡ length ls)
       (λ e n. refl) refl (λ c es l e. lamps-length c (s .«lamp_count») (bitmap xs) es ls)
 
   module _ (full : length ls ≡ 32) where
     fits-map : length (bitmap xs) ≤ length ls
     fits-map = omega (arith, bitmap-length xs)
 
-    enough : (es : List Change) → entries (count (bitmap xs)) (drop 4 xs) ≡ good es → count (bitmap xs) ≤ length es
+    enough : (es : List LampChange) → entries (count (bitmap xs)) (drop 4 xs) ≡ good es → count (bitmap xs) ≤ length es
     enough es e = omega (arith, entries-length (count (bitmap xs)) (drop 4 xs) es e)
 
     -- a successful change answers a byte for each selected lamp
     pub answer-length : (c : Command) → changeLamps s c xs ls .error ≡ 0 → length (changeLamps s c xs ls .bytes) ≡ numberBelow 32 (selected xs)
     answer-length c =
-        change-cases c (λ (x : Served (List Lamp)). x .error ≡ 0 → length (x .bytes) ≡ numberBelow 32 (selected xs))
+        change-cases c (λ (x : Reply (List Lamp)). x .error ≡ 0 → length (x .bytes) ≡ numberBelow 32 (selected xs))
         (λ z. absurd (omega arith))
         (λ es l e z. levels-length s (s .«lamp_count») (bitmap xs) ls fits-map ∙ count-selected xs)
 
     -- no answer has more than 32 bytes
     pub answer-max : (p : ℕ) → length (lightsRequest s p xs ls .bytes) ≤ 32
     answer-max p =
-        request-cases p (λ (x : Served (List Lamp)). length (x .bytes) ≤ 32)
+        request-cases p (λ (x : Reply (List Lamp)). length (x .bytes) ≤ 32)
         (λ e n. omega arith) (omega arith)
         (λ c es l e. omega (arith, levels-length s (s .«lamp_count») (bitmap xs) ls fits-map, count-length (bitmap xs), bitmap-length xs))
 
@@ -103,7 +103,7 @@ module _ (s : Settings) (xs : List ℕ) (ls : List Lamp) where
     lamp-at c k h =
         let l = getD ls k off in
         change-cases c
-        (λ (x : Served (List Lamp)). x .error ≡ 0 → getD (x .after) k off ≡ cond (selected xs k && ltb k (s .«lamp_count»)) (lampBy c l (entryOf xs k)) l)
+        (λ (x : Reply (List Lamp)). x .error ≡ 0 → getD (x .after) k off ≡ cond (selected xs k && ltb k (s .«lamp_count»)) (lampBy c l (entryOf xs k)) l)
         (λ z. absurd (omega arith))
         (λ es _ e z.
         let d : isOne (getD (bitmap xs) k 0) ≡ selected xs k = selected-digit xs k h in
@@ -117,7 +117,7 @@ module _ (s : Settings) (xs : List ℕ) (ls : List Lamp) where
         → getD (changeLamps s c xs ls .bytes) (numberBelow k (selected xs)) 0 ≡ cond (ltb k (s .«lamp_count»)) (actualLevel s (getD ls k off .level)) 0
     level-at c k h t =
         change-cases c
-        (λ (x : Served (List Lamp)). x .error ≡ 0 → getD (x .bytes) (numberBelow k (selected xs)) 0 ≡ cond (ltb k (s .«lamp_count»)) (actualLevel s (getD ls k off .level)) 0)
+        (λ (x : Reply (List Lamp)). x .error ≡ 0 → getD (x .bytes) (numberBelow k (selected xs)) 0 ≡ cond (ltb k (s .«lamp_count»)) (actualLevel s (getD ls k off .level)) 0)
         (λ z. absurd (omega arith))
         (λ es _ e z.
         ap (λ (j : ℕ). getD (levelsBefore s (s .«lamp_count») (bitmap xs) ls) j 0) (sym (rank-selected xs k (omega arith)))
@@ -126,7 +126,7 @@ module _ (s : Settings) (xs : List ℕ) (ls : List Lamp) where
     -- a lamp from the count up is never changed
     pub unimplemented-stays : (p k : ℕ) → s .«lamp_count» ≤ k → getD (lightsRequest s p xs ls .after) k off ≡ getD ls k off
     unimplemented-stays p k h =
-        request-cases p (λ (x : Served (List Lamp)). getD (x .after) k off ≡ getD ls k off)
+        request-cases p (λ (x : Reply (List Lamp)). getD (x .after) k off ≡ getD ls k off)
         (λ e n. refl) refl
         (λ c es _ e.
         lamp-idle c (s .«lamp_count») (bitmap xs) es ls k fits-map (enough es e) h)
@@ -138,7 +138,7 @@ module _ (s : Settings) (xs : List ℕ) (ls : List Lamp) where
         let n = s .«lamp_count» in
         let rule : LampRule (getD ls k off) = fits-rule n k (getD ls k off) fit in
         fits-test n k (getD (lightsRequest s p xs ls .after) k off)
-        (λ _. request-cases p (λ (x : Served (List Lamp)). LampRule (getD (x .after) k off)) (λ e z. rule) rule
+        (λ _. request-cases p (λ (x : Reply (List Lamp)). LampRule (getD (x .after) k off)) (λ e z. rule) rule
         (λ c es _ e.
         let valid : (i : ℕ) → ChangeRule (getD es i still) = entries-rule (count (bitmap xs)) (drop 4 xs) es e in
         rw (lamp-place c n (bitmap xs) es ls k fits-map (enough es e))

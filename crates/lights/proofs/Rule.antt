@@ -15,11 +15,11 @@ use Rattle.lights.proofs.Places.{lampBy}
 use Rattle.lights.specs.declared.apply.Command.{Command}
 use Rattle.lights.specs.declared.apply.Command.the-variants.{Set, Raise, Lower}
 use Rattle.lights.specs.declared.lamp.Lamp.{Lamp}
-use Rattle.lights.specs.declared.entry.Change.{Change}
-use Rattle.lights.specs.declared.entry.Entry.the-variants.{Valid, Invalid}
+use Rattle.lights.specs.declared.entry.LampChange.{LampChange}
+use Rattle.lights.specs.declared.entry.PowerEntry.the-variants.{Valid, Invalid}
 
 -- an entry in range
-pub record ChangeRule (e : Change) : Type 0 where
+pub record ChangeRule (e : LampChange) : Type 0 where
   pub power : powerOk (e .power) ≡ true
   pub seconds : e .seconds ≤ 7620
 
@@ -29,7 +29,7 @@ seconds-max : (t : ℕ) → secondsOf t ≤ 7620
 unfolding secondsOf
 seconds-max t = by-cond (λ (n : ℕ). n ≤ 7620) (ltb t 128) _ _ (λ e. omega (arith, ltb-true t 128 e)) (λ e. omega arith)
 
-first-rule : (xs : List ℕ) (e : Change) (size : ℕ) → firstEntry xs ≡ Valid e size → ChangeRule e
+first-rule : (xs : List ℕ) (e : LampChange) (size : ℕ) → firstEntry xs ≡ Valid e size → ChangeRule e
 first-rule [] e size h = let z : _≡_ {A = ℕ} 0 1 = cc in absurd (omega arith)
 first-rule (b ∷ xs) e size h = go (powerOk (b % 128)) (ltb b 128) xs refl h
   where
@@ -54,7 +54,7 @@ still-rule : ChangeRule still
 unfolding powerOk
 still-rule = record { power = refl; seconds = omega arith }
 
-pub entries-rule : (n : ℕ) (xs : List ℕ) (es : List Change) → entries n xs ≡ good es → (i : ℕ) → ChangeRule (getD es i still)
+pub entries-rule : (n : ℕ) (xs : List ℕ) (es : List LampChange) → entries n xs ≡ good es → (i : ℕ) → ChangeRule (getD es i still)
 entries-rule n xs es h = entries-each ChangeRule still-rule n xs es (λ j. first-rule (drop j xs)) h .1
 
 -- ---- a lamp after an entry in range
@@ -72,7 +72,7 @@ level-max Set l p h k = k
 level-max Raise l p h k = omega arith
 level-max Lower l p h k = omega arith
 
-pub lamp-after-rule : (c : Command) (l : Lamp) (e : Change) → LampRule l → ChangeRule e → LampRule (lampBy c l e)
+pub lamp-after-rule : (c : Command) (l : Lamp) (e : LampChange) → LampRule l → ChangeRule e → LampRule (lampBy c l e)
 unfolding lampAfter
 lamp-after-rule c l e r q =
     let v = newLevel c (l .level) (e .power) in

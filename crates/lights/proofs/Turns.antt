@@ -16,15 +16,15 @@ use Rattle.lights.specs.Lights.{lampAfter, lampsAfter, levelsBefore}
 use Rattle.lights.proofs.Bits.{bits-more}
 use Rattle.lights.specs.declared.apply.Command.{Command}
 use Rattle.lights.specs.declared.lamp.Lamp.{Lamp}
-use Rattle.lights.specs.declared.entry.Change.{Change}
+use Rattle.lights.specs.declared.entry.LampChange.{LampChange}
 
 module _ (c : Command) (n : ℕ) where
   -- the lamps below i as they are, and those from i on after the entries es that are left
-  abbrev pub from : ℕ → ℕ → List Change → List Lamp → List Lamp
+  abbrev pub from : ℕ → ℕ → List LampChange → List Lamp → List Lamp
   from i m es ls = take i ls ++ lampsAfter c (n - i) (bits (32 - i) m) es (drop i ls)
 
   -- a lamp that is not selected
-  pub from-skip : (i m : ℕ) (es : List Change) (ls : List Lamp) → i < 32 → length ls ≡ 32 → m % 2 ≡ 0 → from i m es ls ≡ from (i + 1) (m / 2) es ls
+  pub from-skip : (i m : ℕ) (es : List LampChange) (ls : List Lamp) → i < 32 → length ls ≡ 32 → m % 2 ≡ 0 → from i m es ls ≡ from (i + 1) (m / 2) es ls
   unfolding lampsAfter
   from-skip i m es ls h l z =
       let w : i < length ls = omega arith in
@@ -32,7 +32,7 @@ module _ (c : Command) (n : ℕ) where
       rw (bits-more i m h, z, drop-cons ls i off, s, add-one, take-suc ls i off, append-snoc)
 
   -- a selected lamp that is not implemented
-  pub from-idle : (i m : ℕ) (e : Change) (es : List Change) (ls : List Lamp) → i < 32 → length ls ≡ 32 → m % 2 ≡ 1 → n ≤ i
+  pub from-idle : (i m : ℕ) (e : LampChange) (es : List LampChange) (ls : List Lamp) → i < 32 → length ls ≡ 32 → m % 2 ≡ 1 → n ≤ i
       → from i m (e ∷ es) ls ≡ from (i + 1) (m / 2) es ls
   unfolding lampsAfter
   from-idle i m e es ls h l z q =
@@ -42,7 +42,7 @@ module _ (c : Command) (n : ℕ) where
       rw (bits-more i m h, z, drop-cons ls i off, s, le-ltb 0 (n - i) t, add-one i, take-suc ls i off, append-snoc)
 
   -- a selected lamp
-  pub from-done : (i m : ℕ) (e : Change) (es : List Change) (ls : List Lamp) (r : Lamp) → i < 32 → length ls ≡ 32 → m % 2 ≡ 1 → i < n
+  pub from-done : (i m : ℕ) (e : LampChange) (es : List LampChange) (ls : List Lamp) (r : Lamp) → i < 32 → length ls ≡ 32 → m % 2 ≡ 1 → i < n
       → r ≡ lampAfter c (getD ls i off) (e .power) (e .seconds)
       → from i m (e ∷ es) ls ≡ from (i + 1) (m / 2) es (set ls i r)
   unfolding lampsAfter
@@ -53,14 +53,14 @@ module _ (c : Command) (n : ℕ) where
       let u : i < suc i = omega arith in
       rw (bits-more i m h, z, drop-cons ls i off, s, lt-ltb 0 (n - i) t, ← x, add-one i, take-suc-set, drop-set-lt, append-snoc)
 
-  lamps-none : (k j : ℕ) (es : List Change) (ls : List Lamp) → lampsAfter c j (bits k 0) es ls ≡ ls
+  lamps-none : (k j : ℕ) (es : List LampChange) (ls : List Lamp) → lampsAfter c j (bits k 0) es ls ≡ ls
   unfolding lampsAfter bits
   lamps-none zero j es ls = refl
   lamps-none (suc k) j es [] = refl
   lamps-none (suc k) j es (l ∷ ls) = ap (λ (xs : List Lamp). l ∷ xs) (lamps-none k (j - 1) es ls)
 
   -- no selected lamp is left
-  pub from-end : (i : ℕ) (es : List Change) (ls : List Lamp) → from i 0 es ls ≡ ls
+  pub from-end : (i : ℕ) (es : List LampChange) (ls : List Lamp) → from i 0 es ls ≡ ls
   from-end i es ls = rw (lamps-none (32 - i) (n - i) es (drop i ls)) (take-append-drop i ls)
 
 module _ (s : Settings) (n : ℕ) (ls : List Lamp) where

@@ -7,12 +7,12 @@ use native.Mathlib.Omega.{arith}
 use lib.ListN.{length, getD, take, drop, set, length-set}
 use lib.Seq.{drop-drop, getD-drop}
 use lib.Dec.{ltb}
-use Rattle.dpa.specs.Lists.{over}
-use Rattle.dpa.specs.Served.{served, laid, layOut}
+use Rattle.dpa.specs.Lists.{overwriteFront}
+use Rattle.dpa.specs.Reply.{reply, replySeen, replyInBuffer}
 use Rattle.dpa.specs.declared.settings.Settings.{Settings}
-use Rattle.dpa.proofs.Lists.{kept-next, kept-more, over-done}
+use Rattle.dpa.proofs.Lists.{kept-next, kept-more, front-written}
 use Rattle.lights.specs.Bits.{bits, count}
-use Rattle.lights.specs.Lamp.{off, Dimmed, actualLevel}
+use Rattle.lights.specs.Lamp.{off, LevelsInRange, actualLevel}
 use Rattle.lights.specs.Lights.{Reading, firstEntry, isValid, prepend, entries, isGood, lampAfter, lampsAfter, levelsBefore, answered}
 use Rattle.lights.proofs.Bits.{bits-length, bits-more, bits-inside, bits-half}
 use Rattle.lights.proofs.Entries.{itemsOf, good-items, good-first, good-prepend, items-prepend, first-room}
@@ -20,8 +20,8 @@ use Rattle.lights.proofs.Turns.{from, from-skip, from-idle, from-done, 
 use Rattle.lights.proofs.Answers.{levels-length}
 use Rattle.lights.specs.declared.apply.Command.{Command}
 use Rattle.lights.specs.declared.lamp.Lamp.{Lamp}
-use Rattle.lights.specs.declared.entry.Change.{Change}
-use Rattle.lights.specs.declared.entry.Entry.the-variants.{Valid}
+use Rattle.lights.specs.declared.entry.LampChange.{LampChange}
+use Rattle.lights.specs.declared.entry.PowerEntry.the-variants.{Valid}
 
 -- the entries that are left at lamp i, read from a place on
 abbrev pub left : List ℕ → ℕ → ℕ → ℕ → Reading
@@ -72,19 +72,19 @@ module _ (s : Settings) (c : Command) (mask : ℕ) (src : List ℕ) (ls : List L
 module _ {s : Settings} {c : Command} {mask : ℕ} {src : List ℕ} {ls : List Lamp} {old : List ℕ} {n : ℕ} {after : List Lamp} {out : List ℕ}
     {m at k i : ℕ} (w : Walk s c mask src ls old n after out m at k i) where
   -- no lamp is left: the request is answered
-  pub walk-end : m ≡ 0 → laid after 0 (count (bits 32 mask)) out ≡ layOut (answered s c (bits 32 mask) ls (left src 0 mask 4)) old
+  pub walk-end : m ≡ 0 → replySeen after 0 (count (bits 32 mask)) out ≡ replyInBuffer (answered s c (bits 32 mask) ls (left src 0 mask 4)) old
   walk-end z =
       let bs : List ℕ = bits 32 mask in
-      let es : List Change = itemsOf (left src 0 mask 4) in
+      let es : List LampChange = itemsOf (left src 0 mask 4) in
       let p : lampsAfter c n bs es ls ≡ after =
       w .lamps ∙ ap (λ (j : ℕ). from c n i j (itemsOf (left src i m at)) after) z ∙ from-end c n i _ after in
       let v : levelsBefore s n bs ls ≡ take k out =
       w .levels ∙ ap (λ (j : ℕ). take k out ++ told s n ls i j) z ∙ ap (λ (x : List ℕ). take k out ++ x) (told-end s n ls i) ∙ append-nil (take k out) in
-      let o : out ≡ over (levelsBefore s n bs ls) old = over-done _ out old k (omega (arith, w .levels-max, w .place-max, w .out-length, w .old-length)) v (w .out-kept) in
+      let o : out ≡ overwriteFront (levelsBefore s n bs ls) old = front-written _ out old k (omega (arith, w .levels-max, w .place-max, w .out-length, w .old-length)) v (w .out-kept) in
       let t : count bs ≡ length (levelsBefore s n bs ls) = sym (levels-length s n bs ls (omega (arith, bits-length 32 mask, w .lamps-length))) in
-      (λ j. laid (sym p j) 0 (t j) (o j))
-      ∙ ap (λ (j : ℕ). layOut (served (lampsAfter c j bs es ls) 0 (levelsBefore s j bs ls)) old) (w .implemented)
-      ∙ ap (λ (r : Reading). layOut (answered s c bs ls r) old) (sym (good-items (left src 0 mask 4) (w .all-valid)))
+      (λ j. replySeen (sym p j) 0 (t j) (o j))
+      ∙ ap (λ (j : ℕ). replyInBuffer (reply (lampsAfter c j bs es ls) 0 (levelsBefore s j bs ls)) old) (w .implemented)
+      ∙ ap (λ (r : Reading). replyInBuffer (answered s c bs ls r) old) (sym (good-items (left src 0 mask 4) (w .all-valid)))
 
   -- the lamp at the turn's place is as it was
   lamp-kept : getD after i off ≡ getD ls i off
@@ -93,7 +93,7 @@ module _ {s : Settings} {c : Command} {mask : ℕ} {src : List ℕ} {ls : List L
       subst (λ (j : ℕ). getD after j off ≡ getD ls j off) z
       (sym (getD-drop i after 0 off) ∙ ap (λ (xs : List Lamp). getD xs 0 off) (w .after-kept) ∙ getD-drop i ls 0 off)
 
-  pub walk-dimmed : Dimmed ls → getD after i off .level ≤ 100
+  pub walk-dimmed : LevelsInRange ls → getD after i off .level ≤ 100
   walk-dimmed d = rw lamp-kept (d i)
 
   module _ (some : m ≡ 0 → ⊥) where
@@ -137,7 +137,7 @@ module _ {s : Settings} {c : Command} {mask : ℕ} {src : List ℕ} {ls : List L
           good-first (firstEntry (drop at src)) (λ size. entries (count (bits (32 - (i + 1)) (m / 2))) (drop size (drop at src)))
           (ap isGood (sym left-first) ∙ w .valid)
 
-      module _ (e : Change) (size : ℕ) (q : firstEntry (drop at src) ≡ Valid e size) where
+      module _ (e : LampChange) (size : ℕ) (q : firstEntry (drop at src) ≡ Valid e size) where
         pub walk-room : at + size ≤ length src
         walk-room = omega (arith, w .at-max, first-room src at e size q)
 
@@ -149,7 +149,7 @@ module _ {s : Settings} {c : Command} {mask : ℕ} {src : List ℕ} {ls : List L
 
         walk-more : (after' : List Lamp) (v : ℕ) → length after' ≡ 32 → drop (i + 1) after' ≡ drop (i + 1) ls
             → v ≡ cond (ltb 0 (n - i)) (actualLevel s (getD ls i off .level)) 0
-            → ((es : List Change) → from c n i m (e ∷ es) after ≡ from c n (i + 1) (m / 2) es after')
+            → ((es : List LampChange) → from c n i m (e ∷ es) after ≡ from c n (i + 1) (m / 2) es after')
             → Walk s c mask src ls old n after' (set out k v) (m / 2) (at + size) (k + 1) (i + 1)
         walk-more after' v l d x f =
             let r = left src (i + 1) (m / 2) (at + size) in
@@ -167,7 +167,7 @@ module _ {s : Settings} {c : Command} {mask : ℕ} {src : List ℕ} {ls : List L
               mask-left = bits-half i m walk-inside (w .mask-left);
               all-valid = w .all-valid;
               valid = next-valid;
-              lamps = w .lamps ∙ ap (λ (es : List Change). from c n i m es after) (ap itemsOf left-more ∙ items-prepend e r next-valid) ∙ f (itemsOf r);
+              lamps = w .lamps ∙ ap (λ (es : List LampChange). from c n i m es after) (ap itemsOf left-more ∙ items-prepend e r next-valid) ∙ f (itemsOf r);
               levels = w .levels ∙ told-more s n ls i m k out v walk-inside (w .lamps-length) walk-free z x;
             }
 

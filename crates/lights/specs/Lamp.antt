@@ -37,8 +37,8 @@ unfoldable pub lampFits : ℕ → ℕ → Lamp → Bool
 lampFits count k l = cond (ltb k count) (lampOk l) (lampZero l)
 
 -- no level is over 100
-abbrev pub Dimmed : List Lamp → Type 0
-Dimmed ls = (i : ℕ) → getD ls i off .level ≤ 100
+abbrev pub LevelsInRange : List Lamp → Type 0
+LevelsInRange ls = (i : ℕ) → getD ls i off .level ≤ 100
 
 -- the smallest multiple of the step not below the level
 -- (proofs/Lamps: `actual-multiple`, `actual-above`, `actual-least`, `actual-max`)

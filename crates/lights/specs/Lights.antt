@@ -4,14 +4,14 @@ use mathlib.Core.List.{List, [], _∷_, _++_}
 use mathlib.Core.Bool.{Bool, true, false, cond, not, _||_}
 use lib.ListN.{length, drop}
 use lib.Dec.{ltb, leb, eqb}
-use Rattle.dpa.specs.Served.{Served, served, refused}
+use Rattle.dpa.specs.Reply.{Reply, reply, refused}
 use Rattle.dpa.specs.declared.settings.Settings.{Settings}
 use Rattle.lights.specs.Bits.{count, bitmap}
 use Rattle.lights.specs.Lamp.{changed, actualLevel}
 use Rattle.lights.specs.declared.lamp.Lamp.{Lamp}
-use Rattle.lights.specs.declared.entry.Change.{Change}
-use Rattle.lights.specs.declared.entry.Entry.{Entry}
-use Rattle.lights.specs.declared.entry.Entry.the-variants.{Valid, Invalid}
+use Rattle.lights.specs.declared.entry.LampChange.{LampChange}
+use Rattle.lights.specs.declared.entry.PowerEntry.{PowerEntry}
+use Rattle.lights.specs.declared.entry.PowerEntry.the-variants.{Valid, Invalid}
 use Rattle.lights.specs.declared.apply.Command.{Command}
 use Rattle.lights.specs.declared.apply.Command.the-variants.{Set, Raise, Lower}
 
@@ -39,16 +39,16 @@ unfoldable pub secondsOf : ℕ → ℕ
 secondsOf t = cond (ltb t 128) (60 * t) (t % 128)
 
 -- a power, and seconds that are 0 without a time byte
-abbrev pub change : ℕ → ℕ → Change
+abbrev pub change : ℕ → ℕ → LampChange
 change p s = record { power = p; seconds = s }
 
 -- the entry of power p whose time byte comes next
-abbrev pub timedEntry : ℕ → List ℕ → Entry
+abbrev pub timedEntry : ℕ → List ℕ → PowerEntry
 timedEntry p [] = Invalid
 timedEntry p (t ∷ xs) = cond (timeOk t) (Valid (change p (secondsOf t)) 2) Invalid
 
 -- the entry that bytes start with and how many of them it takes: a power byte and, if its bit 7 is set, a time byte
-abbrev pub firstEntry : List ℕ → Entry
+abbrev pub firstEntry : List ℕ → PowerEntry
 firstEntry [] = Invalid
 firstEntry (b ∷ xs) =
     cond (powerOk (b % 128))
@@ -56,22 +56,22 @@ firstEntry (b ∷ xs) =
     Invalid
 
 -- the ErrN of an entry
-abbrev pub powerEntryError : Entry → ℕ
+abbrev pub powerEntryError : PowerEntry → ℕ
 powerEntryError (Valid e size) = 0
 powerEntryError Invalid = 6
 
 -- ---- all entries, read before any lamp changes
 
 pub data Reading : Type 0 where
-  good : List Change → Reading
+  good : List LampChange → Reading
   bad : Reading
 
-abbrev pub prepend : List Change → Reading → Reading
+abbrev pub prepend : List LampChange → Reading → Reading
 prepend es (good fs) = good (es ++ fs)
 prepend es bad = bad
 
 -- an entry, then what is read behind it
-abbrev pub andThen : Entry → (ℕ → Reading) → Reading
+abbrev pub andThen : PowerEntry → (ℕ → Reading) → Reading
 andThen (Valid e size) rest = prepend (e ∷ []) (rest size)
 andThen Invalid rest = bad
 
@@ -99,7 +99,7 @@ lampAfter c l power seconds =
 -- (proofs/Requests says it by each lamp's own bit: `lamp-at`, `level-at`)
 
 -- an entry of an unimplemented lamp has no effect
-unfoldable pub lampsAfter : Command → ℕ → List ℕ → List Change → List Lamp → List Lamp
+unfoldable pub lampsAfter : Command → ℕ → List ℕ → List LampChange → List Lamp → List Lamp
 lampsAfter c n [] es ls = ls
 lampsAfter c n (b ∷ bs) es [] = []
 lampsAfter c n (zero ∷ bs) es (l ∷ ls) = l ∷ lampsAfter c (n - 1) bs es ls
@@ -116,22 +116,22 @@ levelsBefore s n (suc b ∷ bs) (l ∷ ls) = cond (ltb 0 n) (actualLevel s (l .l
 
 -- ---- the request
 
-abbrev pub answered : Settings → Command → List ℕ → List Lamp → Reading → Served (List Lamp)
+abbrev pub answered : Settings → Command → List ℕ → List Lamp → Reading → Reply (List Lamp)
 answered s c bs ls (good es) =
-    served (lampsAfter c (s .«lamp_count») bs es ls) 0 (levelsBefore s (s .«lamp_count») bs ls)
+    reply (lampsAfter c (s .«lamp_count») bs es ls) 0 (levelsBefore s (s .«lamp_count») bs ls)
 answered s c bs ls bad = refused ls (powerEntryError Invalid)
 
 -- PData of set, raise and lower: four bitmap bytes, then an entry for each one-bit
-unfoldable pub changeLamps : Settings → Command → List ℕ → List Lamp → Served (List Lamp)
+unfoldable pub changeLamps : Settings → Command → List ℕ → List Lamp → Reply (List Lamp)
 changeLamps s c xs ls =
     cond (ltb (length xs) 4) (refused ls (powerEntryError Invalid))
     (answered s c (bitmap xs) ls (entries (count (bitmap xs)) (drop 4 xs)))
 
 -- 3E hex: the count of lamps
-unfoldable pub enumerateLamps : Settings → List ℕ → List Lamp → Served (List Lamp)
-enumerateLamps s xs ls = cond (eqb (length xs) 0) (served ls 0 (s .«lamp_count» ∷ [])) (refused ls 5)
+unfoldable pub enumerateLamps : Settings → List ℕ → List Lamp → Reply (List Lamp)
+enumerateLamps s xs ls = cond (eqb (length xs) 0) (reply ls 0 (s .«lamp_count» ∷ [])) (refused ls 5)
 
-unfoldable pub lightsRequest : Settings → ℕ → List ℕ → List Lamp → Served (List Lamp)
+unfoldable pub lightsRequest : Settings → ℕ → List ℕ → List Lamp → Reply (List Lamp)
 lightsRequest s pcmd xs ls =
     cond (eqb pcmd (commandPcmd Set)) (changeLamps s Set xs ls)
     (cond (eqb pcmd (commandPcmd Raise)) (changeLamps s Raise xs ls)
@@ -141,7 +141,7 @@ lightsRequest s pcmd xs ls =
 
 -- ---- what inner functions tell
 
-abbrev pub isValid : Entry → Bool
+abbrev pub isValid : PowerEntry → Bool
 isValid (Valid e size) = true
 isValid Invalid = false
 

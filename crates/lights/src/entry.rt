@@ -4,25 +4,25 @@ ghost use mathlib.Core.Bool.{true};
 ghost use Prim.Native.Nat.{_≤_};
 ghost use lib.ListN.{length, drop};
 ghost use Rattle.lights.specs.Lights.{powerOk, timeOk, secondsOf, change, firstEntry, isValid, entries, isGood};
-ghost use Rattle.lights.specs.declared.entry.Entry.the-variants.{Valid};
+ghost use Rattle.lights.specs.declared.entry.PowerEntry.the-variants.{Valid};
 
 // The power that keeps a lamp as it is.
 pub const KEEP: u8 = 127;
 
 // What an entry asks of its lamp. Without a time byte the seconds are 0.
-pub struct Change {
+pub struct LampChange {
     pub power: u8,
     pub seconds: u16,
 }
 
 // An entry and how many bytes it takes, or none that is valid.
-pub enum Entry {
-    Valid(Change, usize),
+pub enum PowerEntry {
+    Valid(LampChange, usize),
     Invalid,
 }
 
 // What a valid entry asks of its lamp, and how many bytes it takes.
-pub struct ReadEntry {
+pub struct SizedChange {
     pub power: u8,
     pub seconds: u16,
     pub size: usize,
@@ -53,30 +53,30 @@ fn seconds_of(time: u8) -> u16
 }
 
 // The entry that starts at a place of the bytes.
-fn entry_at(src: &[u8], at: usize) -> Entry
+fn entry_at(src: &[u8], at: usize) -> PowerEntry
     ensures { λ r. ⌜ r ≡ firstEntry (drop at (now (src .entry))) ⌝ }
 {
     if src.len() <= at {
-        return Entry::Invalid;
+        return PowerEntry::Invalid;
     }
     let byte = src[at];
     let power = byte % 128;
     if !power_ok(power) {
-        return Entry::Invalid;
+        return PowerEntry::Invalid;
     }
     if byte < 128 {
-        return Entry::Valid(Change { power, seconds: 0 }, 1);
+        return PowerEntry::Valid(LampChange { power, seconds: 0 }, 1);
     }
     let next = at + 1;
     if src.len() <= next {
-        return Entry::Invalid;
+        return PowerEntry::Invalid;
     }
     let time = src[next];
     if !time_ok(time) {
-        return Entry::Invalid;
+        return PowerEntry::Invalid;
     }
     let seconds = seconds_of(time);
-    Entry::Valid(Change { power, seconds }, 2)
+    PowerEntry::Valid(LampChange { power, seconds }, 2)
 }
 
 // Whether n valid entries stand behind the four bitmap bytes, and no byte behind them.
@@ -87,7 +87,7 @@ pub fn entries_ok(src: &[u8], n: usize) -> bool
     let mut at: usize = 4;
     let mut k: usize = 0;
     while k < n {
-        let Entry::Valid(change, size) = entry_at(src, at) else {
+        let PowerEntry::Valid(change, size) = entry_at(src, at) else {
             return false;
         };
         at = at + size;
@@ -97,14 +97,14 @@ pub fn entries_ok(src: &[u8], n: usize) -> bool
 }
 
 // The entry that starts at a place, once it is known to be valid.
-pub fn change_at(src: &[u8], at: usize) -> ReadEntry
+pub fn change_at(src: &[u8], at: usize) -> SizedChange
     requires { ⌜ isValid (firstEntry (drop at (now src))) ≡ true ⌝ }
     ensures { λ r. ⌜ firstEntry (drop at (now (src .entry))) ≡ Valid (change (r .power) (r .seconds)) (r .size) ⌝ }
 {
     let byte = src[at];
     let power = byte % 128;
     if byte < 128 {
-        return ReadEntry {
+        return SizedChange {
             power,
             seconds: 0,
             size: 1,
@@ -113,7 +113,7 @@ pub fn change_at(src: &[u8], at: usize) -> ReadEntry
     let next = at + 1;
     let time = src[next];
     let seconds = seconds_of(time);
-    ReadEntry {
+    SizedChange {
         power,
         seconds,
         size: 2,

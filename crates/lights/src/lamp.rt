@@ -1,10 +1,19 @@
 // One lamp: its rule, its actual level, and a second passing.
+use dpa::settings::MAX_LAMPS;
 use dpa::settings::Settings;
 ghost use mathlib.Core.Path.{_≡_};
 ghost use mathlib.Core.Bool.{true};
 ghost use Prim.Native.Nat.{_≤_};
 ghost use Rattle.dpa.specs.Settings.{settingsOk};
 ghost use Rattle.lights.specs.Lamp.{lampOk, lampZero, actualLevel, tickLamp};
+
+// The lamp records of a node, whether or not it has that many lamps.
+pub const LAMPS: usize = MAX_LAMPS as usize;
+
+// The highest level, and the longest timer: 127 minutes.
+pub const MAX_LEVEL: u8 = 100;
+
+pub const MAX_SECONDS: u16 = 7620;
 
 #[repr(C)]
 pub struct Lamp {
@@ -18,7 +27,9 @@ pub struct Lamp {
 pub fn lamp_ok(lamp: Lamp) -> bool
     ensures { λ r. ⌜ r ≡ lampOk lamp ⌝ }
 {
-    (lamp.level <= 100) & (lamp.seconds <= 7620) & ((lamp.level != 0) | (lamp.seconds == 0))
+    (lamp.level <= MAX_LEVEL)
+        & (lamp.seconds <= MAX_SECONDS)
+        & ((lamp.level != 0) | (lamp.seconds == 0))
 }
 
 // The rule of a lamp that is not implemented.

@@ -2,6 +2,7 @@
 use crate::apply::Command;
 use crate::apply::apply;
 use crate::entry::entries_ok;
+use crate::lamp::LAMPS;
 use crate::lamp::Lamp;
 use dpa::error;
 use dpa::number::wide_word;
@@ -12,10 +13,10 @@ ghost use mathlib.Core.Bool.{true};
 ghost use Prim.Native.Nat.{_≤_};
 ghost use lib.ListN.{length};
 ghost use Rattle.dpa.specs.Frame.{pdataMax};
-ghost use Rattle.dpa.specs.Served.{laid, layOut};
+ghost use Rattle.dpa.specs.Reply.{replySeen, replyInBuffer};
 ghost use Rattle.dpa.specs.Settings.{settingsOk};
 ghost use Rattle.lights.specs.Bits.{bits, count, maskOf};
-ghost use Rattle.lights.specs.Lamp.{Dimmed};
+ghost use Rattle.lights.specs.Lamp.{LevelsInRange};
 ghost use Rattle.lights.specs.Lights.{commandOf, changeLamps, enumerateLamps, lightsRequest};
 
 pub const SET: u8 = 0x00;
@@ -30,7 +31,7 @@ pub const ENUMERATE: u8 = 0x3E;
 pub struct LampsReply {
     pub error: u8,
     pub length: usize,
-    pub lamps: [Lamp; 32],
+    pub lamps: [Lamp; LAMPS],
 }
 
 // The four bitmap bytes as one number.
@@ -50,7 +51,7 @@ fn selected(mask: u32) -> usize
     u32::count_ones(mask) as usize
 }
 
-fn refuse(error: u8, lamps: [Lamp; 32]) -> LampsReply
+fn refuse(error: u8, lamps: [Lamp; LAMPS]) -> LampsReply
     ensures { λ r. ⌜ r ≡ record { error = error; length = 0; lamps = lamps } ⌝ }
 {
     LampsReply {
@@ -73,13 +74,13 @@ fn command_of(pcmd: u8) -> Command
 // Set, raise or lower. The number of one-bits is the number of entries and the answer's length.
 fn change_lamps(
     settings: Settings,
-    lamps: [Lamp; 32],
+    lamps: [Lamp; LAMPS],
     command: Command,
     pdata: &[u8],
     out: &mut [u8],
 ) -> LampsReply
-    requires { ⌜ (settingsOk settings ≡ true) × Dimmed lamps × (32 ≤ length (now out)) ⌝ }
-    ensures { λ r. ⌜ laid (r .lamps) (r .error) (r .length) (now (out .exit)) ≡ layOut (changeLamps settings command (now (pdata .entry)) lamps) (now (out .entry)) ⌝ }
+    requires { ⌜ (settingsOk settings ≡ true) × LevelsInRange lamps × (32 ≤ length (now out)) ⌝ }
+    ensures { λ r. ⌜ replySeen (r .lamps) (r .error) (r .length) (now (out .exit)) ≡ replyInBuffer (changeLamps settings command (now (pdata .entry)) lamps) (now (out .entry)) ⌝ }
 {
     if pdata.len() < 4 {
         return refuse(error::DATA, lamps);
@@ -97,9 +98,9 @@ fn change_lamps(
     }
 }
 
-fn enumerate(settings: Settings, lamps: [Lamp; 32], pdata: &[u8], out: &mut [u8]) -> LampsReply
+fn enumerate(settings: Settings, lamps: [Lamp; LAMPS], pdata: &[u8], out: &mut [u8]) -> LampsReply
     requires { ⌜ 32 ≤ length (now out) ⌝ }
-    ensures { λ r. ⌜ laid (r .lamps) (r .error) (r .length) (now (out .exit)) ≡ layOut (enumerateLamps settings (now (pdata .entry)) lamps) (now (out .entry)) ⌝ }
+    ensures { λ r. ⌜ replySeen (r .lamps) (r .error) (r .length) (now (out .exit)) ≡ replyInBuffer (enumerateLamps settings (now (pdata .entry)) lamps) (now (out .entry)) ⌝ }
 {
     if pdata.len() != 0 {
         return refuse(error::DATA_LEN, lamps);
@@ -115,13 +116,13 @@ fn enumerate(settings: Settings, lamps: [Lamp; 32], pdata: &[u8], out: &mut [u8]
 // A request to the lights, its answer's data at the front of out.
 pub fn request(
     settings: Settings,
-    lamps: [Lamp; 32],
+    lamps: [Lamp; LAMPS],
     pcmd: u8,
     pdata: &[u8],
     out: &mut [u8],
 ) -> LampsReply
-    requires { ⌜ (settingsOk settings ≡ true) × Dimmed lamps × (pdataMax ≤ length (now out)) ⌝ }
-    ensures { λ r. ⌜ laid (r .lamps) (r .error) (r .length) (now (out .exit)) ≡ layOut (lightsRequest settings pcmd (now (pdata .entry)) lamps) (now (out .entry)) ⌝ }
+    requires { ⌜ (settingsOk settings ≡ true) × LevelsInRange lamps × (pdataMax ≤ length (now out)) ⌝ }
+    ensures { λ r. ⌜ replySeen (r .lamps) (r .error) (r .length) (now (out .exit)) ≡ replyInBuffer (lightsRequest settings pcmd (now (pdata .entry)) lamps) (now (out .entry)) ⌝ }
 {
     if pcmd == ENUMERATE {
         return enumerate(settings, lamps, pdata, out);

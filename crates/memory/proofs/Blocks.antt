@@ -7,11 +7,11 @@ use lib.Dec.{leb, ltb}
 use lib.ListN.{length, take, drop, length-drop, drop-of-length-le}
 use lib.Seq.{take-length, drop-drop, length-take-le}
 use borrow.Author.Tests.{ltb-false, leb-false, le-ltb, lt-leb}
-use Rattle.dpa.specs.Lists.{part}
+use Rattle.dpa.specs.Lists.{slice}
 use Rattle.dpa.proofs.Bool.{second-taken}
 use Rattle.dpa.proofs.Lists.{to-end}
 use Rattle.memory.specs.declared.block.Memory.{Memory}
-use Rattle.memory.specs.declared.block.Memory.the-variants.{Eeprom, Ram, External}
+use Rattle.memory.specs.declared.block.Memory.the-variants.{Eeprom}
 use Rattle.memory.specs.Block.{longestOf, blockFault, put}
 
 -- a block that can be had
@@ -45,13 +45,13 @@ pub counted : (a n : ℕ) → a + n - a ≡ n
 counted a n = omega arith
 
 -- a part that lies in a memory has its length
-pub part-length : (mem : List ℕ) (start n : ℕ) → start + n ≤ length mem → length (part mem start n) ≡ n
+pub part-length : (mem : List ℕ) (start n : ℕ) → start + n ≤ length mem → length (slice mem start n) ≡ n
 part-length mem start n h = length-take-le n (drop start mem) (simp length-drop (omega arith))
 
 -- a copy of a part
 pub copied-out : (mem out : List ℕ) (start n : ℕ) → start + n ≤ length mem
-    → take (length (part mem start (start + n - start))) (part mem start (start + n - start))
-    ++ drop (length (part mem start (start + n - start))) out ≡ part mem start n ++ drop n out
+    → take (length (slice mem start (start + n - start))) (slice mem start (start + n - start))
+    ++ drop (length (slice mem start (start + n - start))) out ≡ slice mem start n ++ drop n out
 copied-out mem out start n h = rw (counted, take-length, part-length mem start n h)
 
 past-end : (a : ℕ) (s : List ℕ) → drop (length s - a) (drop a s) ≡ []

@@ -2,19 +2,18 @@
 use mathlib.Core.Path.{_≡_, refl}
 use mathlib.Core.List.{List, [], _∷_}
 use Prim.Native.Nat.{ℕ}
-use Rattle.dpa.specs.Lists.{part}
-use Rattle.dpa.specs.Served.{served, refused}
+use Rattle.dpa.specs.Lists.{slice}
+use Rattle.dpa.specs.Reply.{reply, refused}
 use Rattle.memory.specs.declared.block.Memory.{Memory}
-use Rattle.memory.specs.declared.block.Memory.the-variants.{Eeprom, Ram, External}
 use Rattle.memory.specs.Block.{blockFault}
 use Rattle.memory.specs.Request.{addressOf, readError, writeError, readRequest, writeRequest, memoryRequest}
 
 pub record Examples (mem : List ℕ) : Type 0 where
   -- external memory at 0x3FFF: one byte, not two
-  pub last : memoryRequest Memory.External 2 (0xFF ∷ 0x3F ∷ 1 ∷ []) mem ≡ served mem 0 (part mem 0x3FFF 1)
+  pub last : memoryRequest Memory.External 2 (0xFF ∷ 0x3F ∷ 1 ∷ []) mem ≡ reply mem 0 (slice mem 0x3FFF 1)
   pub past : memoryRequest Memory.External 2 (0xFF ∷ 0x3F ∷ 2 ∷ []) mem ≡ refused mem 4
   -- a read of no bytes inside EEPROM, and at its end
-  pub none : memoryRequest Memory.Eeprom 0 (191 ∷ 0 ∷ []) mem ≡ served mem 0 []
+  pub none : memoryRequest Memory.Eeprom 0 (191 ∷ 0 ∷ []) mem ≡ reply mem 0 []
   pub none-past : memoryRequest Memory.Eeprom 0 (192 ∷ 0 ∷ []) mem ≡ refused mem 4
   -- too long and outside: 5
   pub longer : memoryRequest Memory.Ram 0 (48 ∷ 49 ∷ []) mem ≡ refused mem 5

@@ -8,12 +8,12 @@ use lib.Dec.{eqb, leb}
 use lib.ListN.{length, take, drop, getD, length-take, length-drop}
 use borrow.Author.Tests.{eqb-true, leb-false, eq-eqb, ne-eqb, lt-leb}
 use Rattle.dpa.specs.Frame.{pdataMax}
-use Rattle.dpa.specs.Lists.{part}
-use Rattle.dpa.specs.Served.{Harmless, Served, served, refused, laid, layOut}
+use Rattle.dpa.specs.Lists.{slice}
+use Rattle.dpa.specs.Reply.{Harmless, Reply, reply, refused, replySeen, replyInBuffer}
 use Rattle.dpa.proofs.Bool.{by-cond, first-taken, second-taken}
 use Rattle.dpa.proofs.Lists.{to-end}
 use Rattle.memory.specs.declared.block.Memory.{Memory}
-use Rattle.memory.specs.declared.block.Memory.the-variants.{Eeprom, Ram, External}
+use Rattle.memory.specs.declared.block.Memory.the-variants.{Eeprom}
 use Rattle.memory.specs.Block.{sizeOf, longestOf, addressBytes, readCommand, writeCommand, put}
 use Rattle.memory.specs.Request.{addressOf, startOf, lengthOf, dataOf, blockError, readError, writeError, readRequest, writeRequest, memoryRequest}
 use Rattle.memory.proofs.Blocks.{Fits, block-fits, fits-block, longest-max, part-length}
@@ -51,11 +51,11 @@ module _ (m : Memory) (p : List ℕ) where
 
   module _ (mem : List ℕ) where
     -- an error: nothing written
-    pub read-refused : (out : List ℕ) (e : ℕ) → e ≡ readError m p → (e ≡ 0 → ⊥) → laid mem e 0 out ≡ layOut (readRequest m p mem) out
+    pub read-refused : (out : List ℕ) (e : ℕ) → e ≡ readError m p → (e ≡ 0 → ⊥) → replySeen mem e 0 out ≡ replyInBuffer (readRequest m p mem) out
     unfolding readRequest
     read-refused out e q h = simp (← q, ne-eqb e 0 h)
 
-    pub write-refused : (out : List ℕ) (e : ℕ) → e ≡ writeError m p → (e ≡ 0 → ⊥) → laid mem e 0 out ≡ layOut (writeRequest m p mem) out
+    pub write-refused : (out : List ℕ) (e : ℕ) → e ≡ writeError m p → (e ≡ 0 → ⊥) → replySeen mem e 0 out ≡ replyInBuffer (writeRequest m p mem) out
     unfolding writeRequest
     write-refused out e q h = simp (← q, ne-eqb e 0 h)
 
@@ -67,7 +67,7 @@ module _ (m : Memory) (p : List ℕ) where
           let l : n ≡ lengthOf m p = en ∙ ap (λ (k : ℕ). getD p k 0) ew in
           (omega (arith, f .ends), omega (arith, f .short, longest-max m))
 
-      pub read-served : (out last : List ℕ) → last ≡ part mem a n ++ drop n out → laid mem 0 n last ≡ layOut (readRequest m p mem) out
+      pub read-served : (out last : List ℕ) → last ≡ slice mem a n ++ drop n out → replySeen mem 0 n last ≡ replyInBuffer (readRequest m p mem) out
       unfolding readRequest
       read-served out last el = rw (z, ← ew, ← ea, ← en, part-length mem a n (read-place .0), el)
 
@@ -78,7 +78,7 @@ module _ (m : Memory) (p : List ℕ) where
           let s : a ≡ startOf m p = ea ∙ ap (λ (k : ℕ). addressOf k p) ew in
           omega (arith, f .ends)
 
-      pub write-served : (out last : List ℕ) → last ≡ put mem a (take (length p - w) (drop w p)) → laid last 0 0 out ≡ layOut (writeRequest m p mem) out
+      pub write-served : (out last : List ℕ) → last ≡ put mem a (take (length p - w) (drop w p)) → replySeen last 0 0 out ≡ replyInBuffer (writeRequest m p mem) out
       unfolding writeRequest
       write-served out last el = rw (z, ← ew, ← ea, el, to-end w p)
 
@@ -90,7 +90,7 @@ commands-differ Memory.External = refl
 
 module _ (m : Memory) (p mem : List ℕ) where
   -- what a request without a fault does
-  pub read-accepted : ReadFits m p → memoryRequest m (readCommand m) p mem ≡ served mem 0 (part mem (startOf m p) (lengthOf m p))
+  pub read-accepted : ReadFits m p → memoryRequest m (readCommand m) p mem ≡ reply mem 0 (slice mem (startOf m p) (lengthOf m p))
   unfolding memoryRequest readRequest readError
   read-accepted f =
       simp (
@@ -99,7 +99,7 @@ module _ (m : Memory) (p mem : List ℕ) where
         fits-block (sizeOf m) (longestOf m) (startOf m p) (lengthOf m p) 5 4 (f .1),
       )
 
-  pub write-accepted : WriteFits m p → memoryRequest m (writeCommand m) p mem ≡ served (put mem (startOf m p) (dataOf m p)) 0 []
+  pub write-accepted : WriteFits m p → memoryRequest m (writeCommand m) p mem ≡ reply (put mem (startOf m p) (dataOf m p)) 0 []
   unfolding memoryRequest writeRequest writeError
   write-accepted f =
       simp (
@@ -111,9 +111,9 @@ module _ (m : Memory) (p mem : List ℕ) where
 
   module _ (pcmd : ℕ) where
     -- what holds of a read, of a write and of every error holds of a request
-    pub request-cases : (P : Served (List ℕ) → Type 0)
-        → (readError m p ≡ 0 → P (served mem 0 (part mem (startOf m p) (lengthOf m p))))
-        → (writeError m p ≡ 0 → P (served (put mem (startOf m p) (dataOf m p)) 0 []))
+    pub request-cases : (P : Reply (List ℕ) → Type 0)
+        → (readError m p ≡ 0 → P (reply mem 0 (slice mem (startOf m p) (lengthOf m p))))
+        → (writeError m p ≡ 0 → P (reply (put mem (startOf m p) (dataOf m p)) 0 []))
         → ((e : ℕ) → P (refused mem e))
         → P (memoryRequest m pcmd p mem)
     unfolding memoryRequest readRequest writeRequest
@@ -126,12 +126,12 @@ module _ (m : Memory) (p mem : List ℕ) where
 
     -- a request with an error leaves the memory and answers no data
     pub request-harmless : Harmless mem (memoryRequest m pcmd p mem)
-    request-harmless = request-cases (λ (x : Served (List ℕ)). Harmless mem x) (λ z h. absurd (h refl)) (λ z h. absurd (h refl)) (λ e h. (refl, refl))
+    request-harmless = request-cases (λ (x : Reply (List ℕ)). Harmless mem x) (λ z h. absurd (h refl)) (λ z h. absurd (h refl)) (λ e h. (refl, refl))
 
     -- a memory keeps its length
     pub request-length : length mem ≡ sizeOf m → length (memoryRequest m pcmd p mem .after) ≡ length mem
     request-length size =
-        request-cases (λ (x : Served (List ℕ)). length (x .after) ≡ length mem)
+        request-cases (λ (x : Reply (List ℕ)). length (x .after) ≡ length mem)
         (λ z. refl)
         (λ z. put-length mem (startOf m p) (dataOf m p) (rw length-drop (omega (arith, write-fits m p z .1 .ends))))
         (λ e. refl)
@@ -139,7 +139,7 @@ module _ (m : Memory) (p mem : List ℕ) where
     -- an answer is no longer than the memory's longest block
     pub request-longest : length (memoryRequest m pcmd p mem .bytes) ≤ longestOf m
     request-longest =
-        request-cases (λ (x : Served (List ℕ)). length (x .bytes) ≤ longestOf m)
+        request-cases (λ (x : Reply (List ℕ)). length (x .bytes) ≤ longestOf m)
         (λ z. rw length-take (omega (arith, read-fits m p z .1 .short)))
         (λ z. omega arith)
         (λ e. omega arith)
@@ -151,7 +151,7 @@ module _ (m : Memory) (p mem : List ℕ) where
 -- a write at an address of one byte
 pub write-short : (m : Memory) (mem : List ℕ) (a : ℕ) (d : List ℕ) → addressBytes m ≡ 1 → 0 < length d
     → Fits (sizeOf m) (longestOf m) a (length d)
-    → memoryRequest m (writeCommand m) (a ∷ d) mem ≡ served (put mem a d) 0 []
+    → memoryRequest m (writeCommand m) (a ∷ d) mem ≡ reply (put mem a d) 0 []
 unfolding addressOf
 write-short m mem a d one some f =
     let s : startOf m (a ∷ d) ≡ a = ap (λ (w : ℕ). addressOf w (a ∷ d)) one in

@@ -8,7 +8,7 @@ use lib.Dec.{eqb}
 use lib.ListN.{length}
 use denote.Ref.{RefT, now}
 use borrow.Author.Tests.{eqb-true, eqb-false, eq-eqb, ne-eqb}
-use Rattle.dpa.specs.Lists.{part}
+use Rattle.dpa.specs.Lists.{slice}
 use Rattle.dpa.proofs.Bool.{first-taken, by-test}
 use Rattle.memory.specs.declared.block.Memory.{Memory}
 use Rattle.memory.specs.declared.block.Memory.the-variants.{Eeprom, External}
@@ -57,12 +57,12 @@ module _ (e x : List ℕ) (p start n : ℕ) where
   view-refused h = simp (ne-eqb (viewStatus e x p start n) 0 h)
 
   -- one that is not, with EEPROM's PNUM, is a part of EEPROM
-  pub view-eeprom : viewStatus e x p start n ≡ 0 → p ≡ memoryPnum Eeprom → viewPart e x p start n ≡ part e start n
+  pub view-eeprom : viewStatus e x p start n ≡ 0 → p ≡ memoryPnum Eeprom → viewPart e x p start n ≡ slice e start n
   unfolding viewPart
   view-eeprom z q = simp (z, eq-eqb p (memoryPnum Eeprom) q)
 
   -- with any other, a part of external memory
-  pub view-external : viewStatus e x p start n ≡ 0 → (p ≡ memoryPnum Eeprom → ⊥) → viewPart e x p start n ≡ part x start n
+  pub view-external : viewStatus e x p start n ≡ 0 → (p ≡ memoryPnum Eeprom → ⊥) → viewPart e x p start n ≡ slice x start n
   unfolding viewPart
   view-external z q = simp (z, ne-eqb p (memoryPnum Eeprom) q)
 

@@ -5,8 +5,8 @@ use mathlib.Core.Bool.{cond}
 use lib.ListN.{length, drop, getD}
 use lib.Dec.{eqb, leb}
 use Rattle.dpa.specs.Number.{wordAt}
-use Rattle.dpa.specs.Lists.{part}
-use Rattle.dpa.specs.Served.{Served, served, refused}
+use Rattle.dpa.specs.Lists.{slice}
+use Rattle.dpa.specs.Reply.{Reply, reply, refused}
 use Rattle.memory.specs.declared.block.Memory.{Memory}
 use Rattle.memory.specs.Block.{sizeOf, longestOf, addressBytes, readCommand, writeCommand, blockFault, put}
 
@@ -42,19 +42,19 @@ writeError m pdata =
     (blockError m (startOf m pdata) (length pdata - addressBytes m))
 
 -- an answer, unless there is an error
-abbrev pub unless : {S : Type 0} → ℕ → S → Served S → Served S
+abbrev pub unless : {S : Type 0} → ℕ → S → Reply S → Reply S
 unless error s answer = cond (eqb error 0) answer (refused s error)
 
-unfoldable pub readRequest : Memory → List ℕ → List ℕ → Served (List ℕ)
+unfoldable pub readRequest : Memory → List ℕ → List ℕ → Reply (List ℕ)
 readRequest m pdata mem =
-    unless (readError m pdata) mem (served mem 0 (part mem (startOf m pdata) (lengthOf m pdata)))
+    unless (readError m pdata) mem (reply mem 0 (slice mem (startOf m pdata) (lengthOf m pdata)))
 
-unfoldable pub writeRequest : Memory → List ℕ → List ℕ → Served (List ℕ)
+unfoldable pub writeRequest : Memory → List ℕ → List ℕ → Reply (List ℕ)
 writeRequest m pdata mem =
-    unless (writeError m pdata) mem (served (put mem (startOf m pdata) (dataOf m pdata)) 0 [])
+    unless (writeError m pdata) mem (reply (put mem (startOf m pdata) (dataOf m pdata)) 0 [])
 
 -- a PCMD that is neither: 2
-unfoldable pub memoryRequest : Memory → ℕ → List ℕ → List ℕ → Served (List ℕ)
+unfoldable pub memoryRequest : Memory → ℕ → List ℕ → List ℕ → Reply (List ℕ)
 memoryRequest m pcmd pdata mem =
     cond (eqb pcmd (readCommand m)) (readRequest m pdata mem)
     (cond (eqb pcmd (writeCommand m)) (writeRequest m pdata mem)

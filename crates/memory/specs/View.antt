@@ -5,9 +5,8 @@ use mathlib.Core.Bool.{Bool, cond, _||_}
 use lib.ListN.{length}
 use lib.Dec.{eqb}
 use denote.Ref.{RefT, now, ptr}
-use Rattle.dpa.specs.Lists.{part}
+use Rattle.dpa.specs.Lists.{slice}
 use Rattle.memory.specs.declared.block.Memory.{Memory}
-use Rattle.memory.specs.declared.block.Memory.the-variants.{Eeprom, External}
 use Rattle.memory.specs.Block.{memoryPnum, sizeOf, longestOf, blockFault}
 
 -- a view is of EEPROM or of external memory
@@ -33,7 +32,7 @@ viewStatus eeprom external pnum start n =
 unfoldable pub viewPart : List ℕ → List ℕ → ℕ → ℕ → ℕ → List ℕ
 viewPart eeprom external pnum start n =
     cond (eqb (viewStatus eeprom external pnum start n) 0)
-    (cond (eqb pnum (memoryPnum Memory.Eeprom)) (part eeprom start n) (part external start n))
+    (cond (eqb pnum (memoryPnum Memory.Eeprom)) (slice eeprom start n) (slice external start n))
     []
 
 -- a place in lent bytes: the allocation that they lie in, and an offset there

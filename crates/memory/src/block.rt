@@ -3,7 +3,7 @@ ghost use mathlib.Core.Path.{_≡_};
 ghost use mathlib.Core.List.{_++_};
 ghost use Prim.Native.Nat.{_+_, _≤_};
 ghost use lib.ListN.{length, drop};
-ghost use Rattle.dpa.specs.Lists.{part};
+ghost use Rattle.dpa.specs.Lists.{slice};
 ghost use Rattle.memory.specs.Block.{sizeOf, longestOf, addressBytes, readCommand, writeCommand, blockFault, put};
 
 pub enum Memory {
@@ -86,7 +86,7 @@ pub fn block_fault(memory: Memory, start: usize, count: usize, too_long: u8, out
 // A block of mem to the front of out, whose later bytes stay.
 pub fn copy_out(mem: &[u8], start: usize, count: usize, out: &mut [u8])
     requires { ⌜ (start + count ≤ length (now mem)) × (count ≤ length (now out)) ⌝ }
-    ensures { λ _. ⌜ now (out .exit) ≡ part (now (mem .entry)) start count ++ drop count (now (out .entry)) ⌝ }
+    ensures { λ _. ⌜ now (out .exit) ≡ slice (now (mem .entry)) start count ++ drop count (now (out .entry)) ⌝ }
 {
     let end = start + count;
     bytes::copy(&mem[start..end], out);

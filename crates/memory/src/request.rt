@@ -15,7 +15,7 @@ ghost use mathlib.Core.List.{List};
 ghost use Prim.Native.Nat.{ℕ, _≤_};
 ghost use lib.ListN.{length};
 ghost use Rattle.dpa.specs.Frame.{pdataMax};
-ghost use Rattle.dpa.specs.Served.{laid, layOut};
+ghost use Rattle.dpa.specs.Reply.{replySeen, replyInBuffer};
 ghost use Rattle.memory.specs.Block.{sizeOf};
 ghost use Rattle.memory.specs.Request.{blockError, addressOf, readError, writeError, readRequest, writeRequest, memoryRequest};
 
@@ -65,8 +65,8 @@ fn write_error(memory: Memory, pdata: &[u8]) -> u8
 // A read. The bytes of the block go to the front of out.
 fn read(memory: Memory, mem: &[u8], pdata: &[u8], out: &mut [u8]) -> Reply
     requires { ⌜ (length (now mem) ≡ sizeOf memory) × (pdataMax ≤ length (now out)) ⌝ }
-    ensures { λ r. ⌜ laid (now (mem .entry)) (r .error) (r .length) (now (out .exit))
-        ≡ layOut (readRequest memory (now (pdata .entry)) (now (mem .entry))) (now (out .entry)) ⌝ }
+    ensures { λ r. ⌜ replySeen (now (mem .entry)) (r .error) (r .length) (now (out .exit))
+        ≡ replyInBuffer (readRequest memory (now (pdata .entry)) (now (mem .entry))) (now (out .entry)) ⌝ }
 {
     let error = read_error(memory, pdata);
     if error != dpa::error::NONE {
@@ -85,8 +85,8 @@ fn read(memory: Memory, mem: &[u8], pdata: &[u8], out: &mut [u8]) -> Reply
 // A write answers no data: only ErrN.
 fn write(memory: Memory, mem: &mut [u8], pdata: &[u8]) -> u8
     requires { ⌜ length (now mem) ≡ sizeOf memory ⌝ }
-    ensures { λ r. ⌜ ((o : List ℕ) → laid (now (mem .exit)) r 0 o
-        ≡ layOut (writeRequest memory (now (pdata .entry)) (now (mem .entry))) o) ⌝ }
+    ensures { λ r. ⌜ ((o : List ℕ) → replySeen (now (mem .exit)) r 0 o
+        ≡ replyInBuffer (writeRequest memory (now (pdata .entry)) (now (mem .entry))) o) ⌝ }
 {
     let error = write_error(memory, pdata);
     if error != dpa::error::NONE {
@@ -101,8 +101,8 @@ fn write(memory: Memory, mem: &mut [u8], pdata: &[u8]) -> u8
 // A request on a memory. The answer's data goes to the front of out; an error writes nothing.
 pub fn request(memory: Memory, mem: &mut [u8], pcmd: u8, pdata: &[u8], out: &mut [u8]) -> Reply
     requires { ⌜ (length (now mem) ≡ sizeOf memory) × (pdataMax ≤ length (now out)) ⌝ }
-    ensures { λ r. ⌜ laid (now (mem .exit)) (r .error) (r .length) (now (out .exit))
-        ≡ layOut (memoryRequest memory pcmd (now (pdata .entry)) (now (mem .entry))) (now (out .entry)) ⌝ }
+    ensures { λ r. ⌜ replySeen (now (mem .exit)) (r .error) (r .length) (now (out .exit))
+        ≡ replyInBuffer (memoryRequest memory pcmd (now (pdata .entry)) (now (mem .entry))) (now (out .entry)) ⌝ }
 {
     if pcmd == read_command(memory) {
         return read(memory, mem, pdata, out);

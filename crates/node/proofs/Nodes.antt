@@ -12,7 +12,7 @@ use Rattle.dpa.specs.Settings.{settingsOk}
 use Rattle.dpa.proofs.Bool.{and-left, and-right, both, by-test, all-intro, all-elim}
 use Rattle.dpa.proofs.Ranges.{settings-facts}
 use Rattle.lights.specs.declared.lamp.Lamp.{Lamp}
-use Rattle.lights.specs.Lamp.{off, lampFits, Dimmed, actualLevel, tickLamp}
+use Rattle.lights.specs.Lamp.{off, lampFits, LevelsInRange, actualLevel, tickLamp}
 use Rattle.lights.proofs.Lamps.{lamp-facts, zero-facts, off-rule, fits-below, fits-above, fits-test, fits-rule, tick-keeps, tick-seconds, tick-ends, tick-level, actual-max, actual-off}
 use Rattle.node.specs.declared.record.Node.{Node}
 use Rattle.node.specs.Node.{withLamps, withRam, shapeOk, lampsOk, nodeOk, NodeRule, answer, fresh, blank, startOf, actualLevels, levelsOf, tickLamps, tickNode, tickOf}
@@ -50,7 +50,7 @@ module _ (n : Node) (e : nodeOk n ≡ true) where
   node-fits = all-elim 32 _ (and-right (shapeOk n && settingsOk (n .settings)) (lampsOk (n .settings .«lamp_count») (n .lamps)) e)
 
   -- no level of a sound node is over 100
-  pub node-dimmed : Dimmed (n .lamps)
+  pub node-dimmed : LevelsInRange (n .lamps)
   node-dimmed k =
       by-test (ltb k 32)
       (λ t. fits-rule _ k _ (node-fits k (ltb-true _ _ t)) .level-max)

@@ -3,27 +3,28 @@ use crate::record::Node;
 use crate::record::node_ok;
 use dpa::refusal;
 use dpa::settings::Settings;
+use lights::lamp::LAMPS;
 use lights::lamp::Lamp;
 use lights::lamp::actual_level;
 ghost use mathlib.Core.Path.{_≡_};
 ghost use mathlib.Core.Bool.{true};
 ghost use Rattle.dpa.specs.Settings.{settingsOk};
-ghost use Rattle.lights.specs.Lamp.{Dimmed};
+ghost use Rattle.lights.specs.Lamp.{LevelsInRange};
 ghost use Rattle.node.specs.Node.{actualLevels, levelsOf};
 
 #[repr(C)]
 pub struct LevelsAnswer {
     pub refusal: u8,
-    pub levels: [u8; 32],
+    pub levels: [u8; LAMPS],
 }
 
-fn each_level(settings: Settings, lamps: [Lamp; 32]) -> [u8; 32]
-    requires { ⌜ (settingsOk settings ≡ true) × Dimmed lamps ⌝ }
+fn each_level(settings: Settings, lamps: [Lamp; LAMPS]) -> [u8; LAMPS]
+    requires { ⌜ (settingsOk settings ≡ true) × LevelsInRange lamps ⌝ }
     ensures { λ r. ⌜ r ≡ actualLevels settings lamps ⌝ }
 {
-    let mut levels = [0u8; 32];
+    let mut levels = [0u8; LAMPS];
     let mut i: usize = 0;
-    while i < 32 {
+    while i < LAMPS {
         let lamp = lamps[i];
         levels[i] = actual_level(settings, lamp.level);
         i = i + 1;
@@ -38,7 +39,7 @@ pub fn actual_levels(node: Node) -> LevelsAnswer
     if !node_ok(node) {
         return LevelsAnswer {
             refusal: refusal::NODE,
-            levels: [0; 32],
+            levels: [0; LAMPS],
         };
     }
     let lamps = node.lamps;

@@ -2,6 +2,7 @@
 use dpa::number::wide;
 use dpa::settings::Settings;
 use dpa::settings::settings_ok;
+use lights::lamp::LAMPS;
 use lights::lamp::Lamp;
 use lights::lamp::lamp_ok;
 use lights::lamp::lamp_zero;
@@ -15,7 +16,7 @@ ghost use Rattle.node.specs.Node.{readOnlyOf, nodeFromParts, lampsOk, no
 #[repr(C)]
 pub struct Node {
     pub settings: Settings,
-    pub lamps: [Lamp; 32],
+    pub lamps: [Lamp; LAMPS],
     pub ram: [u8; 48],
 }
 
@@ -39,7 +40,7 @@ pub fn read_only(node: Node) -> ReadOnly
 }
 
 // The node put together again.
-pub fn node_from_parts(fixed: ReadOnly, lamps: [Lamp; 32], ram: [u8; 48]) -> Node
+pub fn node_from_parts(fixed: ReadOnly, lamps: [Lamp; LAMPS], ram: [u8; 48]) -> Node
     ensures { λ r. ⌜ r ≡ nodeFromParts fixed lamps ram ⌝ }
 {
     let settings = fixed.settings;
@@ -51,7 +52,7 @@ pub fn node_from_parts(fixed: ReadOnly, lamps: [Lamp; 32], ram: [u8; 48]) -> Nod
 }
 
 // Whether each implemented lamp keeps its rule. The loop has no way out before its end, so it goes over several lamps at once.
-fn implemented_ok(count: usize, lamps: [Lamp; 32]) -> bool
+fn implemented_ok(count: usize, lamps: [Lamp; LAMPS]) -> bool
     requires { ⌜ count ≤ 32 ⌝ }
     ensures { λ r. ⌜ r ≡ allBelow count (λ k. lampFits count k (getD lamps k off)) ⌝ }
 {
@@ -65,13 +66,13 @@ fn implemented_ok(count: usize, lamps: [Lamp; 32]) -> bool
     ok
 }
 
-fn lamps_ok(count: usize, lamps: [Lamp; 32]) -> bool
+fn lamps_ok(count: usize, lamps: [Lamp; LAMPS]) -> bool
     requires { ⌜ count ≤ 32 ⌝ }
     ensures { λ r. ⌜ r ≡ lampsOk count lamps ⌝ }
 {
     let mut ok = implemented_ok(count, lamps);
     let mut i = count;
-    while i < 32 {
+    while i < LAMPS {
         let lamp = lamps[i];
         ok = ok & lamp_zero(lamp);
         i = i + 1;

@@ -4,6 +4,7 @@ use crate::record::NodeAnswer;
 use dpa::refusal;
 use dpa::settings::Settings;
 use dpa::settings::settings_ok;
+use lights::lamp::LAMPS;
 use lights::lamp::Lamp;
 ghost use mathlib.Core.Path.{_≡_};
 ghost use Rattle.node.specs.Node.{fresh, startOf};
@@ -17,7 +18,7 @@ fn fresh_node(settings: Settings) -> Node
     };
     Node {
         settings,
-        lamps: [off; 32],
+        lamps: [off; LAMPS],
         ram: [0; 48],
     }
 }

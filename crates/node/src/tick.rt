@@ -3,17 +3,18 @@ use crate::record::Node;
 use crate::record::NodeAnswer;
 use crate::record::node_ok;
 use dpa::refusal;
+use lights::lamp::LAMPS;
 use lights::lamp::Lamp;
 use lights::lamp::tick_lamp;
 ghost use mathlib.Core.Path.{_≡_};
 ghost use Rattle.node.specs.Node.{tickLamps, tickOf};
 
-fn tick_lamps(lamps: [Lamp; 32]) -> [Lamp; 32]
+fn tick_lamps(lamps: [Lamp; LAMPS]) -> [Lamp; LAMPS]
     ensures { λ r. ⌜ r ≡ tickLamps lamps ⌝ }
 {
     let mut next = lamps;
     let mut i: usize = 0;
-    while i < 32 {
+    while i < LAMPS {
         let lamp = next[i];
         next[i] = tick_lamp(lamp);
         i = i + 1;

@@ -9,40 +9,41 @@ use lib.ListN.{length, take, drop, length-append}
 use lib.Seq.{drop-drop}
 use borrow.Author.Tests.{le-leb, lt-leb, leb-true}
 use Rattle.dpa.proofs.Bool.{by-test, by-cond}
-use Rattle.batch.specs.Batch.{All, entryBytes, entriesBytes}
+use Rattle.batch.specs.Batch.{entryBytes, entriesBytes}
+use Rattle.dpa.specs.Lists.{All}
 use Rattle.book.specs.declared.step.Step.{Step}
 use Rattle.book.specs.Group.{joined, grow, group}
-use Rattle.book.specs.Entry.{runData, joinedItem}
+use Rattle.book.specs.Entry.{groupData, joinedItem}
 use Rattle.book.specs.Join.{entriesOf}
-use Rattle.book.specs.Run.{FirstRun}
+use Rattle.book.specs.Run.{FirstEntry}
 use Rattle.book.proofs.Faults.{Good}
 use Rattle.book.proofs.Groups.{grow-in, grow-out}
 use Rattle.book.proofs.Runs.{Run, runs, joining-keeps}
 use Rattle.scene.specs.Compile.{Limits, joinedItems, listOf, fills, batchesOf}
 use Rattle.scene.specs.Call.{lengths}
-use Rattle.scene.specs.Fill.{takes, nextSize, turnBytes, turnLength}
+use Rattle.scene.specs.Fill.{fitsList, nextSize, separatorBytes, separatorLength}
 use Rattle.scene.proofs.Sizes.{entries-snoc, list-snoc, list-one}
 
 -- all bytes after an open list's entries, where these entries are left
 abbrev pub bytesLeft : ℕ → List ℕ → ℕ → ℕ → List (List Step) → List ℕ
 bytesLeft listMost head h size [] = 0 ∷ []
 bytesLeft listMost head h size (r ∷ rs) =
-    let more = length (runData r) in
-    turnBytes listMost head size more ++ (entryBytes (joinedItem h r) ++ bytesLeft listMost head h (nextSize listMost size more) rs)
+    let more = length (groupData r) in
+    separatorBytes listMost head size more ++ (entryBytes (joinedItem h r) ++ bytesLeft listMost head h (nextSize listMost size more) rs)
 
 -- the length bytes of its request and of those after it
 abbrev pub lengthsLeft : ℕ → ℕ → ℕ → List (List Step) → List ℕ
 lengthsLeft listMost head size [] = (size + head) ∷ []
 lengthsLeft listMost head size (r ∷ rs) =
-    let more = length (runData r) in
-    turnLength listMost head size more ++ lengthsLeft listMost head (nextSize listMost size more) rs
+    let more = length (groupData r) in
+    separatorLength listMost head size more ++ lengthsLeft listMost head (nextSize listMost size more) rs
 
 -- requests that begin with the bytes `head`, in front of their lists
 abbrev pub headed : List ℕ → ℕ → List (List Step) → List ℕ
 headed head h runs = head ++ listOf h runs
 
 module _ (listMost : ℕ) (head : List ℕ) (h : ℕ) where
-  fills-as : (cur : List (List Step)) (r : List Step) → fills listMost h cur r ≡ takes listMost (length (listOf h cur)) (length (runData r))
+  fills-as : (cur : List (List Step)) (r : List Step) → fills listMost h cur r ≡ fitsList listMost (length (listOf h cur)) (length (groupData r))
   fills-as cur r = ap (λ (n : ℕ). leb n listMost) (list-snoc h cur r)
 
   headed-length : (cur : List (List Step)) → length (headed head h cur) ≡ length (listOf h cur) + length head
@@ -51,7 +52,7 @@ module _ (listMost : ℕ) (head : List ℕ) (h : ℕ) where
   -- the requests from an open list on: its own beginning, its entries, and what is left
   pub grow-bytes : (cur rs : List (List Step)) → joined (map (headed head h) (grow (fills listMost h) cur rs))
       ≡ head ++ (entriesBytes (joinedItems h cur) ++ bytesLeft listMost head h (length (listOf h cur)) rs)
-  unfolding nextSize turnBytes entriesBytes
+  unfolding nextSize separatorBytes entriesBytes
   grow-bytes cur [] = append-nil (headed head h cur)
   grow-bytes cur (r ∷ rs) =
       by-test (fills listMost h cur r)
@@ -71,7 +72,7 @@ module _ (listMost : ℕ) (head : List ℕ) (h : ℕ) where
   -- their lengths
   pub grow-lengths : (cur rs : List (List Step)) → lengths (map (headed head h) (grow (fills listMost h) cur rs))
       ≡ lengthsLeft listMost (length head) (length (listOf h cur)) rs
-  unfolding nextSize turnLength
+  unfolding nextSize separatorLength
   grow-lengths cur [] = ap (λ (n : ℕ). n ∷ []) (headed-length cur)
   grow-lengths cur (r ∷ rs) =
       by-test (fills listMost h cur r)
@@ -82,13 +83,13 @@ module _ (listMost : ℕ) (head : List ℕ) (h : ℕ) where
 -- an entry that goes into the open list, and one that finds it full
 module _ (listMost : ℕ) (head : List ℕ) (n size more : ℕ) where
   pub turn-in : size + (5 + more) ≤ listMost
-      → (turnBytes listMost head size more ≡ []) × (turnLength listMost n size more ≡ []) × (nextSize listMost size more ≡ size + (5 + more))
-  unfolding turnBytes turnLength nextSize
+      → (separatorBytes listMost head size more ≡ []) × (separatorLength listMost n size more ≡ []) × (nextSize listMost size more ≡ size + (5 + more))
+  unfolding separatorBytes separatorLength nextSize
   turn-in h = rw (le-leb (size + (5 + more)) listMost h) (refl, refl, refl)
 
   pub turn-out : listMost < size + (5 + more)
-      → (turnBytes listMost head size more ≡ 0 ∷ head) × (turnLength listMost n size more ≡ (size + n) ∷ []) × (nextSize listMost size more ≡ 6 + more)
-  unfolding turnBytes turnLength nextSize
+      → (separatorBytes listMost head size more ≡ 0 ∷ head) × (separatorLength listMost n size more ≡ (size + n) ∷ []) × (nextSize listMost size more ≡ 6 + more)
+  unfolding separatorBytes separatorLength nextSize
   turn-out h = rw (lt-leb (size + (5 + more)) listMost h) (refl, refl, refl)
 
 module _ {entryMost listMost : ℕ} {front : List ℕ} (l : Limits entryMost listMost front) where
@@ -96,7 +97,7 @@ module _ {entryMost listMost : ℕ} {front : List ℕ} (l : Limits entryMost lis
   pub next-small : (size more : ℕ) → more ≤ entryMost → nextSize listMost size more ≤ listMost
   unfolding nextSize
   next-small size more m =
-      by-cond (λ (n : ℕ). n ≤ listMost) (takes listMost size more) _ _ (λ e. leb-true _ _ e) (λ e. omega (arith, l .list))
+      by-cond (λ (n : ℕ). n ≤ listMost) (fitsList listMost size more) _ _ (λ e. leb-true _ _ e) (λ e. omega (arith, l .list))
 
   module _ (head : List ℕ) (h : ℕ) (ss : List Step) (good : All Good ss) (some : 0 < length ss) where
     first-fills : (r : List Step) → Run entryMost r → fills listMost h [] r ≡ true
@@ -123,15 +124,15 @@ module _ {entryMost listMost : ℕ} {front : List ℕ} (l : Limits entryMost lis
         ap (λ (bs : List (List (List Step))). lengths (map (headed head h) bs)) batches-grow ∙ grow-lengths listMost head h [] (entriesOf entryMost ss)
 
 -- ---- the next entry of the steps from `done` on
-module _ (entryMost listMost : ℕ) (ss : List Step) (done k sz : ℕ) (f : FirstRun entryMost (drop done ss) k sz) where
+module _ (entryMost listMost : ℕ) (ss : List Step) (done k sz : ℕ) (f : FirstEntry entryMost (drop done ss) k sz) where
   pub entries-next : entriesOf entryMost (drop done ss) ≡ take k (drop done ss) ∷ entriesOf entryMost (drop (done + k) ss)
   entries-next = f .first ∙ ap (λ (t : List Step). take k (drop done ss) ∷ entriesOf entryMost t) (drop-drop k done ss)
 
   pub bytes-next : (head : List ℕ) (h size : ℕ) → bytesLeft listMost head h size (entriesOf entryMost (drop done ss))
-      ≡ turnBytes listMost head size sz
+      ≡ separatorBytes listMost head size sz
       ++ (entryBytes (joinedItem h (take k (drop done ss))) ++ bytesLeft listMost head h (nextSize listMost size sz) (entriesOf entryMost (drop (done + k) ss)))
   bytes-next head h size = rw (entries-next, f .fits)
 
   pub lengths-next : (head size : ℕ) → lengthsLeft listMost head size (entriesOf entryMost (drop done ss))
-      ≡ turnLength listMost head size sz ++ lengthsLeft listMost head (nextSize listMost size sz) (entriesOf entryMost (drop (done + k) ss))
+      ≡ separatorLength listMost head size sz ++ lengthsLeft listMost head (nextSize listMost size sz) (entriesOf entryMost (drop (done + k) ss))
   lengths-next head size = rw (entries-next, f .fits)

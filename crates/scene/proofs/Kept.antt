@@ -9,16 +9,16 @@ use native.Mathlib.Omega.{arith}
 use lib.ListN.{length, getD, take, drop, set, length-drop, drop-of-length-le, length-append, take-append-drop}
 use lib.Seq.{sets, sets-eq, drop-drop, getD-drop, length-take-le}
 use Rattle.dpa.proofs.Bool.{by-cond}
-use Rattle.batch.specs.Batch.{All}
+use Rattle.dpa.specs.Lists.{All}
 use Rattle.book.specs.declared.step.Step.{Step}
 use Rattle.book.specs.Group.{joined, grow, group}
-use Rattle.book.specs.Entry.{runData}
+use Rattle.book.specs.Entry.{groupData}
 use Rattle.book.specs.Join.{joins, entriesOf}
-use Rattle.book.specs.Run.{FirstRun}
+use Rattle.book.specs.Run.{FirstEntry}
 use Rattle.book.proofs.Faults.{Good}
 use Rattle.book.proofs.Groups.{length-group}
 use Rattle.book.proofs.Runs.{Run, runs, joining-keeps}
-use Rattle.scene.specs.Fill.{runBytes, KeepsEntries}
+use Rattle.scene.specs.Fill.{spanBytes, KeepsEntries}
 use Rattle.scene.proofs.Filling.{entries-next}
 use Rattle.scene.proofs.Requests.{Left, left-more}
 
@@ -50,19 +50,19 @@ taken zero xs = (refl, refl)
 taken (suc k) [] = (refl, refl)
 taken {A} (suc k) (x ∷ xs) = let t = taken k xs in (ap (λ (l : List A). x ∷ l) (t .0), t .1)
 
-run-some : (most : ℕ) (r : List Step) → Run most r → (1 ≤ length r) × (length (runData r) ≤ most)
+run-some : (most : ℕ) (r : List Step) → Run most r → (1 ≤ length r) × (length (groupData r) ≤ most)
 run-some most [] q = absurd q
 run-some most (s ∷ ss) q = (omega arith, q .2)
 
 -- what byte m and the byte behind it tell, where those of these steps' entries begin at byte m
 pub record Next (entryMost : ℕ) (xs : List Step) (kept : List ℕ) (m : ℕ) : Type 0 where
   pub inside : m + 1 < length kept
-  pub run : FirstRun entryMost xs (getD kept m 0) (getD kept (m + 1) 0)
+  pub run : FirstEntry entryMost xs (getD kept m 0) (getD kept (m + 1) 0)
   pub rest : KeepsEntries entryMost (drop (getD kept m 0) xs) (drop (m + 2) kept)
 
 -- the entry that joining makes first
 module _ (entryMost : ℕ) (six : 6 ≤ entryMost) (xs : List Step) (good : All Good xs) where
-  first-run : (r : List Step) (rs : List (List Step)) → entriesOf entryMost xs ≡ r ∷ rs → FirstRun entryMost xs (length r) (length (runData r))
+  first-run : (r : List Step) (rs : List (List Step)) → entriesOf entryMost xs ≡ r ∷ rs → FirstEntry entryMost xs (length r) (length (groupData r))
   first-run r rs e =
       let c = group-cut (joins entryMost) xs r rs e in
       let t = taken (c .count) xs in
@@ -79,23 +79,23 @@ module _ (entryMost : ℕ) (six : 6 ≤ entryMost) (xs : List Step) (good : All 
           ap length same,
         );
         small = q .1;
-        fits = ap (λ (l : List Step). length (runData l)) (sym same);
+        fits = ap (λ (l : List Step). length (groupData l)) (sym same);
         first = e ∙ ap₂ (λ (l : List Step) (ls : List (List Step)). l ∷ ls) (sym same) (c .rest ∙ ap (entriesOf entryMost) (sym rest));
       }
 
   module _ (kept : List ℕ) (m : ℕ) (unused : List ℕ) (some : 0 < length xs) where
-    next-from : (es : List (List Step)) → entriesOf entryMost xs ≡ es → drop m kept ≡ runBytes es ++ unused → Next entryMost xs kept m
+    next-from : (es : List (List Step)) → entriesOf entryMost xs ≡ es → drop m kept ≡ spanBytes es ++ unused → Next entryMost xs kept m
     next-from [] e q = absurd (omega (arith, ap length (sym (joining-keeps entryMost xs) ∙ ap joined e)))
     next-from (r ∷ rs) e q =
         let f = first-run r rs e in
         let z : m + 0 ≡ m = add-zero m in
         let a : getD kept m 0 ≡ length r = sym (ap (λ (i : ℕ). getD kept i 0) z) ∙ sym (getD-drop m kept 0 0) ∙ ap (λ (l : List ℕ). getD l 0 0) q in
-        let b : getD kept (m + 1) 0 ≡ length (runData r) = sym (getD-drop m kept 1 0) ∙ ap (λ (l : List ℕ). getD l 1 0) q in
+        let b : getD kept (m + 1) 0 ≡ length (groupData r) = sym (getD-drop m kept 1 0) ∙ ap (λ (l : List ℕ). getD l 1 0) q in
         let n : rs ≡ entriesOf entryMost (drop (length r) xs) = ap (drop 1) (sym e ∙ f .first) in
         record {
           inside = omega (arith, ap length q, length-drop m kept);
           run = rw (a, b) f;
-          rest = rw a (record { unused = unused; begins = sym (drop-drop 2 m kept) ∙ ap (drop 2) q ∙ ap (λ (ls : List (List Step)). runBytes ls ++ unused) n });
+          rest = rw a (record { unused = unused; begins = sym (drop-drop 2 m kept) ∙ ap (drop 2) q ∙ ap (λ (ls : List (List Step)). spanBytes ls ++ unused) n });
         }
 
   pub next-kept : (kept : List ℕ) (m : ℕ) → 0 < length xs → KeepsEntries entryMost xs (drop m kept) → Next entryMost xs kept m
@@ -103,20 +103,20 @@ module _ (entryMost : ℕ) (six : 6 ≤ entryMost) (xs : List Step) (good : All 
 
 -- ---- the loop of write_lengths: those of the steps up to `done` are kept in the first m bytes
 abbrev pub Keeps : ℕ → List Step → List ℕ → ℕ → List ℕ → ℕ → Type 0
-Keeps entryMost ss old done kept m = Left old 0 (runBytes (entriesOf entryMost ss)) kept m (runBytes (entriesOf entryMost (drop done ss)))
+Keeps entryMost ss old done kept m = Left old 0 (spanBytes (entriesOf entryMost ss)) kept m (spanBytes (entriesOf entryMost (drop done ss)))
 
-kept-length : (es : List (List Step)) → length (runBytes es) ≡ 2 * length es
+kept-length : (es : List (List Step)) → length (spanBytes es) ≡ 2 * length es
 kept-length [] = refl
 kept-length (r ∷ rs) = omega (arith, kept-length rs)
 
 -- two bytes for each step are enough
-kept-room : (entryMost : ℕ) (ss : List Step) → length (runBytes (entriesOf entryMost ss)) ≤ 2 * length ss
+kept-room : (entryMost : ℕ) (ss : List Step) → length (spanBytes (entriesOf entryMost ss)) ≤ 2 * length ss
 kept-room entryMost ss = omega (arith, kept-length (entriesOf entryMost ss), length-group (joins entryMost) ss)
 
 module _ (entryMost : ℕ) (ss : List Step) (old : List ℕ) (done : ℕ) (kept : List ℕ) (m : ℕ) (l : Keeps entryMost ss old done kept m) where
-  module _ (k sz : ℕ) (f : FirstRun entryMost (drop done ss) k sz) where
-    kept-next : runBytes (entriesOf entryMost (drop done ss)) ≡ (k ∷ sz ∷ []) ++ runBytes (entriesOf entryMost (drop (done + k) ss))
-    kept-next = ap runBytes (entries-next entryMost 0 ss done k sz f) ∙ rw (length-take-le k (drop done ss) (f .within), ← (f .fits))
+  module _ (k sz : ℕ) (f : FirstEntry entryMost (drop done ss) k sz) where
+    kept-next : spanBytes (entriesOf entryMost (drop done ss)) ≡ (k ∷ sz ∷ []) ++ spanBytes (entriesOf entryMost (drop (done + k) ss))
+    kept-next = ap spanBytes (entries-next entryMost 0 ss done k sz f) ∙ rw (length-take-le k (drop done ss) (f .within), ← (f .fits))
 
     pub kept-few : m + 2 ≤ 2 * length ss
     kept-few = omega (arith, l .place, ap length kept-next, kept-room entryMost ss)
@@ -128,8 +128,8 @@ module _ (entryMost : ℕ) (ss : List Step) (old : List ℕ) (done : ℕ) (kept 
   pub kept-end : length ss ≤ done → 2 * length ss ≤ length old → KeepsEntries entryMost ss kept
   kept-end d h =
       let none : drop done ss ≡ [] = drop-of-length-le ss {i = done} d in
-      let e : sets old 0 (runBytes (entriesOf entryMost ss)) ≡ sets kept m (runBytes (entriesOf entryMost [])) = rw none at (l .bytes) in
+      let e : sets old 0 (spanBytes (entriesOf entryMost ss)) ≡ sets kept m (spanBytes (entriesOf entryMost [])) = rw none at (l .bytes) in
       record {
-        unused = drop (0 + length (runBytes (entriesOf entryMost ss))) old;
-        begins = sym e ∙ sets-eq (runBytes (entriesOf entryMost ss)) old 0 (omega (arith, kept-room entryMost ss));
+        unused = drop (0 + length (spanBytes (entriesOf entryMost ss))) old;
+        begins = sym e ∙ sets-eq (spanBytes (entriesOf entryMost ss)) old 0 (omega (arith, kept-room entryMost ss));
       }

@@ -6,12 +6,14 @@ use Prim.Native.Nat.{ℕ, _≤_}
 use native.Mathlib.Omega.{arith}
 use lib.ListN.{length, length-append}
 use borrow.Author.Tests.{leb-true}
-use Rattle.batch.specs.Batch.{All, entriesBytes, entryBytes}
+use Rattle.batch.specs.Batch.{entriesBytes, entryBytes}
+use Rattle.dpa.specs.Lists.{All}
 use Rattle.book.specs.declared.step.Step.{Step}
 use Rattle.book.specs.Join.{entriesOf, entryLimit}
 use Rattle.book.specs.Run.{EntryLimit}
 use Rattle.book.specs.Group.{joined}
-use Rattle.book.proofs.Groups.{all-snoc, all-group, joined-group}
+use Rattle.book.proofs.Groups.{all-group, joined-group}
+use Rattle.dpa.proofs.All.{all-snoc}
 use Rattle.book.proofs.Faults.{Good}
 use Rattle.book.proofs.Runs.{Run, runs}
 use Rattle.scene.specs.Compile.{Limits, fills, listOf, batchesOf, listLimit}

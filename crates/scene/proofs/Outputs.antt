@@ -15,18 +15,18 @@ use Rattle.dpa.specs.Frame.{longestFrame, frame}
 use Rattle.dpa.specs.Pnum.{osPnum}
 use Rattle.dpa.proofs.Bool.{by-cond}
 use Rattle.dpa.proofs.Lists.{front}
-use Rattle.batch.specs.Batch.{All}
+use Rattle.dpa.specs.Lists.{All}
 use Rattle.book.specs.declared.step.Step.{Step}
 use Rattle.book.specs.Group.{joined}
 use Rattle.book.specs.Join.{joins, entriesOf, entryLimit}
 use Rattle.book.specs.Book.{stepsMax, countOf, bookOk, sceneOf}
-use Rattle.book.specs.Step.{badFrom}
+use Rattle.book.specs.Step.{firstBadFrom}
 use Rattle.book.proofs.Faults.{Good, no-bad}
 use Rattle.book.proofs.Groups.{length-group}
 use Rattle.book.proofs.Books.{scene-length}
-use Rattle.scene.specs.declared.fill.Most.{Most}
+use Rattle.scene.specs.declared.fill.SizeLimits.{SizeLimits}
 use Rattle.scene.specs.Compile.{listLimit, Limits, fills, batchesOf, requestWith, compiled}
-use Rattle.scene.specs.Call.{lengths, output, cut, requestsIn, outputRoom, CompileResult, written, addressOk, compileSteps, compileScene, compileOf}
+use Rattle.scene.specs.Call.{lengths, output, splitBy, requestsIn, minOutput, CompileResult, written, addressOk, compileSteps, compileScene, compileOf}
 use Rattle.scene.specs.Fill.{requestsWith}
 use Rattle.scene.proofs.Sizes.{Frame-sized, requests-fit}
 use Rattle.scene.proofs.Lists.{limits}
@@ -37,7 +37,7 @@ pub lengths-length : (rs : List (List ℕ)) → length (lengths rs) ≡ length r
 lengths-length [] = refl
 lengths-length (r ∷ rs) = ap suc (lengths-length rs)
 
-cut-back : (rs : List (List ℕ)) (t : List ℕ) → cut (lengths rs) (joined rs ++ t) ≡ rs
+cut-back : (rs : List (List ℕ)) (t : List ℕ) → splitBy (lengths rs) (joined rs ++ t) ≡ rs
 cut-back [] t = refl
 cut-back (r ∷ rs) t =
     rw (append-assoc r (joined rs) t, take-append-seam r (joined rs ++ t), drop-append-seam r (joined rs ++ t), cut-back rs t)
@@ -62,7 +62,7 @@ joined-length : (rs : List (List ℕ)) → All Frame-sized rs → length (joined
 joined-length [] a = omega arith
 joined-length (r ∷ rs) a = omega (arith, a .0 .1, length-append r (joined rs), joined-length rs (a .1))
 
-module _ (most : Most) (head : Frame) (front : List ℕ) where
+module _ (most : SizeLimits) (head : Frame) (front : List ℕ) where
   -- there are no more requests than steps
   pub requests-few : (ss : List Step) → length (requestsWith most head front ss) ≤ length ss
   requests-few ss =
@@ -75,7 +75,7 @@ module _ (most : Most) (head : Frame) (front : List ℕ) where
 
   -- at most `stepsMax` requests, each no longer than a frame
   pub output-fits : Limits (most .entry) (most .list) front → (ss : List Step) → length ss ≤ stepsMax → All Good ss
-      → length (output (requestsWith most head front ss)) ≤ outputRoom
+      → length (output (requestsWith most head front ss)) ≤ minOutput
   output-fits l ss n g =
       let rs = requestsWith most head front ss in
       omega (arith, output-length rs, joined-length rs (requests-fit l head ss g), requests-few ss)
@@ -86,10 +86,10 @@ module _ (most : Most) (head : Frame) (front : List ℕ) where
 pub record Faultless (b : List ℕ) (k : ℕ) : Type 0 where
   pub book : bookOk b ≡ true
   pub number : k < countOf b
-  pub steps : badFrom 0 (sceneOf b k) ≡ none
+  pub steps : firstBadFrom 0 (sceneOf b k) ≡ none
 
 -- every output fits its buffer
-pub scene-fits : (b : List ℕ) (k a h : ℕ) → Faultless b k → length (output (compiled a h (sceneOf b k))) ≤ outputRoom
+pub scene-fits : (b : List ℕ) (k a h : ℕ) → Faultless b k → length (output (compiled a h (sceneOf b k))) ≤ minOutput
 scene-fits b k a h f =
     output-fits (record { entry = entryLimit; list = listLimit }) (frame a osPnum 0x05 h) [] limits (sceneOf b k) (scene-length b k (f .book))
     (no-bad (sceneOf b k) .0 (f .steps))
@@ -97,14 +97,14 @@ scene-fits b k a h f =
 -- a scene made into any requests
 module _ (b : List ℕ) (k : ℕ) (requests : List Step → List (List ℕ)) (out : List ℕ) where
   -- with room and without faults nothing is refused: the output is written
-  pub scene-written : outputRoom ≤ length out → Faultless b k → compileScene b k requests out ≡ written (output (requests (sceneOf b k))) out
+  pub scene-written : minOutput ≤ length out → Faultless b k → compileScene b k requests out ≡ written (output (requests (sceneOf b k))) out
   unfolding compileScene
-  scene-written room f = rw (f .book, lt-leb (countOf b) k (f .number), f .steps, le-ltb (length out) outputRoom room)
+  scene-written room f = rw (f .book, lt-leb (countOf b) k (f .number), f .steps, le-ltb (length out) minOutput room)
 
   abbrev Whole : CompileResult → Type 0
   Whole r = r .refusal ≡ 0 → Faultless b k
 
-  steps-whole : bookOk b ≡ true → k < countOf b → (o : Option ℕ) → badFrom 0 (sceneOf b k) ≡ o → Whole (compileSteps o (requests (sceneOf b k)) out)
+  steps-whole : bookOk b ≡ true → k < countOf b → (o : Option ℕ) → firstBadFrom 0 (sceneOf b k) ≡ o → Whole (compileSteps o (requests (sceneOf b k)) out)
   steps-whole ok below (some j) e = λ z. absurd (omega arith)
   steps-whole ok below none e = λ z. record { book = ok; number = below; steps = e }
 
@@ -114,25 +114,25 @@ module _ (b : List ℕ) (k : ℕ) (requests : List Step → List (List ℕ)) (ou
   scene-whole =
       by-cond Whole (not (bookOk b)) _ _ (λ _ z. absurd (omega arith))
       (λ ok. by-cond Whole (leb (countOf b) k) _ _ (λ _ z. absurd (omega arith))
-      (λ below. steps-whole (not-false _ ok) (leb-false _ _ below) (badFrom 0 (sceneOf b k)) refl))
+      (λ below. steps-whole (not-false _ ok) (leb-false _ _ below) (firstBadFrom 0 (sceneOf b k)) refl))
 
   abbrev Unwritten : CompileResult → Type 0
   Unwritten r = (r .refusal ≡ 0 → ⊥) → (r .length ≡ 0) × (r .buffer ≡ out)
 
   steps-unwritten : (o : Option ℕ) → Unwritten (compileSteps o (requests (sceneOf b k)) out)
   steps-unwritten (some j) = λ _. (refl, refl)
-  steps-unwritten none = by-cond Unwritten (ltb (length out) outputRoom) _ _ (λ _ _. (refl, refl)) (λ _ n. absurd (n refl))
+  steps-unwritten none = by-cond Unwritten (ltb (length out) minOutput) _ _ (λ _ _. (refl, refl)) (λ _ n. absurd (n refl))
 
   -- what is refused has no output, and the buffer stays
   pub scene-unwritten : Unwritten (compileScene b k requests out)
   unfolding compileScene
   scene-unwritten =
       by-cond Unwritten (not (bookOk b)) _ _ (λ _ _. (refl, refl))
-      (λ _. by-cond Unwritten (leb (countOf b) k) _ _ (λ _ _. (refl, refl)) (λ _. steps-unwritten (badFrom 0 (sceneOf b k))))
+      (λ _. by-cond Unwritten (leb (countOf b) k) _ _ (λ _ _. (refl, refl)) (λ _. steps-unwritten (firstBadFrom 0 (sceneOf b k))))
 
 module _ (b : List ℕ) (k a h : ℕ) (out : List ℕ) where
   -- with address and room in range, a call without faults is not refused: it writes the output
-  pub written-whole : addressOk a ≡ true → outputRoom ≤ length out → Faultless b k
+  pub written-whole : addressOk a ≡ true → minOutput ≤ length out → Faultless b k
       → compileOf b k a h out ≡ written (output (compiled a h (sceneOf b k))) out
   unfolding compileOf
   written-whole ad room f = rw ad (scene-written b k (compiled a h) out room f)
@@ -150,11 +150,11 @@ module _ (b : List ℕ) (k a h : ℕ) (out : List ℕ) where
       by-cond (Unwritten b k (compiled a h) out) (not (addressOk a)) _ _ (λ _ _. (refl, refl)) (λ _. scene-unwritten b k (compiled a h) out)
 
   -- refusal 0 exactly without faults, where address and room are in range
-  pub refusal-exact : addressOk a ≡ true → outputRoom ≤ length out → (compileOf b k a h out .refusal ≡ 0) ↔ Faultless b k
+  pub refusal-exact : addressOk a ≡ true → minOutput ≤ length out → (compileOf b k a h out .refusal ≡ 0) ↔ Faultless b k
   refusal-exact ad room = (refused-none, λ f. ap (λ (r : CompileResult). r .refusal) (written-whole ad room f))
 
   -- and what it wrote is read back as the requests
-  pub buffer-back : addressOk a ≡ true → outputRoom ≤ length out → Faultless b k
+  pub buffer-back : addressOk a ≡ true → minOutput ≤ length out → Faultless b k
       → requestsIn (compileOf b k a h out .buffer) ≡ compiled a h (sceneOf b k)
   buffer-back ad room f =
       let rs = compiled a h (sceneOf b k) in

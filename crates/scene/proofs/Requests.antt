@@ -13,14 +13,14 @@ use Rattle.book.specs.Book.{stepsMax, stepsIn}
 use Rattle.book.specs.Group.{joined}
 use Rattle.book.specs.Entry.{joinedItem}
 use Rattle.book.specs.Join.{entriesOf}
-use Rattle.book.specs.Run.{FirstRun, AllGood}
+use Rattle.book.specs.Run.{FirstEntry, AllGood}
 use Rattle.book.proofs.Writing.{sets-append, put-two}
 use Rattle.book.proofs.Joining.{steps-length}
 use Rattle.book.proofs.Books.{good-steps}
-use Rattle.scene.specs.declared.fill.Most.{Most}
+use Rattle.scene.specs.declared.fill.SizeLimits.{SizeLimits}
 use Rattle.scene.specs.Compile.{Limits}
-use Rattle.scene.specs.Call.{lengths, output, outputRoom}
-use Rattle.scene.specs.Fill.{requestsWith, nextSize, turnBytes, turnLength}
+use Rattle.scene.specs.Call.{lengths, output, minOutput}
+use Rattle.scene.specs.Fill.{requestsWith, nextSize, separatorBytes, separatorLength}
 use Rattle.scene.proofs.Filling.{bytesLeft, lengthsLeft, next-small, bytes-next, lengths-next}
 use Rattle.scene.proofs.Outputs.{lengths-length, output-length, output-fits}
 
@@ -63,7 +63,7 @@ module _ {entryMost listMost : ℕ} {front : List ℕ} (l : Limits entryMost lis
   open-start = record { within = omega arith; small = omega (arith, l .list); rest = left-start _ _ _ }
 
   module _ (done size : ℕ) (out : List ℕ) (w : ℕ) (o : Open entryMost listMost left ss old at done size out w) where
-    pub open-more : (k sz : ℕ) → FirstRun entryMost (drop done ss) k sz → (xs out′ : List ℕ) (w′ size′ : ℕ)
+    pub open-more : (k sz : ℕ) → FirstEntry entryMost (drop done ss) k sz → (xs out′ : List ℕ) (w′ size′ : ℕ)
         → left size (entriesOf entryMost (drop done ss)) ≡ xs ++ left (nextSize listMost size sz) (entriesOf entryMost (drop (done + k) ss))
         → out′ ≡ sets out w xs → w′ ≡ w + length xs → size′ ≡ nextSize listMost size sz
         → Open entryMost listMost left ss old at (done + k) size′ out′ w′
@@ -82,28 +82,28 @@ module _ {entryMost listMost : ℕ} {front : List ℕ} (l : Limits entryMost lis
 
 -- ---- the next entry, of k steps with `sz` bytes of PData
 module _ {entryMost listMost : ℕ} {front : List ℕ} (l : Limits entryMost listMost front) (ss : List Step) (old : List ℕ) (at done size : ℕ)
-    (out : List ℕ) (w k sz : ℕ) (f : FirstRun entryMost (drop done ss) k sz) where
+    (out : List ℕ) (w k sz : ℕ) (f : FirstEntry entryMost (drop done ss) k sz) where
   -- length bytes: one if the open list is full
   module _ (head : ℕ) (o : Open entryMost listMost (lengthsLeft listMost head) ss old at done size out w) where
     abbrev lengthsBehind : List ℕ
     lengthsBehind = lengthsLeft listMost head (nextSize listMost size sz) (entriesOf entryMost (drop (done + k) ss))
 
     pub lengths-room : at + length (lengthsLeft listMost head 1 (entriesOf entryMost ss)) ≤ length old
-        → w + length (turnLength listMost head size sz) ≤ length out
+        → w + length (separatorLength listMost head size sz) ≤ length out
     lengths-room =
-        left-room old at _ out w _ (o .rest) (turnLength listMost head size sz) lengthsBehind (lengths-next entryMost listMost ss done k sz f head size)
+        left-room old at _ out w _ (o .rest) (separatorLength listMost head size sz) lengthsBehind (lengths-next entryMost listMost ss done k sz f head size)
 
-    pub lengths-more : (out′ : List ℕ) (w′ size′ : ℕ) → out′ ≡ sets out w (turnLength listMost head size sz)
-        → w′ ≡ w + length (turnLength listMost head size sz) → size′ ≡ nextSize listMost size sz
+    pub lengths-more : (out′ : List ℕ) (w′ size′ : ℕ) → out′ ≡ sets out w (separatorLength listMost head size sz)
+        → w′ ≡ w + length (separatorLength listMost head size sz) → size′ ≡ nextSize listMost size sz
         → Open entryMost listMost (lengthsLeft listMost head) ss old at (done + k) size′ out′ w′
     lengths-more out′ w′ size′ =
-        open-more l (lengthsLeft listMost head) ss old at done size out w o k sz f (turnLength listMost head size sz) out′ w′ size′
+        open-more l (lengthsLeft listMost head) ss old at done size out w o k sz f (separatorLength listMost head size sz) out′ w′ size′
         (lengths-next entryMost listMost ss done k sz f head size)
 
   -- the requests: the bytes in front of the entry, then the entry
   module _ (head : List ℕ) (h : ℕ) (o : Open entryMost listMost (bytesLeft listMost head h) ss old at done size out w) where
     abbrev turn : List ℕ
-    turn = turnBytes listMost head size sz
+    turn = separatorBytes listMost head size sz
 
     abbrev entry : List ℕ
     entry = entryBytes (joinedItem h (take k (drop done ss)))
@@ -149,6 +149,6 @@ output-written old out out′ rs count w r ec eo ew fo fr =
     )
 
 -- the output of good steps fits its buffer, within any limits
-pub short : (most : Most) (head : Frame) (front : List ℕ) → Limits (most .entry) (most .list) front → (n : ℕ) (a : List ℕ) → AllGood a n → n ≤ stepsMax
-    → length (output (requestsWith most head front (stepsIn n a))) ≤ outputRoom
+pub short : (most : SizeLimits) (head : Frame) (front : List ℕ) → Limits (most .entry) (most .list) front → (n : ℕ) (a : List ℕ) → AllGood a n → n ≤ stepsMax
+    → length (output (requestsWith most head front (stepsIn n a))) ≤ minOutput
 short most head front l n a g m = output-fits most head front l (stepsIn n a) (omega (arith, steps-length n a)) (good-steps n a g)

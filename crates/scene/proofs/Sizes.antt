@@ -6,10 +6,11 @@ use native.Mathlib.Omega.{arith}
 use lib.ListN.{length, length-append}
 use Rattle.dpa.specs.declared.frame.Frame.{Frame}
 use Rattle.dpa.specs.Frame.{headerSize, longestFrame}
-use Rattle.batch.specs.Batch.{All, entryBytes, entriesBytes}
+use Rattle.batch.specs.Batch.{entryBytes, entriesBytes}
+use Rattle.dpa.specs.Lists.{All}
 use Rattle.batch.proofs.RoundTrip.{entry-length}
 use Rattle.book.specs.declared.step.Step.{Step}
-use Rattle.book.specs.Entry.{runData, joinedItem}
+use Rattle.book.specs.Entry.{groupData, joinedItem}
 use Rattle.book.proofs.Faults.{Good}
 use Rattle.scene.specs.Compile.{Limits, joinedItems, listOf, batchesOf, requestWith}
 use Rattle.scene.proofs.Lists.{Filling, fillings}
@@ -24,7 +25,7 @@ entries-snoc h (x ∷ rs) r =
     ∙ sym (append-assoc (entryBytes (joinedItem h x)) (entriesBytes (joinedItems h rs)) (entryBytes (joinedItem h r)))
 
 pub list-snoc : (h : ℕ) (rs : List (List Step)) (r : List Step)
-    → length (listOf h (rs ++ (r ∷ []))) ≡ length (listOf h rs) + (5 + length (runData r))
+    → length (listOf h (rs ++ (r ∷ []))) ≡ length (listOf h rs) + (5 + length (groupData r))
 list-snoc h rs r =
     omega (
       arith,
@@ -35,7 +36,7 @@ list-snoc h rs r =
       entry-length (joinedItem h r),
     )
 
-pub list-one : (h : ℕ) (r : List Step) → length (listOf h (r ∷ [])) ≡ 6 + length (runData r)
+pub list-one : (h : ℕ) (r : List Step) → length (listOf h (r ∷ [])) ≡ 6 + length (groupData r)
 unfolding entriesBytes entryBytes
 list-one h r = simp length-append (omega arith)
 

@@ -6,11 +6,11 @@ use Prim.Native.Nat.{ℕ, suc}
 use lib.Dec.{ltb, leb, eqb}
 use lib.ListN.{length, getD, take, drop}
 use Rattle.dpa.specs.Frame.{broadcastNadr}
-use Rattle.dpa.specs.Lists.{over}
+use Rattle.dpa.specs.Lists.{overwriteFront}
 use Rattle.dpa.specs.Settings.{nodeAddress}
 use Rattle.book.specs.declared.step.Step.{Step}
 use Rattle.book.specs.Book.{countOf, bookOk, sceneOf}
-use Rattle.book.specs.Step.{badFrom}
+use Rattle.book.specs.Step.{firstBadFrom}
 use Rattle.book.specs.Group.{joined}
 use Rattle.scene.specs.declared.compile.CompileAnswer.{CompileAnswer}
 use Rattle.scene.specs.Compile.{compiled}
@@ -26,17 +26,17 @@ abbrev pub output : List (List ℕ) → List ℕ
 output rs = length rs ∷ (lengths rs ++ joined rs)
 
 -- bytes cut into parts of these lengths
-abbrev pub cut : List ℕ → List ℕ → List (List ℕ)
-cut [] bs = []
-cut (n ∷ ns) bs = take n bs ∷ cut ns (drop n bs)
+abbrev pub splitBy : List ℕ → List ℕ → List (List ℕ)
+splitBy [] bs = []
+splitBy (n ∷ ns) bs = take n bs ∷ splitBy ns (drop n bs)
 
 -- the requests that an output holds (proofs/Outputs: `requests-back`)
 unfoldable pub requestsIn : List ℕ → List (List ℕ)
-requestsIn o = cut (take (getD o 0 0) (drop 1 o)) (drop (suc (getD o 0 0)) o)
+requestsIn o = splitBy (take (getD o 0 0) (drop 1 o)) (drop (suc (getD o 0 0)) o)
 
 -- the output buffer has at least this many bytes (proofs/Outputs: `output-fits`)
-abbrev pub outputRoom : ℕ
-outputRoom = 4096
+abbrev pub minOutput : ℕ
+minOutput = 4096
 
 -- ---- the call
 
@@ -56,7 +56,7 @@ refusedAt r s out = record { refusal = r; step = s; length = 0; buffer = out }
 
 -- an output at the front of the buffer; later bytes stay
 abbrev pub written : List ℕ → List ℕ → CompileResult
-written o out = record { refusal = 0; step = 0; length = length o; buffer = over o out }
+written o out = record { refusal = 0; step = 0; length = length o; buffer = overwriteFront o out }
 
 -- a node's address, or 255
 unfoldable pub addressOk : ℕ → Bool
@@ -66,7 +66,7 @@ addressOk a = eqb a broadcastNadr || nodeAddress a
 abbrev pub compileSteps : Option ℕ → List (List ℕ) → List ℕ → CompileResult
 compileSteps (some j) requests out = refusedAt 8 j out
 compileSteps none requests out =
-    cond (ltb (length out) outputRoom) (refusedAt 9 0 out)
+    cond (ltb (length out) minOutput) (refusedAt 9 0 out)
     (written (output requests) out)
 
 -- a book, a scene's number, the requests that steps are made into, and the output buffer
@@ -74,7 +74,7 @@ unfoldable pub compileScene : List ℕ → ℕ → (List Step → List (List ℕ
 compileScene b k requests out =
     cond (not (bookOk b)) (refusedAt 6 0 out)
     (cond (leb (countOf b) k) (refusedAt 7 0 out)
-    (compileSteps (badFrom 0 (sceneOf b k)) (requests (sceneOf b k)) out))
+    (compileSteps (firstBadFrom 0 (sceneOf b k)) (requests (sceneOf b k)) out))
 
 -- a book, a scene's number, an address, a profile, and the output buffer
 unfoldable pub compileOf : List ℕ → ℕ → ℕ → ℕ → List ℕ → CompileResult

@@ -1,9 +1,9 @@
 // The compile call.
-use crate::fill::Most;
+use crate::fill::SizeLimits;
 use crate::request::write_output;
 use book::contents::book_ok;
-use book::contents::content_at;
-use book::step::first_bad;
+use book::contents::scene_location;
+use book::step::first_bad_step;
 use dpa::frame::Frame;
 use dpa::number::wide;
 use dpa::pnum;
@@ -15,7 +15,7 @@ ghost use Prim.Native.Nat.{_*_, _≤_};
 ghost use lib.ListN.{length};
 ghost use Rattle.dpa.specs.Frame.{anyHwpid};
 ghost use Rattle.book.specs.Book.{stepsMax, stepLength, stepsIn};
-ghost use Rattle.book.specs.Step.{badFrom};
+ghost use Rattle.book.specs.Step.{firstBadFrom};
 ghost use Rattle.scene.specs.Compile.{Limits};
 ghost use Rattle.scene.specs.Call.{addressOk, compileSteps, compileScene, compileOf, compiledAs};
 ghost use Rattle.scene.specs.Fill.{requestsWith};
@@ -26,7 +26,7 @@ const ENTRY_LIMIT: usize = 50;
 const LIST_LIMIT: usize = Frame::PDATA_MAX;
 
 // The bytes that an output buffer has at least.
-pub const ROOM: usize = 4096;
+pub const MIN_OUTPUT: usize = 4096;
 
 // A refusal's number, or 0; with 8 the number of the bad step; the output's length.
 #[repr(C)]
@@ -62,21 +62,21 @@ fn address_ok(address: u16) -> bool
 fn compile_steps(
     body: &[u8],
     count: usize,
-    most: Most,
+    most: SizeLimits,
     head: Frame,
     front: &[u8],
     out: &mut [u8],
 ) -> CompileAnswer
     requires { ⌜ (stepLength * count ≤ length (now body)) × (count ≤ stepsMax) × Limits (most .entry) (most .list) (now front) ⌝ }
     ensures { λ r. ⌜ compiledAs r (now (out .exit))
-        ≡ compileSteps (badFrom 0 (stepsIn count (now (body .entry)))) (requestsWith most head (now (front .entry)) (stepsIn count (now (body .entry))))
+        ≡ compileSteps (firstBadFrom 0 (stepsIn count (now (body .entry)))) (requestsWith most head (now (front .entry)) (stepsIn count (now (body .entry))))
         (now (out .entry)) ⌝ }
 {
-    let bad = first_bad(body, count);
+    let bad = first_bad_step(body, count);
     if bad < count {
         return refused(refusal::STEP, bad as u8);
     }
-    if out.len() < ROOM {
+    if out.len() < MIN_OUTPUT {
         return refused(refusal::OUTPUT, 0);
     }
     let length = write_output(body, count, most, head, front, out);
@@ -91,7 +91,7 @@ fn compile_steps(
 fn compile_scene(
     book: &[u8],
     scene: usize,
-    most: Most,
+    most: SizeLimits,
     head: Frame,
     front: &[u8],
     out: &mut [u8],
@@ -107,7 +107,7 @@ fn compile_scene(
     if scenes <= scene {
         return refused(refusal::SCENE, 0);
     }
-    let content = content_at(book, scene);
+    let content = scene_location(book, scene);
     let from = content.offset;
     let count = content.steps;
     compile_steps(&book[from..], count, most, head, front, out)
@@ -120,7 +120,7 @@ pub fn compile(book: &[u8], scene: usize, address: u16, hwpid: u16, out: &mut [u
     if !address_ok(address) {
         return refused(refusal::NODE, 0);
     }
-    let most = Most {
+    let most = SizeLimits {
         entry: ENTRY_LIMIT,
         list: LIST_LIMIT,
     };

@@ -1,6 +1,6 @@
 // Entries filled into lists, and the lengths of the lists' requests.
 use batch::entry::HEAD;
-use book::join::run_from;
+use book::join::entry_from;
 use book::step::STEPS_MAX;
 use dpa::frame::Frame;
 ghost use mathlib.Core.Path.{_≡_};
@@ -13,10 +13,10 @@ ghost use Rattle.book.specs.Book.{stepsMax, stepLength, stepsIn};
 ghost use Rattle.book.specs.Run.{AllGood};
 ghost use Rattle.scene.specs.Compile.{Limits};
 ghost use Rattle.scene.specs.Call.{lengths};
-ghost use Rattle.scene.specs.Fill.{requestsWith, nextSize, turnLength, keptRoom, KeepsEntries};
+ghost use Rattle.scene.specs.Fill.{requestsWith, nextSize, separatorLength, keptRoom, KeepsEntries};
 
 // The most bytes of an entry's PData, and of a list, its closing zero included.
-pub struct Most {
+pub struct SizeLimits {
     pub entry: usize,
     pub list: usize,
 }
@@ -25,7 +25,7 @@ pub struct Most {
 pub const EMPTY: usize = 1;
 
 // The next free place, and the bytes of the open list.
-pub struct Place {
+pub struct OpenList {
     pub at: usize,
     pub size: usize,
 }
@@ -41,20 +41,20 @@ fn next_length(
     more: usize,
     out: &mut [u8],
     at: usize,
-) -> Place
-    requires { ⌜ (size ≤ limit) × (more ≤ pdataMax) × (head + limit ≤ longestFrame) × (at + length (turnLength limit head size more) ≤ length (now out)) ⌝ }
-    ensures { λ r. ⌜ (r .at ≡ at + length (turnLength limit head size more)) × (r .size ≡ nextSize limit size more)
-        × (now (out .exit) ≡ sets (now (out .entry)) at (turnLength limit head size more)) ⌝ }
+) -> OpenList
+    requires { ⌜ (size ≤ limit) × (more ≤ pdataMax) × (head + limit ≤ longestFrame) × (at + length (separatorLength limit head size more) ≤ length (now out)) ⌝ }
+    ensures { λ r. ⌜ (r .at ≡ at + length (separatorLength limit head size more)) × (r .size ≡ nextSize limit size more)
+        × (now (out .exit) ≡ sets (now (out .entry)) at (separatorLength limit head size more)) ⌝ }
 {
     let entry = HEAD + more;
     if size + entry <= limit {
-        return Place {
+        return OpenList {
             at,
             size: size + entry,
         };
     }
     out[at] = (size + head) as u8;
-    Place {
+    OpenList {
         at: at + 1,
         size: EMPTY + entry,
     }
@@ -64,7 +64,7 @@ fn next_length(
 pub fn write_lengths(
     body: &[u8],
     count: usize,
-    most: Most,
+    most: SizeLimits,
     front: &[u8],
     kept: &mut [u8],
     out: &mut [u8],
@@ -86,7 +86,7 @@ pub fn write_lengths(
     let mut end = at;
     let mut pair: usize = 0;
     while done < count {
-        let run = run_from(body, count, done, most.entry);
+        let run = entry_from(body, count, done, most.entry);
         kept[pair] = run.steps as u8;
         kept[pair + 1] = run.size as u8;
         pair = pair + 2;

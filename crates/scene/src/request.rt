@@ -1,8 +1,8 @@
 // The requests of a scene, and the output that holds them.
 use crate::fill::EMPTY;
 use crate::fill::KEPT;
-use crate::fill::Most;
-use crate::fill::Place;
+use crate::fill::OpenList;
+use crate::fill::SizeLimits;
 use crate::fill::write_lengths;
 use batch::entry::HEAD;
 use book::entry::write_entry_at;
@@ -19,8 +19,8 @@ ghost use Rattle.book.specs.Book.{stepsMax, stepLength, stepsIn};
 ghost use Rattle.book.specs.Group.{joined};
 ghost use Rattle.book.specs.Run.{AllGood};
 ghost use Rattle.scene.specs.Compile.{Limits};
-ghost use Rattle.scene.specs.Call.{output, outputRoom};
-ghost use Rattle.scene.specs.Fill.{requestsWith, nextSize, turnBytes, KeepsEntries};
+ghost use Rattle.scene.specs.Call.{output, minOutput};
+ghost use Rattle.scene.specs.Fill.{requestsWith, nextSize, separatorBytes, KeepsEntries};
 
 // The six bytes of a header.
 fn write_header(head: Frame, out: &mut [u8], at: usize) -> usize
@@ -57,23 +57,23 @@ fn next_list(
     more: usize,
     out: &mut [u8],
     at: usize,
-) -> Place
+) -> OpenList
     requires { ⌜ (size ≤ limit) × (more ≤ pdataMax) × (limit ≤ pdataMax)
-        × (at + length (turnBytes limit (headerBytes head ++ now front) size more) ≤ length (now out)) ⌝ }
-    ensures { λ r. ⌜ (r .at ≡ at + length (turnBytes limit (headerBytes head ++ now (front .entry)) size more))
+        × (at + length (separatorBytes limit (headerBytes head ++ now front) size more) ≤ length (now out)) ⌝ }
+    ensures { λ r. ⌜ (r .at ≡ at + length (separatorBytes limit (headerBytes head ++ now (front .entry)) size more))
         × (r .size ≡ nextSize limit size more)
-        × (now (out .exit) ≡ sets (now (out .entry)) at (turnBytes limit (headerBytes head ++ now (front .entry)) size more)) ⌝ }
+        × (now (out .exit) ≡ sets (now (out .entry)) at (separatorBytes limit (headerBytes head ++ now (front .entry)) size more)) ⌝ }
 {
     let entry = HEAD + more;
     if size + entry <= limit {
-        return Place {
+        return OpenList {
             at,
             size: size + entry,
         };
     }
     out[at] = 0;
     let end = begin_request(head, front, out, at + 1);
-    Place {
+    OpenList {
         at: end,
         size: EMPTY + entry,
     }
@@ -84,7 +84,7 @@ fn write_requests(
     body: &[u8],
     count: usize,
     kept: &[u8],
-    most: Most,
+    most: SizeLimits,
     head: Frame,
     front: &[u8],
     out: &mut [u8],
@@ -120,13 +120,13 @@ fn write_requests(
 pub fn write_output(
     body: &[u8],
     count: usize,
-    most: Most,
+    most: SizeLimits,
     head: Frame,
     front: &[u8],
     out: &mut [u8],
 ) -> usize
     requires { ⌜ (stepLength * count ≤ length (now body)) × (count ≤ stepsMax) × AllGood (now body) count × Limits (most .entry) (most .list) (now front)
-        × (outputRoom ≤ length (now out)) ⌝ }
+        × (minOutput ≤ length (now out)) ⌝ }
     ensures { λ r. ⌜ (r ≡ length (output (requestsWith most head (now (front .entry)) (stepsIn count (now (body .entry))))))
         × (now (out .exit) ≡ sets (now (out .entry)) 0 (output (requestsWith most head (now (front .entry)) (stepsIn count (now (body .entry)))))) ⌝ }
 {

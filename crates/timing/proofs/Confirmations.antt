@@ -10,11 +10,11 @@ use lib.Dec.{ltb}
 use borrow.Author.Tests.{lt-ltb, le-ltb}
 use Rattle.dpa.proofs.Bool.{by-cond}
 use Rattle.dpa.proofs.Headers.{fits-sizes}
-use Rattle.dpa.specs.Lists.{over}
+use Rattle.dpa.specs.Lists.{overwriteFront}
 use Rattle.dpa.specs.Frame.{pdataOf, frameFits}
 use Rattle.timing.specs.declared.slot.Network.{Network}
 use Rattle.timing.specs.Slot.{slotOf}
-use Rattle.timing.specs.Confirm.{hopsBack, confirmBytes, confirmation, Confirmed, wrote, confirmOf}
+use Rattle.timing.specs.Confirm.{responseHopsSent, confirmBytes, confirmation, Confirmed, wrote, confirmOf}
 
 -- a confirmation is 11 bytes
 pub bytes-length : (f : List ℕ) (d h s b : ℕ) → 6 ≤ length f → length (confirmBytes f d h s b) ≡ 11
@@ -23,8 +23,8 @@ bytes-length f d h s b l = let t : length (take 6 f) ≡ 6 = length-take-le 6 f 
 -- the header copied to the front, and then the five stores behind it
 pub five-stores : (f o m : List ℕ) (d h s k b : ℕ) → 6 ≤ length f → 11 ≤ length o → length m ≡ length o
     → m ≡ take (length (take 6 f)) (take 6 f) ++ drop (length (take 6 f)) o
-    → k ≡ hopsBack f b
-    → sets m 6 (255 ∷ d ∷ h ∷ s ∷ k ∷ []) ≡ over (confirmBytes f d h s b) o
+    → k ≡ responseHopsSent f b
+    → sets m 6 (255 ∷ d ∷ h ∷ s ∷ k ∷ []) ≡ overwriteFront (confirmBytes f d h s b) o
 five-stores f o m d h s k b lf lo lm e eh =
     let l : length (take 6 f) ≡ 6 = length-take-le 6 f lf in
     let e′ : m ≡ take 6 f ++ drop 6 o = e ∙ rw (take-length, l) in
@@ -44,7 +44,7 @@ module _ (f : List ℕ) (d h b : ℕ) (net : Network) (o : List ℕ) where
     unfolding confirmOf
     no-room l = simp (fits, lt-ltb (length o) 64 l)
 
-    pub answered : 64 ≤ length o → (s : ℕ) (o′ : List ℕ) → s ≡ slotOf (length f - 6) net → o′ ≡ over (confirmBytes f d h s b) o
+    pub answered : 64 ≤ length o → (s : ℕ) (o′ : List ℕ) → s ≡ slotOf (length f - 6) net → o′ ≡ overwriteFront (confirmBytes f d h s b) o
         → record { refusal = 0; length = 11; out = o′ } ≡ confirmOf f d h b net o
     unfolding confirmOf
     answered l s o′ es eo =

@@ -5,16 +5,16 @@ use mathlib.Core.List.{[], _∷_}
 use Prim.Native.Nat.{ℕ, _+_, _*_}
 use native.Mathlib.Omega.{arith}
 use Rattle.timing.specs.declared.slot.Network.the-variants.{Std}
-use Rattle.timing.specs.Slot.{baseOf, extraOf, slotOf, wayOf, earliestOf}
-use Rattle.timing.specs.Confirm.{hopsBack, confirmation}
+use Rattle.timing.specs.Slot.{baseSlot, networkExtra, slotOf, directionTime, earliestOf}
+use Rattle.timing.specs.Confirm.{responseHopsSent, confirmation}
 
 -- 003: q hops there, 20 ms at the node, r hops back with 20 bytes
 pub wait-003 : (q r : ℕ) → earliestOf q 6 20 r 20 Std false ≡ (q + 1) * 40 + 20 + (r + 1) * 50
-unfolding baseOf extraOf slotOf wayOf earliestOf
+unfolding baseSlot networkExtra slotOf directionTime earliestOf
 wait-003 q r = omega arith
 
 -- 000: the confirmation of a request without PData to node 10, 6 hops each way, in slots of 40 ms
 pub confirmation-000 : confirmation (10 ∷ 0 ∷ 7 ∷ 1 ∷ 255 ∷ 255 ∷ []) 7 6 6 Std
     ≡ 10 ∷ 0 ∷ 7 ∷ 1 ∷ 255 ∷ 255 ∷ 255 ∷ 7 ∷ 6 ∷ 4 ∷ 6 ∷ []
-unfolding baseOf extraOf slotOf hopsBack
+unfolding baseSlot networkExtra slotOf responseHopsSent
 confirmation-000 = refl

@@ -10,16 +10,16 @@ use Rattle.dpa.proofs.Bool.{by-cond, by-test}
 use Rattle.timing.specs.declared.slot.Network.{Network}
 use Rattle.timing.specs.declared.slot.Network.the-variants.{Std, StdLp}
 use Rattle.timing.specs.declared.slot.SendAnswer.{SendAnswer}
-use Rattle.timing.specs.Slot.{baseOf, extraOf, slotOf, wayOf, earliestOf, sendOf}
+use Rattle.timing.specs.Slot.{baseSlot, networkExtra, slotOf, directionTime, earliestOf, sendOf}
 
-base-range : (n : ℕ) → (4 ≤ baseOf n) × (baseOf n ≤ 6)
-unfolding baseOf
+base-range : (n : ℕ) → (4 ≤ baseSlot n) × (baseSlot n ≤ 6)
+unfolding baseSlot
 base-range n =
     by-cond (λ (s : ℕ). (4 ≤ s) × (s ≤ 6)) (ltb n 17) _ _ (λ e. (omega arith, omega arith))
     (λ e. by-cond (λ (s : ℕ). (4 ≤ s) × (s ≤ 6)) (leb n 40) _ _ (λ d. (omega arith, omega arith)) (λ d. (omega arith, omega arith)))
 
-extra-max : (net : Network) → extraOf net ≤ 4
-unfolding extraOf
+extra-max : (net : Network) → networkExtra net ≤ 4
+unfolding networkExtra
 extra-max Std = omega arith
 extra-max StdLp = omega arith
 
@@ -32,16 +32,16 @@ slot-range n net =
     (omega arith, omega arith)
 
 -- the longest way whose slot is at most m: 255 hops
-pub way-max : (hops slot m : ℕ) → hops < 256 → slot ≤ m → wayOf hops slot ≤ 2560 * m
-unfolding wayOf
+pub way-max : (hops slot m : ℕ) → hops < 256 → slot ≤ m → directionTime hops slot ≤ 2560 * m
+unfolding directionTime
 way-max hops slot m h s =
     let k : hops + 1 ≤ 256 = omega arith in
     let p : (hops + 1) * slot ≤ 256 * m = mul-le-mul k s in
     omega arith
 
 -- more hops never shorten a way
-pub way-grows : (h k slot : ℕ) → h ≤ k → wayOf h slot ≤ wayOf k slot
-unfolding wayOf
+pub way-grows : (h k slot : ℕ) → h ≤ k → directionTime h slot ≤ directionTime k slot
+unfolding directionTime
 way-grows h k slot l =
     let a : h + 1 ≤ k + 1 = omega arith in
     let b : slot ≤ slot = omega arith in
@@ -52,9 +52,9 @@ earliest-max : (hops request delay back response : ℕ) (net : Network) (broadca
     → earliestOf hops request delay back response net broadcast ≤ 116735
 unfolding earliestOf
 earliest-max hops request delay back response net broadcast h d b =
-    let p : wayOf hops (slotOf request net) ≤ 2560 * 10 = way-max hops (slotOf request net) 10 h (slot-range request net .1) in
-    let q : wayOf back (slotOf response net) ≤ 2560 * 10 = way-max back (slotOf response net) 10 b (slot-range response net .1) in
-    by-cond (λ (w : ℕ). wayOf hops (slotOf request net) + delay + w ≤ 116735) broadcast _ _ (λ e. omega arith) (λ e. omega arith)
+    let p : directionTime hops (slotOf request net) ≤ 2560 * 10 = way-max hops (slotOf request net) 10 h (slot-range request net .1) in
+    let q : directionTime back (slotOf response net) ≤ 2560 * 10 = way-max back (slotOf response net) 10 b (slot-range response net .1) in
+    by-cond (λ (w : ℕ). directionTime hops (slotOf request net) + delay + w ≤ 116735) broadcast _ _ (λ e. omega arith) (λ e. omega arith)
 
 -- the longest wait: 256 slots of 100 ms each way, and the longest delay; it fits a u32
 pub send-max : (hops request delay back response : ℕ) (net : Network) (broadcast : Bool) → hops < 256 → delay < 65536 → back < 256
@@ -90,7 +90,7 @@ send-grows h h′ request delay b b′ response net broadcast l m =
 
 -- the sums of an answered `earliest_send`, from the slot s and the milliseconds w of the way there
 module _ (hops request delay back response : ℕ) (net : Network) (broadcast : Bool) (a : request ≤ 56) (b : response ≤ 56)
-    (s w : ℕ) (es : s ≡ slotOf request net) (ew : w ≡ wayOf hops s) where
+    (s w : ℕ) (es : s ≡ slotOf request net) (ew : w ≡ directionTime hops s) where
   pub one-way : broadcast ≡ true
       → record { refusal = 0; milliseconds = w + delay } ≡ sendOf hops request delay back response net broadcast
   unfolding sendOf earliestOf
@@ -98,7 +98,7 @@ module _ (hops request delay back response : ℕ) (net : Network) (broadcast : B
       let z : w + delay + 0 ≡ w + delay = omega arith in
       simp (le-ltb 56 request a, le-ltb 56 response b, t, ← es, ← ew, z)
 
-  pub two-ways : broadcast ≡ false → (u v : ℕ) → u ≡ slotOf response net → v ≡ wayOf back u
+  pub two-ways : broadcast ≡ false → (u v : ℕ) → u ≡ slotOf response net → v ≡ directionTime back u
       → record { refusal = 0; milliseconds = w + delay + v } ≡ sendOf hops request delay back response net broadcast
   unfolding sendOf earliestOf
   two-ways t u v eu ev = simp (le-ltb 56 request a, le-ltb 56 response b, t, ew, es, ev, eu)

@@ -4,20 +4,20 @@ use mathlib.Core.Bool.{cond}
 use mathlib.Core.List.{List, [], _∷_, _++_}
 use lib.ListN.{length, take}
 use lib.Dec.{ltb, eqb}
-use Rattle.dpa.specs.Lists.{over}
+use Rattle.dpa.specs.Lists.{overwriteFront}
 use Rattle.dpa.specs.Frame.{headerSize, longestResponse, broadcastNadr, headerOf, pdataOf, frameFits}
 use Rattle.timing.specs.declared.slot.Network.{Network}
 use Rattle.timing.specs.declared.confirm.LengthAnswer.{LengthAnswer}
 use Rattle.timing.specs.Slot.{slotOf}
 
 -- response hops, written 0 with NADR 0x00FF
-unfoldable pub hopsBack : List ℕ → ℕ → ℕ
-hopsBack frame back = cond (eqb (headerOf frame .nadr) broadcastNadr) 0 back
+unfoldable pub responseHopsSent : List ℕ → ℕ → ℕ
+responseHopsSent frame back = cond (eqb (headerOf frame .nadr) broadcastNadr) 0 back
 
 -- the request's first six bytes, FF hex, DpaValue, hops, timeslot, response hops
 abbrev pub confirmBytes : List ℕ → ℕ → ℕ → ℕ → ℕ → List ℕ
 confirmBytes frame dpaValue hops slot back =
-    take headerSize frame ++ (0xFF ∷ dpaValue ∷ hops ∷ slot ∷ hopsBack frame back ∷ [])
+    take headerSize frame ++ (0xFF ∷ dpaValue ∷ hops ∷ slot ∷ responseHopsSent frame back ∷ [])
 
 -- the slot is that of the request's PData
 abbrev pub confirmation : List ℕ → ℕ → ℕ → ℕ → Network → List ℕ
@@ -35,7 +35,7 @@ confirmed r o = record { refusal = r .refusal; length = r .length; out = o }
 
 -- bytes at the front of the buffer, and their count
 abbrev pub wrote : ℕ → List ℕ → List ℕ → Confirmed
-wrote e xs o = record { refusal = e; length = length xs; out = over xs o }
+wrote e xs o = record { refusal = e; length = length xs; out = overwriteFront xs o }
 
 -- `confirm`: a frame of 6 to 62 bytes, then 64 bytes of room; NADR isn't tested
 unfoldable pub confirmOf : List ℕ → ℕ → ℕ → ℕ → Network → List ℕ → Confirmed

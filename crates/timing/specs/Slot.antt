@@ -9,21 +9,21 @@ use Rattle.timing.specs.declared.slot.SlotAnswer.{SlotAnswer}
 use Rattle.timing.specs.declared.slot.SendAnswer.{SendAnswer}
 
 -- under 17 bytes of PData, 17 to 40, over 40
-unfoldable pub baseOf : ℕ → ℕ
-baseOf n = cond (ltb n 17) 4 (cond (leb n 40) 5 6)
+unfoldable pub baseSlot : ℕ → ℕ
+baseSlot n = cond (ltb n 17) 4 (cond (leb n 40) 5 6)
 
 -- what the network type adds
-unfoldable pub extraOf : Network → ℕ
-extraOf Std = 0
-extraOf StdLp = 4
+unfoldable pub networkExtra : Network → ℕ
+networkExtra Std = 0
+networkExtra StdLp = 4
 
 -- a timeslot in units of 10 ms
 unfoldable pub slotOf : ℕ → Network → ℕ
-slotOf n net = baseOf n + extraOf net
+slotOf n net = baseSlot n + networkExtra net
 
 -- the milliseconds of a way
-unfoldable pub wayOf : ℕ → ℕ → ℕ
-wayOf hops slot = (hops + 1) * slot * 10
+unfoldable pub directionTime : ℕ → ℕ → ℕ
+directionTime hops slot = (hops + 1) * slot * 10
 
 -- `timeslot`: refusal 5 above 56 bytes of PData
 unfoldable pub timeslotOf : ℕ → Network → SlotAnswer
@@ -34,7 +34,7 @@ timeslotOf n net =
 -- the way there, the node's delay, and the way back but for a broadcast
 unfoldable pub earliestOf : ℕ → ℕ → ℕ → ℕ → ℕ → Network → Bool → ℕ
 earliestOf hops request delay back response net broadcast =
-    wayOf hops (slotOf request net) + delay + cond broadcast 0 (wayOf back (slotOf response net))
+    directionTime hops (slotOf request net) + delay + cond broadcast 0 (directionTime back (slotOf response net))
 
 -- `earliest_send`: both lengths are tested, for a broadcast too
 unfoldable pub sendOf : ℕ → ℕ → ℕ → ℕ → ℕ → Network → Bool → SendAnswer

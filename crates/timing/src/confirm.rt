@@ -7,8 +7,8 @@ ghost use mathlib.Core.Path.{_≡_};
 ghost use Prim.Native.Nat.{_≤_};
 ghost use lib.ListN.{length};
 ghost use Rattle.dpa.specs.Frame.{headerSize};
-ghost use Rattle.dpa.specs.Lists.{over};
-ghost use Rattle.timing.specs.Confirm.{hopsBack, confirmBytes, confirmed, confirmOf};
+ghost use Rattle.dpa.specs.Lists.{overwriteFront};
+ghost use Rattle.timing.specs.Confirm.{responseHopsSent, confirmBytes, confirmed, confirmOf};
 
 #[repr(C)]
 pub struct LengthAnswer {
@@ -21,9 +21,9 @@ const CONFIRMATION: u8 = 0xFF;
 const CONFIRMATION_LENGTH: usize = 11;
 
 // A broadcast has no response, so there are no hops of one to tell.
-fn hops_back(frame: &[u8], response_hops: u8) -> u8
+fn response_hops_sent(frame: &[u8], response_hops: u8) -> u8
     requires { ⌜ headerSize ≤ length (now frame) ⌝ }
-    ensures { λ r. ⌜ r ≡ hopsBack (now (frame .entry)) «response_hops» ⌝ }
+    ensures { λ r. ⌜ r ≡ responseHopsSent (now (frame .entry)) «response_hops» ⌝ }
 {
     let header = Frame::read(frame);
     if header.nadr == Frame::BROADCAST {
@@ -42,14 +42,14 @@ fn write_confirmation(
     out: &mut [u8],
 )
     requires { ⌜ (headerSize ≤ length (now frame)) × (11 ≤ length (now out)) ⌝ }
-    ensures { λ _. ⌜ now (out .exit) ≡ over (confirmBytes (now (frame .entry)) «dpa_value» hops slot «response_hops») (now (out .entry)) ⌝ }
+    ensures { λ _. ⌜ now (out .exit) ≡ overwriteFront (confirmBytes (now (frame .entry)) «dpa_value» hops slot «response_hops») (now (out .entry)) ⌝ }
 {
     bytes::copy(&frame[0..Frame::HEADER], out);
     out[6] = CONFIRMATION;
     out[7] = dpa_value;
     out[8] = hops;
     out[9] = slot;
-    out[10] = hops_back(frame, response_hops);
+    out[10] = response_hops_sent(frame, response_hops);
 }
 
 // Confirms a request; NADR is left to the node that takes it.

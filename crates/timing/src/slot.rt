@@ -3,7 +3,7 @@ use dpa::frame::Frame;
 use dpa::refusal;
 ghost use mathlib.Core.Path.{_≡_};
 ghost use Prim.Native.Nat.{_≤_};
-ghost use Rattle.timing.specs.Slot.{baseOf, extraOf, slotOf, wayOf, timeslotOf, sendOf};
+ghost use Rattle.timing.specs.Slot.{baseSlot, networkExtra, slotOf, directionTime, timeslotOf, sendOf};
 
 // The network type.
 pub enum Network {
@@ -24,8 +24,8 @@ pub struct SendAnswer {
 }
 
 // The part of a slot that the PData length decides.
-fn base(pdata_length: usize) -> u8
-    ensures { λ r. ⌜ (r ≡ baseOf «pdata_length») × (r ≤ 6) ⌝ }
+fn base_slot(pdata_length: usize) -> u8
+    ensures { λ r. ⌜ (r ≡ baseSlot «pdata_length») × (r ≤ 6) ⌝ }
 {
     if pdata_length < 17 {
         return 4;
@@ -37,8 +37,8 @@ fn base(pdata_length: usize) -> u8
 }
 
 // What the network type adds to it.
-fn extra(network: Network) -> u8
-    ensures { λ r. ⌜ (r ≡ extraOf network) × (r ≤ 4) ⌝ }
+fn network_extra(network: Network) -> u8
+    ensures { λ r. ⌜ (r ≡ networkExtra network) × (r ≤ 4) ⌝ }
 {
     match network {
         Network::Std => 0,
@@ -50,12 +50,12 @@ fn extra(network: Network) -> u8
 pub fn slot_of(pdata_length: usize, network: Network) -> u8
     ensures { λ r. ⌜ r ≡ slotOf «pdata_length» network ⌝ }
 {
-    base(pdata_length) + extra(network)
+    base_slot(pdata_length) + network_extra(network)
 }
 
 // The milliseconds of a way: one slot more than it has hops.
-fn way(hops: u8, slot: u8) -> u32
-    ensures { λ r. ⌜ (r ≡ wayOf hops slot) × (r ≤ 652800) ⌝ }
+fn direction_time(hops: u8, slot: u8) -> u32
+    ensures { λ r. ⌜ (r ≡ directionTime hops slot) × (r ≤ 652800) ⌝ }
 {
     (hops as u32 + 1) * (slot as u32) * 10
 }
@@ -100,14 +100,14 @@ pub fn earliest_send(
             milliseconds: 0,
         };
     }
-    let there = way(hops, slot_of(request_length, network)) + delay as u32;
+    let there = direction_time(hops, slot_of(request_length, network)) + delay as u32;
     if broadcast {
         return SendAnswer {
             refusal: refusal::NONE,
             milliseconds: there,
         };
     }
-    let back = way(response_hops, slot_of(response_length, network));
+    let back = direction_time(response_hops, slot_of(response_length, network));
     SendAnswer {
         refusal: refusal::NONE,
         milliseconds: there + back,

@@ -59,8 +59,8 @@ fn lamps(node: Node) {
 // Prints a view's refusal and the bytes of its part.
 fn look<'a>(eeprom: &'a [u8], external: &'a [u8], pnum: u8, start: usize, count: usize) {
     number(view_status(eeprom, external, pnum, start, count) as u64);
-    let part = view(eeprom, external, pnum, start, count);
-    hex(part, part.len());
+    let slice = view(eeprom, external, pnum, start, count);
+    hex(slice, slice.len());
 }
 
 // Parts at one place of both memories, the last byte of external memory, and refused views.

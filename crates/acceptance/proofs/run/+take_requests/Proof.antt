@@ -1,7 +1,7 @@
 -- `run::take_requests` meets its contract: each turn takes one length byte and the request of that length.
 use borrow.Author.Needs.{needs}
 use native.Mathlib.Omega.{arith}
-use mathlib.Core.Path.{_≡_, sym, _∙_}
+use mathlib.Core.Path.{sym, _∙_}
 use Prim.Native.Nat.{ℕ, _<_, _≤_}
 use lib.ListN.{length, length-drop, length-take}
 use lib.Seq.{length-take-le}
@@ -41,9 +41,6 @@ take-requests-returns t c =
     let a = c .before .before .before .before .before .args in
     none-taken (a .lengths .now) (a .requests .now) (state (a .node) (a .eeprom .now) (a .external .now)) (c .if1 .taken)
 
-take-requests-shared-slice-read-wide : (t : ℕ) → take-requests-lts.Need-shared-slice-read-wide (calls t) (take-requests-at t) take-requests.Post
-take-requests-shared-slice-read-wide t c = search needs
-
 take-requests-wide-requires : (t : ℕ) → take-requests-lts.Need-wide-requires (calls t) (take-requests-at t) take-requests.Post
 take-requests-wide-requires t c κs = tt
 
@@ -53,23 +50,11 @@ take-requests-slice-aggregate-take-request t c = sym (length-take-le (c .before 
 take-requests-take-request-requires : (t : ℕ) → take-requests-lts.Need-take-request-requires (calls t) (take-requests-at t) take-requests.Post
 take-requests-take-request-requires t c κs = tt
 
-take-requests-sub-take-requests : (t : ℕ) → take-requests-lts.Need-sub-take-requests (calls t) (take-requests-at t) take-requests.Post
-take-requests-sub-take-requests t c = search needs
-
-take-requests-part-take-requests-start : (t : ℕ) → take-requests-lts.Need-part-take-requests-start (calls t) (take-requests-at t) take-requests.Post
-take-requests-part-take-requests-start t c = search needs
-
-take-requests-part-take-requests-end : (t : ℕ) → take-requests-lts.Need-part-take-requests-end (calls t) (take-requests-at t) take-requests.Post
-take-requests-part-take-requests-end t c = search needs
-
 take-requests-sub-take-requests-2 : (t : ℕ) → take-requests-lts.Need-sub-take-requests-2 (calls t) (take-requests-at t) take-requests.Post
 take-requests-sub-take-requests-2 t c = covered t (c .before .before .before .before .before .before .before .before .before)
 
 take-requests-part-take-requests-start-2 : (t : ℕ) → take-requests-lts.Need-part-take-requests-start-2 (calls t) (take-requests-at t) take-requests.Post
 take-requests-part-take-requests-start-2 t c = covered t (c .before .before .before .before .before .before .before .before .before)
-
-take-requests-part-take-requests-end-2 : (t : ℕ) → take-requests-lts.Need-part-take-requests-end-2 (calls t) (take-requests-at t) take-requests.Post
-take-requests-part-take-requests-end-2 t c = search needs
 
 take-requests-take-requests-requires : (t : ℕ) → take-requests-lts.Need-take-requests-requires (calls t) (take-requests-at t) take-requests.Post
 take-requests-take-requests-requires t c κs =
@@ -92,21 +77,9 @@ take-requests-returns-2 t c =
     one-taken (a .lengths .now) (a .requests .now) (state (a .node) (a .eeprom .now) (a .external .now)) (w .before .before .if1 .left) (w .wide .ensures .0) (r .before .before .before .before .before .before .before .before .before .take-request .ensures) (r .take-requests .ensures)
 
 pub +take-requests-spec : {M : Type 1} → statement M
-+take-requests-spec = close μ-take-requests λ t. take-requests-lts.spec (calls t)
-    (take-requests-at t)
-    take-requests.Post
-    (take-requests-returns t)
-    (take-requests-shared-slice-read-wide t)
-    (take-requests-wide-requires t)
-    (take-requests-slice-aggregate-take-request t)
-    (take-requests-take-request-requires t)
-    (take-requests-sub-take-requests t)
-    (take-requests-part-take-requests-start t)
-    (take-requests-part-take-requests-end t)
-    (take-requests-sub-take-requests-2 t)
-    (take-requests-part-take-requests-start-2 t)
-    (take-requests-part-take-requests-end-2 t)
-    (take-requests-take-requests-requires t)
-    (take-requests-same-length t)
-    (take-requests-same-length-2 t)
-    (take-requests-returns-2 t)
++take-requests-spec = close μ-take-requests λ t. take-requests-lts.spec (calls t) (take-requests-at t)
+    take-requests.Post (take-requests-returns t) (λ c. search needs) (take-requests-wide-requires t)
+    (take-requests-slice-aggregate-take-request t) (take-requests-take-request-requires t) (λ c. search needs)
+    (λ c. search needs) (λ c. search needs) (take-requests-sub-take-requests-2 t)
+    (take-requests-part-take-requests-start-2 t) (λ c. search needs) (take-requests-take-requests-requires t)
+    (take-requests-same-length t) (take-requests-same-length-2 t) (take-requests-returns-2 t)

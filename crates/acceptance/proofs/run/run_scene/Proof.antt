@@ -13,13 +13,6 @@ use Rattle.acceptance.specs.RunScene.{ranAs}
 use Rattle.acceptance.proofs.Running.{run-broken, run-eeprom, run-external, run-refused, run-holds, run-done}
 use Rattle.acceptance.proofs.run.run_scene.Statement.{statement}
 use Rattle.acceptance.proofs.run.run_scene.Tie as tie
-use Rattle.acceptance.proofs.run.run_scene.Reads as reads
-use Rattle.acceptance.proofs.run.run_scene.Lts as lts
-use Rattle.acceptance.proofs.run.answer.Reads as answer-reads
-use Rattle.acceptance.proofs.run.take_output.Reads as take-output-reads
-use Rattle.memory.proofs.block.size_of.Reads as size-of-reads
-use Rattle.node.proofs.record.node_ok.Reads as node-ok-reads
-use Rattle.scene.proofs.compile.compile.Reads as compile-reads
 
 -- what the tests on the way have shown
 node-sound : (c : tie.Else1) → nodeOk (c .before .before .before .before .before .before .args .node) ≡ true
@@ -31,23 +24,11 @@ eeprom-size c = c .if2 .left ∙ c .before .size-of .ensures .0
 external-size : (c : tie.Else3) → length (c .before .before .before .before .before .before .before .before .before .before .args .external .now) ≡ sizeOf External
 external-size c = c .if3 .left ∙ c .before .size-of2 .ensures .0
 
-node-ok-requires : tie.Need-node-ok-requires
-node-ok-requires c κs = search needs
-
-answer-requires : tie.Need-answer-requires
-answer-requires c κs = search needs
-
 returns : tie.Need-returns
 returns c =
     let a = c .before .before .before .before .before .before .before .args in
     ap (λ (r : SceneAnswer). ranAs r (a .eeprom .now) (a .external .now) (a .out .now)) (c .answer .ensures)
     ∙ run-broken (a .book .now) (a .scene) (state (a .node) (a .eeprom .now) (a .external .now)) (a .out .now) (sym (c .before .before .node-ok .ensures) ∙ not-true _ (c .before .if1 .taken))
-
-size-of-requires : tie.Need-size-of-requires
-size-of-requires c κs = search needs
-
-answer-requires-2 : tie.Need-answer-requires-2
-answer-requires-2 c κs = search needs
 
 returns-2 : tie.Need-returns-2
 returns-2 c =
@@ -55,26 +36,11 @@ returns-2 c =
     ap (λ (r : SceneAnswer). ranAs r (a .eeprom .now) (a .external .now) (a .out .now)) (c .answer2 .ensures)
     ∙ run-eeprom (a .book .now) (a .scene) (state (a .node) (a .eeprom .now) (a .external .now)) (a .out .now) (node-sound (c .before .before .before)) (λ z. c .before .if2 .taken (z ∙ sym (c .before .before .size-of .ensures .0)))
 
-size-of-requires-2 : tie.Need-size-of-requires-2
-size-of-requires-2 c κs = search needs
-
-answer-requires-3 : tie.Need-answer-requires-3
-answer-requires-3 c κs = search needs
-
 returns-3 : tie.Need-returns-3
 returns-3 c =
     let a = c .before .before .before .before .before .before .before .before .before .before .before .args in
     ap (λ (r : SceneAnswer). ranAs r (a .eeprom .now) (a .external .now) (a .out .now)) (c .answer3 .ensures)
     ∙ run-external (a .book .now) (a .scene) (state (a .node) (a .eeprom .now) (a .external .now)) (a .out .now) (node-sound (c .before .before .before .before .before)) (eeprom-size (c .before .before .before)) (λ z. c .before .if3 .taken (z ∙ sym (c .before .before .size-of2 .ensures .0)))
-
-compile-requires : tie.Need-compile-requires
-compile-requires c κs = search needs
-
-answer-requires-4 : tie.Need-answer-requires-4
-answer-requires-4 c κs = search needs
-
-same-length : tie.Need-same-length
-same-length c = search needs
 
 returns-4 : tie.Need-returns-4
 returns-4 c =
@@ -89,18 +55,6 @@ take-output-requires c κs =
     let a = k .before .before .before .before .before .before .before .before .before .before .before .before .before .args in
     run-holds (a .book .now) (a .scene) (state (a .node) (a .eeprom .now) (a .external .now)) (a .out .now) (node-sound (k .before .before .before .before .before .before .before)) (eeprom-size (k .before .before .before .before .before)) (external-size (k .before .before .before)) (compiledAs (k .compile .result) (k .compile .last .1 .1 .1 .1 .0)) (k .compile .ensures) (c .before .before .before .if4 .left)
 
-answer-requires-5 : tie.Need-answer-requires-5
-answer-requires-5 c κs = search needs
-
-same-length-2 : tie.Need-same-length-2
-same-length-2 c = search needs
-
-same-length-3 : tie.Need-same-length-3
-same-length-3 c = search needs
-
-same-length-4 : tie.Need-same-length-4
-same-length-4 c = search needs
-
 returns-5 : tie.Need-returns-5
 returns-5 c =
     let k = c .before .before .before .before .before .before .before .before .before .before .before .before .before in
@@ -110,24 +64,7 @@ returns-5 c =
 
 pub run-scene-spec : {M : Type 1} → statement M
 run-scene-spec =
-    tie.close
-    (tie.spec
-    node-ok-requires
-    answer-requires
-    returns
-    size-of-requires
-    answer-requires-2
-    returns-2
-    size-of-requires-2
-    answer-requires-3
-    returns-3
-    compile-requires
-    answer-requires-4
-    same-length
-    returns-4
-    take-output-requires
-    answer-requires-5
-    same-length-2
-    same-length-3
-    same-length-4
-    returns-5)
+    tie.close (tie.spec (λ c κs. search needs) (λ c κs. search needs) returns (λ c κs. search needs)
+    (λ c κs. search needs) returns-2 (λ c κs. search needs) (λ c κs. search needs) returns-3 (λ c κs. search needs)
+    (λ c κs. search needs) (λ c. search needs) returns-4 take-output-requires (λ c κs. search needs) (λ c. search needs)
+    (λ c. search needs) (λ c. search needs) returns-5)

@@ -4,17 +4,8 @@ use Rattle.batch.specs.Batch.{faultOf}
 use Rattle.batch.proofs.list.fault_of.Statement.{statement}
 use Rattle.batch.proofs.list.fault_of.Tie as tie
 
-enum-told : tie.Need-enum-told
-enum-told c = search needs
-
-enum-known-next : tie.Need-enum-known-next
-enum-known-next c = search needs
-
-returns : tie.Need-returns
-returns c = search needs
-
 returns-2 : tie.Need-returns-2
 returns-2 c = sym (ap faultOf (c .before .next .given .1))
 
 pub fault-of-spec : {M : Type 1} → statement M
-fault-of-spec = tie.close (tie.spec enum-told enum-known-next returns returns-2)
+fault-of-spec = tie.close (tie.spec (λ c. search needs) (λ c. search needs) (λ c. search needs) returns-2)

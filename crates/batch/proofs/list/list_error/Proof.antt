@@ -4,12 +4,6 @@ use Rattle.batch.proofs.Faults.{broken-error, sound-error}
 use Rattle.batch.proofs.list.list_error.Statement.{statement}
 use Rattle.batch.proofs.list.list_error.Tie as tie
 
-enum-told : tie.Need-enum-told
-enum-told c = search needs
-
-enum-told-2 : tie.Need-enum-told-2
-enum-told-2 c = search needs
-
 returns : tie.Need-returns
 returns c = sym (sound-error (c .enum-told .given .1))
 
@@ -17,4 +11,4 @@ returns-2 : tie.Need-returns-2
 returns-2 c = sym (broken-error (c .enum-told2 .given .1))
 
 pub list-error-spec : {M : Type 1} → statement M
-list-error-spec = tie.close (tie.spec enum-told enum-told-2 returns returns-2)
+list-error-spec = tie.close (tie.spec (λ c. search needs) (λ c. search needs) returns returns-2)

@@ -2,7 +2,7 @@ use Prim.Native.Nat.{_+_, _*_}
 use lib.ListN.{length}
 use borrow.Author.Needs.{needs}
 use borrow.Author.Tests.{le-leb, lt-leb}
-use Rattle.book.specs.Book.{scenesMax, contentLength, countOf, bookOk}
+use Rattle.book.specs.Book.{scenesMax, locationLength, countOf, bookOk}
 use Rattle.book.proofs.contents.book_ok.Statement.{statement}
 use Rattle.book.proofs.contents.book_ok.Tie as tie
 
@@ -10,52 +10,28 @@ returns : tie.Need-returns
 unfolding bookOk
 returns c = simp (lt-leb 1 (length (c .before .before .args .book .now)) (c .if1 .taken))
 
-shared-slice-read-wide : tie.Need-shared-slice-read-wide
-shared-slice-read-wide c = search needs
-
-wide-requires : tie.Need-wide-requires
-wide-requires c κs = search needs
-
 returns-2 : tie.Need-returns-2
 unfolding bookOk
 returns-2 c =
     let b = c .before .before .before .before .before .args .book .now in
     simp (le-leb 1 (length b) (c .before .before .before .if1 .left), lt-leb (countOf b) scenesMax (rw (c .before .wide .ensures .0) at (c .if2 .taken)))
 
-mul-if3 : tie.Need-mul-if3
-mul-if3 c = search needs
-
-add-if3 : tie.Need-add-if3
-add-if3 c = search needs
-
 returns-3 : tie.Need-returns-3
 unfolding bookOk
 returns-3 c =
     let b = c .before .before .before .before .before .before .args .book .now in
     let e = c .before .before .wide .ensures .0 in
-    simp (le-leb 1 (length b) (c .before .before .before .before .if1 .left), le-leb (countOf b) scenesMax (rw e at (c .before .if2 .left)), lt-leb (1 + contentLength * countOf b) (length b) (rw e at (c .if3 .taken)))
-
-bodies-ok-requires : tie.Need-bodies-ok-requires
-bodies-ok-requires c κs = search needs
+    simp (le-leb 1 (length b) (c .before .before .before .before .if1 .left), le-leb (countOf b) scenesMax (rw e at (c .before .if2 .left)), lt-leb (1 + locationLength * countOf b) (length b) (rw e at (c .if3 .taken)))
 
 returns-4 : tie.Need-returns-4
 unfolding bookOk
 returns-4 c =
     let b = c .before .before .before .before .before .before .before .args .book .now in
     let e = c .before .before .before .wide .ensures .0 in
-    simp (le-leb 1 (length b) (c .before .before .before .before .before .if1 .left), le-leb (countOf b) scenesMax (rw e at (c .before .before .if2 .left)), le-leb (1 + contentLength * countOf b) (length b) (rw e at (c .before .if3 .left)))
+    simp (le-leb 1 (length b) (c .before .before .before .before .before .if1 .left), le-leb (countOf b) scenesMax (rw e at (c .before .before .if2 .left)), le-leb (1 + locationLength * countOf b) (length b) (rw e at (c .before .if3 .left)))
     (rw e at (c .bodies-ok .ensures))
 
 pub book-ok-spec : {M : Type 1} → statement M
 book-ok-spec =
-    tie.close
-    (tie.spec
-    returns
-    shared-slice-read-wide
-    wide-requires
-    returns-2
-    mul-if3
-    add-if3
-    returns-3
-    bodies-ok-requires
-    returns-4)
+    tie.close (tie.spec returns (λ c. search needs) (λ c κs. search needs) returns-2 (λ c. search needs)
+    (λ c. search needs) returns-3 (λ c κs. search needs) returns-4)

@@ -4,9 +4,6 @@ use Rattle.book.specs.Entry.{pcmdOf}
 use Rattle.book.proofs.entry.pcmd_of.Statement.{statement}
 use Rattle.book.proofs.entry.pcmd_of.Tie as tie
 
-is-lamp-requires : tie.Need-is-lamp-requires
-is-lamp-requires c κs = search needs
-
 returns : tie.Need-returns
 unfolding pcmdOf
 returns c = simp (sym (c .before .is-lamp .ensures) ∙ c .if1 .taken)
@@ -16,4 +13,4 @@ unfolding pcmdOf
 returns-2 c = simp (sym (c .before .is-lamp .ensures) ∙ c .if1 .left)
 
 pub pcmd-of-spec : {M : Type 1} → statement M
-pcmd-of-spec = tie.close (tie.spec is-lamp-requires returns returns-2)
+pcmd-of-spec = tie.close (tie.spec (λ c κs. search needs) returns returns-2)

@@ -5,9 +5,6 @@ use Rattle.book.specs.Entry.{pnumOf}
 use Rattle.book.proofs.entry.pnum_of.Statement.{statement}
 use Rattle.book.proofs.entry.pnum_of.Tie as tie
 
-is-lamp-requires : tie.Need-is-lamp-requires
-is-lamp-requires c κs = search needs
-
 returns : tie.Need-returns
 unfolding pnumOf
 returns c = simp (sym (c .before .is-lamp .ensures) ∙ c .if1 .taken)
@@ -21,4 +18,4 @@ unfolding pnumOf
 returns-3 c = simp (sym (c .before .before .is-lamp .ensures) ∙ c .before .if1 .left, ne-eqb _ _ (c .if2 .left))
 
 pub pnum-of-spec : {M : Type 1} → statement M
-pnum-of-spec = tie.close (tie.spec is-lamp-requires returns returns-2 returns-3)
+pnum-of-spec = tie.close (tie.spec (λ c κs. search needs) returns returns-2 returns-3)

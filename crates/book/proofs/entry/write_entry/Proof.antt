@@ -5,23 +5,11 @@ use lib.Seq.{sets}
 use borrow.Author.Needs.{needs}
 use Rattle.book.specs.declared.step.Step.{Step}
 use Rattle.book.specs.Book.{stepsIn}
-use Rattle.book.specs.Entry.{runData}
+use Rattle.book.specs.Entry.{groupData}
 use Rattle.book.specs.Run.{stepAt, headBytes}
 use Rattle.book.proofs.Writing.{put-two, entry-split}
 use Rattle.book.proofs.entry.write_entry.Statement.{statement}
 use Rattle.book.proofs.entry.write_entry.Tie as tie
-
-step-at-requires : tie.Need-step-at-requires
-step-at-requires c κs = search needs
-
-write-head-requires : tie.Need-write-head-requires
-write-head-requires c κs = search needs
-
-write-pdata-requires : tie.Need-write-pdata-requires
-write-pdata-requires c κs = search needs
-
-same-length : tie.Need-same-length
-same-length c = search needs
 
 returns : tie.Need-returns
 returns c =
@@ -31,11 +19,12 @@ returns c =
     let pdata = c .before .before .write-pdata .ensures in
     let e = entry-split (s .args .count) (s .args .body .now) (s .args .hwpid) (s .args .size) (s .pre .1) (s .pre .4) in
     let both = put-two (s .args .out .now) _ _ (headBytes (stepAt (s .args .body .now) 0 .kind) (s .args .hwpid) (s .args .size))
-    (runData (stepsIn (s .args .count) (s .args .body .now))) _ _ _ _
+    (groupData (stepsIn (s .args .count) (s .args .body .now))) _ _ _ _
     (head .1 ∙ ap (λ (x : Step). sets (s .args .out .now) (s .args .at) (headBytes (x .kind) (s .args .hwpid) (s .args .size))) (x .step-at .ensures))
     (head .0) (pdata .1) (pdata .0) e in
     (omega (arith, both .0, ap length e, head .0, pdata .0, s .pre .4), both .1)
 
 pub write-entry-spec : {M : Type 1} → statement M
 write-entry-spec =
-    tie.close (tie.spec step-at-requires write-head-requires write-pdata-requires same-length returns)
+    tie.close (tie.spec (λ c κs. search needs) (λ c κs. search needs) (λ c κs. search needs) (λ c. search needs)
+    returns)

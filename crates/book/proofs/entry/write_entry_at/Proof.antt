@@ -7,26 +7,11 @@ use Rattle.book.specs.Book.{stepLength}
 use Rattle.book.proofs.entry.write_entry_at.Statement.{statement}
 use Rattle.book.proofs.entry.write_entry_at.Tie as tie
 
-mul-from : tie.Need-mul-from
-mul-from c = search needs
-
-sub-write-entry : tie.Need-sub-write-entry
-sub-write-entry c = search needs
-
-part-write-entry-start : tie.Need-part-write-entry-start
-part-write-entry-start c = search needs
-
-part-write-entry-end : tie.Need-part-write-entry-end
-part-write-entry-end c = search needs
-
 write-entry-requires : tie.Need-write-entry-requires
 write-entry-requires c κs =
     let s = c .before .before .before .before in
     rw (to-end (stepLength * s .args .done) (s .args .body .now))
     (omega (arith, s .pre .0, length-drop (stepLength * s .args .done) (s .args .body .now)), s .pre .1, omega (arith, s .pre .2), s .pre .3, s .pre .4, s .pre .5, s .pre .6)
-
-same-length : tie.Need-same-length
-same-length c = search needs
 
 returns : tie.Need-returns
 returns c =
@@ -35,12 +20,5 @@ returns c =
 
 pub write-entry-at-spec : {M : Type 1} → statement M
 write-entry-at-spec =
-    tie.close
-    (tie.spec
-    mul-from
-    sub-write-entry
-    part-write-entry-start
-    part-write-entry-end
-    write-entry-requires
-    same-length
-    returns)
+    tie.close (tie.spec (λ c. search needs) (λ c. search needs) (λ c. search needs) (λ c. search needs)
+    write-entry-requires (λ c. search needs) returns)

@@ -15,12 +15,6 @@ use Rattle.book.proofs.Writing.{put-two, sets-keep, data-lamp, data-mem
 use Rattle.book.proofs.entry.write_pdata.Statement.{statement}
 use Rattle.book.proofs.entry.write_pdata.Tie as tie
 
-step-at-requires : tie.Need-step-at-requires
-step-at-requires c κs = search needs
-
-is-lamp-requires : tie.Need-is-lamp-requires
-is-lamp-requires c κs = search needs
-
 -- the kind of the first step
 lamp : (c : tie.Then1) → isLamp (stepAt (c .before .before .before .before .before .args .body .now) 0 .kind) ≡ true
 lamp c = ap (λ (x : Step). isLamp (x .kind)) (sym (c .before .before .step-at .ensures)) ∙ sym (c .before .is-lamp .ensures) ∙ c .if1 .taken
@@ -57,9 +51,6 @@ write-powers-requires c κs =
       s .pre .4 k,
     )
 
-same-length : tie.Need-same-length
-same-length c = search needs
-
 returns : tie.Need-returns
 returns c =
     let at = c .before .before .before .before .before .before .before .before .before in
@@ -76,9 +67,6 @@ slice-write-out : tie.Need-slice-write-out
 slice-write-out c =
     let s = c .before .before .before .before .before in
     omega (arith, s .pre .3, ap length (data-mem (s .args .count) (s .args .body .now) (s .pre .1) (byte c)))
-
-add-write-values : tie.Need-add-write-values
-add-write-values c = search needs
 
 write-values-requires : tie.Need-write-values-requires
 write-values-requires c κs =
@@ -111,17 +99,6 @@ returns-2 c =
 
 pub write-pdata-spec : {M : Type 1} → statement M
 write-pdata-spec =
-    tie.close
-    (tie.spec
-    step-at-requires
-    is-lamp-requires
-    bitmap-of-requires
-    write-bitmap-requires
-    write-powers-requires
-    same-length
-    returns
-    slice-write-out
-    add-write-values
-    write-values-requires
-    same-length-2
-    returns-2)
+    tie.close (tie.spec (λ c κs. search needs) (λ c κs. search needs) bitmap-of-requires write-bitmap-requires
+    write-powers-requires (λ c. search needs) returns slice-write-out (λ c. search needs) write-values-requires
+    same-length-2 returns-2)

@@ -5,21 +5,6 @@ use Rattle.book.proofs.Joining.{size-over, size-yes, size-no}
 use Rattle.book.proofs.join.joined_size.Statement.{statement}
 use Rattle.book.proofs.join.joined_size.Tie as tie
 
-sub-step-at : tie.Need-sub-step-at
-sub-step-at c = search needs
-
-step-at-requires : tie.Need-step-at-requires
-step-at-requires c κs = search needs
-
-step-at-requires-2 : tie.Need-step-at-requires-2
-step-at-requires-2 c κs = search needs
-
-step-size-requires : tie.Need-step-size-requires
-step-size-requires c κs = search needs
-
-add-more : tie.Need-add-more
-add-more c = search needs
-
 returns : tie.Need-returns
 returns c =
     let a = c .before .before .before .before .before .args in
@@ -27,9 +12,6 @@ returns c =
     let e = c .before .step-size .ensures .0 in
     rw (← (c .before .before .before .step-at .ensures), ← (c .before .before .step-at2 .ensures))
     (size-over (a .most) _ x (a .kind) (a .size) (omega (arith, e, c .if1 .taken)))
-
-may-follow-requires : tie.Need-may-follow-requires
-may-follow-requires c κs = search needs
 
 returns-2 : tie.Need-returns-2
 returns-2 c =
@@ -49,14 +31,5 @@ returns-3 c =
 
 pub joined-size-spec : {M : Type 1} → statement M
 joined-size-spec =
-    tie.close
-    (tie.spec
-    sub-step-at
-    step-at-requires
-    step-at-requires-2
-    step-size-requires
-    add-more
-    returns
-    may-follow-requires
-    returns-2
-    returns-3)
+    tie.close (tie.spec (λ c. search needs) (λ c κs. search needs) (λ c κs. search needs) (λ c κs. search needs)
+    (λ c. search needs) returns (λ c κs. search needs) returns-2 returns-3)

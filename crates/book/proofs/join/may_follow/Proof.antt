@@ -1,22 +1,10 @@
 use mathlib.Core.Path.{sym, _∙_}
 use native.Mathlib.Numerals.{add-one}
 use borrow.Author.Needs.{needs}
-use borrow.Author.Tests.{lt-ltb, eq-eqb, ne-eqb}
+use borrow.Author.Tests.{eq-eqb, ne-eqb}
 use Rattle.book.specs.Join.{follows}
 use Rattle.book.proofs.join.may_follow.Statement.{statement}
 use Rattle.book.proofs.join.may_follow.Tie as tie
-
-is-lamp-requires : tie.Need-is-lamp-requires
-is-lamp-requires c κs = search needs
-
-wide-requires : tie.Need-wide-requires
-wide-requires c κs = search needs
-
-wide-requires-2 : tie.Need-wide-requires-2
-wide-requires-2 c κs = search needs
-
-add-result : tie.Need-add-result
-add-result c = search needs
 
 returns : tie.Need-returns
 unfolding follows
@@ -33,4 +21,5 @@ returns-3 c = simp (ne-eqb _ _ (c .if1 .left))
 
 pub may-follow-spec : {M : Type 1} → statement M
 may-follow-spec =
-    tie.close (tie.spec is-lamp-requires wide-requires wide-requires-2 add-result returns returns-2 returns-3)
+    tie.close (tie.spec (λ c κs. search needs) (λ c κs. search needs) (λ c κs. search needs) (λ c. search needs) returns
+    returns-2 returns-3)

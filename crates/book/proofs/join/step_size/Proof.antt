@@ -6,9 +6,6 @@ use Rattle.book.specs.Run.{stepSize, powerSize}
 use Rattle.book.proofs.join.step_size.Statement.{statement}
 use Rattle.book.proofs.join.step_size.Tie as tie
 
-is-lamp-requires : tie.Need-is-lamp-requires
-is-lamp-requires c κs = search needs
-
 returns : tie.Need-returns
 unfolding stepSize powerSize
 returns c = (simp (sym (c .before .before .before .is-lamp .ensures) ∙ c .before .before .if1 .taken, eq-eqb _ _ (c .if2 .taken)), omega arith)
@@ -22,4 +19,4 @@ unfolding stepSize powerSize
 returns-3 c = (simp (sym (c .before .is-lamp .ensures) ∙ c .if1 .left), omega arith)
 
 pub step-size-spec : {M : Type 1} → statement M
-step-size-spec = tie.close (tie.spec is-lamp-requires returns returns-2 returns-3)
+step-size-spec = tie.close (tie.spec (λ c κs. search needs) returns returns-2 returns-3)

@@ -14,21 +14,12 @@ abbrev μ-loop : tie.MeasureT-loop
 loop-holds : tie.Need-loop-holds Inv-loop μ-loop
 loop-holds c = (omega arith, refl, omega arith)
 
-step-at-requires : tie.Need-step-at-requires Inv-loop μ-loop
-step-at-requires c κs = omega arith
-
 power-of-two-requires : tie.Need-power-of-two-requires Inv-loop μ-loop
 power-of-two-requires c κs =
     rw (c .step-at .ensures) (c .before .before .before .before .pre .2 (c .before .before .loop .i) (c .before .loop-test .taken) .1)
 
 add-bitmap : tie.Need-add-bitmap Inv-loop μ-loop
 add-bitmap c = omega (arith, c .before .before .before .loop .inv .2, c .power-of-two .ensures .1)
-
-add-i : tie.Need-add-i Inv-loop μ-loop
-add-i c = omega arith
-
-loop-less : tie.Need-loop-less Inv-loop μ-loop
-loop-less c = omega arith
 
 loop-again : tie.Need-loop-again Inv-loop μ-loop
 loop-again c =
@@ -40,15 +31,5 @@ returns c = map-end _ _ _ _ (c .before .loop .inv) (c .loop-test .left)
 
 pub bitmap-of-spec : {M : Type 1} → statement M
 bitmap-of-spec =
-    tie.close
-    (tie.spec
-    Inv-loop
-    μ-loop
-    loop-holds
-    step-at-requires
-    power-of-two-requires
-    add-bitmap
-    add-i
-    loop-less
-    loop-again
-    returns)
+    tie.close (tie.spec Inv-loop μ-loop loop-holds (λ c κs. omega arith) power-of-two-requires add-bitmap
+    (λ c. omega arith) (λ c. omega arith) loop-again returns)

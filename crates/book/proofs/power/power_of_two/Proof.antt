@@ -4,13 +4,10 @@ use borrow.Author.Needs.{needs}
 use Rattle.book.proofs.power.power_of_two.Statement.{statement}
 use Rattle.book.proofs.power.power_of_two.Tie as tie
 
-shl-result : tie.Need-shl-result
-shl-result c = search needs
-
 returns : tie.Need-returns
 returns c =
     let small = pow-mono {i = c .args .exponent} {j = 32} (omega arith) in
     (omega (arith, small), omega (arith, small))
 
 pub power-of-two-spec : {M : Type 1} → statement M
-power-of-two-spec = tie.close (tie.spec shl-result returns)
+power-of-two-spec = tie.close (tie.spec (λ c. search needs) returns)

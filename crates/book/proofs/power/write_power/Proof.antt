@@ -15,15 +15,9 @@ slice-write-out c = omega (arith, power-one (c .before .before .args .step) (c .
 add-result : tie.Need-add-result
 add-result c = omega (arith, power-one (c .before .before .args .step) (c .if1 .taken))
 
-same-length : tie.Need-same-length
-same-length c = search needs
-
 returns : tie.Need-returns
 unfolding powerBytes
 returns c = rw (eq-eqb _ _ (c .if1 .taken)) (refl, refl)
-
-add-out : tie.Need-add-out
-add-out c = search needs
 
 slice-write-out-2 : tie.Need-slice-write-out-2
 slice-write-out-2 c = omega (arith, power-two (c .before .before .before .args .step) (c .before .if1 .left))
@@ -37,25 +31,11 @@ slice-write-out-3 c = rw length-set (omega (arith, power-two (c .before .before 
 add-result-2 : tie.Need-add-result-2
 add-result-2 c = omega (arith, power-two (c .before .before .before .args .step) (c .before .if1 .left))
 
-same-length-2 : tie.Need-same-length-2
-same-length-2 c = search needs
-
 returns-2 : tie.Need-returns-2
 unfolding powerBytes
 returns-2 c = rw (ne-eqb _ _ (c .before .if1 .left)) (refl, rw add-one)
 
 pub write-power-spec : {M : Type 1} → statement M
 write-power-spec =
-    tie.close
-    (tie.spec
-    slice-write-out
-    add-result
-    same-length
-    returns
-    add-out
-    slice-write-out-2
-    add-out-2
-    slice-write-out-3
-    add-result-2
-    same-length-2
-    returns-2)
+    tie.close (tie.spec slice-write-out add-result (λ c. search needs) returns (λ c. search needs) slice-write-out-2
+    add-out-2 slice-write-out-3 add-result-2 (λ c. search needs) returns-2)

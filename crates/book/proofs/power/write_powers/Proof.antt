@@ -14,9 +14,6 @@ abbrev μ-loop : tie.MeasureT-loop
 loop-holds : tie.Need-loop-holds Inv-loop μ-loop
 loop-holds c = (omega arith, omega arith, refl, refl)
 
-step-at-requires : tie.Need-step-at-requires Inv-loop μ-loop
-step-at-requires c κs = omega arith
-
 write-power-requires : tie.Need-write-power-requires Inv-loop μ-loop
 write-power-requires c κs =
     let at = c .before .before .before in
@@ -31,12 +28,6 @@ write-power-requires c κs =
         at .before .before .before .pre .2,
       )),
     )
-
-add-i : tie.Need-add-i Inv-loop μ-loop
-add-i c = omega arith
-
-loop-less : tie.Need-loop-less Inv-loop μ-loop
-loop-less c = omega arith
 
 loop-again : tie.Need-loop-again Inv-loop μ-loop
 loop-again c =
@@ -53,15 +44,5 @@ returns c = put-end _ _ _ _ _ _ _ (c .before .loop .inv) (c .loop-test .left)
 
 pub write-powers-spec : {M : Type 1} → statement M
 write-powers-spec =
-    tie.close
-    (tie.spec
-    Inv-loop
-    μ-loop
-    loop-holds
-    step-at-requires
-    write-power-requires
-    add-i
-    loop-less
-    loop-again
-    same-length
-    returns)
+    tie.close (tie.spec Inv-loop μ-loop loop-holds (λ c κs. omega arith) write-power-requires (λ c. omega arith)
+    (λ c. omega arith) loop-again same-length returns)

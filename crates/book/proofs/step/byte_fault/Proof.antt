@@ -7,12 +7,6 @@ use Rattle.book.specs.Step.{byteFault}
 use Rattle.book.proofs.step.byte_fault.Statement.{statement}
 use Rattle.book.proofs.step.byte_fault.Tie as tie
 
-size-of-requires : tie.Need-size-of-requires
-size-of-requires c κs = search needs
-
-wide-requires : tie.Need-wide-requires
-wide-requires c κs = search needs
-
 returns : tie.Need-returns
 unfolding byteFault
 returns c =
@@ -36,4 +30,4 @@ returns-3 c =
     rw (lt-leb (sizeOf (a .memory)) (a .step .target) (inside (c .before .before)), ne-eqb (a .step .time) 0 (c .if2 .left))
 
 pub byte-fault-spec : {M : Type 1} → statement M
-byte-fault-spec = tie.close (tie.spec size-of-requires wide-requires returns returns-2 returns-3)
+byte-fault-spec = tie.close (tie.spec (λ c κs. search needs) (λ c κs. search needs) returns returns-2 returns-3)

@@ -5,26 +5,14 @@ use Rattle.book.specs.Step.{stepFault}
 use Rattle.book.proofs.step.step_fault.Statement.{statement}
 use Rattle.book.proofs.step.step_fault.Tie as tie
 
-is-lamp-requires : tie.Need-is-lamp-requires
-is-lamp-requires c κs = search needs
-
-lamp-fault-requires : tie.Need-lamp-fault-requires
-lamp-fault-requires c κs = search needs
-
 returns : tie.Need-returns
 unfolding stepFault
 returns c = rw (sym (c .before .before .is-lamp .ensures) ∙ c .before .if1 .taken) (c .lamp-fault .ensures)
-
-byte-fault-requires : tie.Need-byte-fault-requires
-byte-fault-requires c κs = search needs
 
 returns-2 : tie.Need-returns-2
 unfolding stepFault
 returns-2 c =
     rw (sym (c .before .before .before .before .is-lamp .ensures) ∙ c .before .before .before .if1 .left, eq-eqb _ _ (c .before .if2 .taken)) (c .byte-fault .ensures)
-
-byte-fault-requires-2 : tie.Need-byte-fault-requires-2
-byte-fault-requires-2 c κs = search needs
 
 returns-3 : tie.Need-returns-3
 unfolding stepFault
@@ -41,13 +29,5 @@ returns-4 c =
 
 pub step-fault-spec : {M : Type 1} → statement M
 step-fault-spec =
-    tie.close
-    (tie.spec
-    is-lamp-requires
-    lamp-fault-requires
-    returns
-    byte-fault-requires
-    returns-2
-    byte-fault-requires-2
-    returns-3
-    returns-4)
+    tie.close (tie.spec (λ c κs. search needs) (λ c κs. search needs) returns (λ c κs. search needs) returns-2
+    (λ c κs. search needs) returns-3 returns-4)

@@ -1,17 +1,11 @@
-use Prim.Native.Nat.{ℕ, _+_, _≤_, _-_}
+use Prim.Native.Nat.{_+_, _≤_, _-_}
 use mathlib.Core.Path.{_≡_, sym, _∙_}
 use native.Mathlib.Omega.{arith}
 use lib.ListN.{length, drop}
 use Rattle.checksum.specs.Sums.{sums, start}
 use Rattle.checksum.proofs.Fletcher.{block-more, sums-done}
-use borrow.Author.Needs.{needs}
 use Rattle.checksum.proofs.sums.image_sums.Statement.{statement}
 use Rattle.checksum.proofs.sums.image_sums.Tie as tie
-use Rattle.checksum.proofs.sums.image_sums.Reads as reads
-use Rattle.checksum.proofs.sums.image_sums.Lts as lts
-use Rattle.checksum.proofs.sums.Sums.add_block.Reads as add-block-reads
-use Rattle.checksum.proofs.sums.Sums.start.Reads as start-reads
-use Rattle.checksum.proofs.sums.least.Reads as least-reads
 
 abbrev Inv-loop : tie.InvT-loop
 Inv-loop image first unit s₀ at₀ s at = (at ≤ length image) × (sums s (drop at image) ≡ sums (start first) image)
@@ -25,38 +19,23 @@ start-requires c κs = tt
 loop-holds : tie.Need-loop-holds Inv-loop μ-loop
 loop-holds c = (omega arith, rw (c .start .ensures))
 
-sub-least : tie.Need-sub-least Inv-loop μ-loop
-sub-least c = omega arith
-
-least-requires : tie.Need-least-requires Inv-loop μ-loop
-least-requires c κs = tt
-
-add-end : tie.Need-add-end Inv-loop μ-loop
-add-end c = omega arith
-
-sub-add-block : tie.Need-sub-add-block Inv-loop μ-loop
-sub-add-block c = omega arith
-
-part-add-block-start : tie.Need-part-add-block-start Inv-loop μ-loop
-part-add-block-start c = omega arith
-
-part-add-block-end : tie.Need-part-add-block-end Inv-loop μ-loop
-part-add-block-end c = omega arith
+smaller-requires : tie.Need-smaller-requires Inv-loop μ-loop
+smaller-requires c κs = tt
 
 add-block-requires : tie.Need-add-block-requires Inv-loop μ-loop
 add-block-requires c κs = tt
 
 loop-less : tie.Need-loop-less Inv-loop μ-loop
 loop-less c =
-    let k : 1 ≤ c .before .before .least .result = c .before .before .least .ensures .2 (c .before .before .before .before .before .before .before .pre) (omega arith) in
-    omega (arith, c .before .before .least .ensures .1)
+    let k : 1 ≤ c .before .before .smaller .result = c .before .before .smaller .ensures .2 (c .before .before .before .before .before .before .before .pre) (omega arith) in
+    omega (arith, c .before .before .smaller .ensures .1)
 
 loop-again : tie.Need-loop-again Inv-loop μ-loop
 loop-again c =
     let l = c .before .before .before .before in
     let a = c .before .before .before .before .before .before .before .args in
-    let end = l .loop .at + c .before .before .least .result in (
-      omega (arith, c .before .before .least .ensures .1),
+    let end = l .loop .at + c .before .before .smaller .result in (
+      omega (arith, c .before .before .smaller .ensures .1),
       sym (block-more (a .image .now) (l .loop .s) (c .add-block .result) (l .loop .at) end (omega arith) (c .add-block .ensures)) ∙ l .loop .inv .1,
     )
 
@@ -67,19 +46,5 @@ returns c =
 
 pub image-sums-spec : {M : Type 1} → statement M
 image-sums-spec =
-    tie.close
-    (tie.spec
-    Inv-loop
-    μ-loop
-    start-requires
-    loop-holds
-    sub-least
-    least-requires
-    add-end
-    sub-add-block
-    part-add-block-start
-    part-add-block-end
-    add-block-requires
-    loop-less
-    loop-again
-    returns)
+    tie.close (tie.spec Inv-loop μ-loop start-requires loop-holds (λ c. omega arith) smaller-requires (λ c. omega arith)
+    (λ c. omega arith) (λ c. omega arith) (λ c. omega arith) add-block-requires loop-less loop-again returns)

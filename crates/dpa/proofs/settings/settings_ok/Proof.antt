@@ -3,9 +3,6 @@ use borrow.Author.Tests.{le-leb, lt-leb}
 use Rattle.dpa.specs.Settings.{settingsOk}
 use Rattle.dpa.proofs.settings.settings_ok.Statement.{statement}
 use Rattle.dpa.proofs.settings.settings_ok.Tie as tie
-use Rattle.dpa.proofs.settings.settings_ok.Reads as reads
-use Rattle.dpa.proofs.settings.settings_ok.Lts as lts
-use Rattle.dpa.proofs.settings.step_ok.Reads as step-ok-reads
 
 returns : tie.Need-returns
 unfolding settingsOk
@@ -23,9 +20,6 @@ returns-4 : tie.Need-returns-4
 unfolding settingsOk
 returns-4 c = simp (le-leb _ _ (c .before .before .before .before .before .before .if1 .left), le-leb _ _ (c .before .before .before .before .if2 .left), le-leb _ _ (c .before .before .if3 .left), lt-leb _ _ (c .if4 .taken))
 
-step-ok-requires : tie.Need-step-ok-requires
-step-ok-requires c κs = search needs
-
 returns-5 : tie.Need-returns-5
 unfolding settingsOk
 returns-5 c =
@@ -39,4 +33,4 @@ returns-5 c =
 
 pub settings-ok-spec : {M : Type 1} → statement M
 settings-ok-spec =
-    tie.close (tie.spec returns returns-2 returns-3 returns-4 step-ok-requires returns-5)
+    tie.close (tie.spec returns returns-2 returns-3 returns-4 (λ c κs. search needs) returns-5)

@@ -5,15 +5,6 @@ use Rattle.timing.specs.Confirm.{confirmOf}
 use Rattle.grelfint.proofs.gateway.grelfint_confirm.Statement.{statement}
 use Rattle.grelfint.proofs.gateway.grelfint_confirm.Tie as tie
 
-network-of-requires : tie.Need-network-of-requires
-network-of-requires c κs = search needs
-
-confirm-requires : tie.Need-confirm-requires
-confirm-requires c κs = search needs
-
-same-length : tie.Need-same-length
-same-length c = search needs
-
 returns : tie.Need-returns
 returns c =
     let a = c .before .before .before .before .before .before .before .args in
@@ -22,4 +13,4 @@ returns c =
 
 pub grelfint-confirm-spec : {M : Type 1} → statement M
 grelfint-confirm-spec =
-    tie.close (tie.spec network-of-requires confirm-requires same-length returns)
+    tie.close (tie.spec (λ c κs. search needs) (λ c κs. search needs) (λ c. search needs) returns)

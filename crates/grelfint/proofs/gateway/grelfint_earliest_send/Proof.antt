@@ -5,12 +5,6 @@ use Rattle.timing.specs.Slot.{sendOf}
 use Rattle.grelfint.proofs.gateway.grelfint_earliest_send.Statement.{statement}
 use Rattle.grelfint.proofs.gateway.grelfint_earliest_send.Tie as tie
 
-network-of-requires : tie.Need-network-of-requires
-network-of-requires c κs = search needs
-
-earliest-send-requires : tie.Need-earliest-send-requires
-earliest-send-requires c κs = search needs
-
 returns : tie.Need-returns
 returns c =
     let a = c .before .before .args in
@@ -19,4 +13,4 @@ returns c =
 
 pub grelfint-earliest-send-spec : {M : Type 1} → statement M
 grelfint-earliest-send-spec =
-    tie.close (tie.spec network-of-requires earliest-send-requires returns)
+    tie.close (tie.spec (λ c κs. search needs) (λ c κs. search needs) returns)

@@ -5,14 +5,8 @@ use Rattle.timing.specs.Slot.{timeslotOf}
 use Rattle.grelfint.proofs.gateway.grelfint_timeslot.Statement.{statement}
 use Rattle.grelfint.proofs.gateway.grelfint_timeslot.Tie as tie
 
-network-of-requires : tie.Need-network-of-requires
-network-of-requires c κs = search needs
-
-timeslot-requires : tie.Need-timeslot-requires
-timeslot-requires c κs = search needs
-
 returns : tie.Need-returns
 returns c = c .timeslot .ensures ∙ ap (λ (n : Network). timeslotOf (c .before .before .args .pdata-length) n) (c .before .network-of .ensures)
 
 pub grelfint-timeslot-spec : {M : Type 1} → statement M
-grelfint-timeslot-spec = tie.close (tie.spec network-of-requires timeslot-requires returns)
+grelfint-timeslot-spec = tie.close (tie.spec (λ c κs. search needs) (λ c κs. search needs) returns)

@@ -2,11 +2,8 @@ use borrow.Author.Needs.{needs}
 use Rattle.grelfint.proofs.nodes.grelfint_frc.Statement.{statement}
 use Rattle.grelfint.proofs.nodes.grelfint_frc.Tie as tie
 
-frc-requires : tie.Need-frc-requires
-frc-requires c κs = search needs
-
 returns : tie.Need-returns
 returns c = c .frc .ensures
 
 pub grelfint-frc-spec : {M : Type 1} → statement M
-grelfint-frc-spec = tie.close (tie.spec frc-requires returns)
+grelfint-frc-spec = tie.close (tie.spec (λ c κs. search needs) returns)

@@ -4,21 +4,16 @@ use native.Mathlib.Omega.{arith}
 use mathlib.Core.Path.{_≡_, refl, sym, _∙_}
 use Prim.Native.Nat.{_-_, _+_, _≤_}
 use lib.ListN.{length, take, drop}
-use Rattle.batch.specs.declared.entry.Next.the-variants.{Entry}
-use Rattle.batch.specs.Batch.{nextOf}
-use Rattle.handler.specs.Request.{held}
+use Rattle.batch.specs.declared.entry.NextEntry.the-variants.{Entry}
+use Rattle.batch.specs.Batch.{nextEntry}
+use Rattle.handler.specs.Request.{stateFromParts}
 use Rattle.handler.proofs.Listing.{Running, run-starts, run-ends, turn-sized, turn-runs, fault-ends}
 use Rattle.handler.proofs.entries.run_list.Statement.{statement}
 use Rattle.handler.proofs.entries.run_list.Tie as tie
-use Rattle.handler.proofs.entries.run_list.Reads as reads
-use Rattle.handler.proofs.entries.run_list.Lts as lts
-use Rattle.batch.proofs.entry.at_end.Reads as at-end-reads
-use Rattle.batch.proofs.entry.next_entry.Reads as next-entry-reads
-use Rattle.handler.proofs.entries.run_entry.Reads as run-entry-reads
 
 abbrev Inv-loop : tie.InvT-loop
 Inv-loop fixed lamps₀ list ram₀ eeprom₀ external₀ at₀ lamps ram eeprom external at =
-    Running list (held fixed lamps₀ ram₀ eeprom₀ external₀) at (held fixed lamps ram eeprom external)
+    Running list (stateFromParts fixed lamps₀ ram₀ eeprom₀ external₀) at (stateFromParts fixed lamps ram eeprom external)
     × (length ram ≡ length ram₀) × (length eeprom ≡ length eeprom₀) × (length external ≡ length external₀)
 
 abbrev μ-loop : tie.MeasureT-loop
@@ -29,7 +24,7 @@ first-is : (c : tie.After-known-told Inv-loop μ-loop) →
     let list = c .before .before .before .before .before .before .before .before .before .before .before .before .before .args .list .now in
     let at = c .before .before .before .before .before .before .before .before .loop .at in
     let g = c .before .len .given .0 in
-    nextOf (take (length list - at) (drop at list)) ≡ Entry (g .0) (g .1 .0) (g .1 .1 .0) (g .1 .1 .1 .0)
+    nextEntry (take (length list - at) (drop at list)) ≡ Entry (g .0) (g .1 .0) (g .1 .1 .0) (g .1 .1 .1 .0)
 first-is c = sym (c .before .before .before .next-entry .ensures) ∙ c .before .len .given .1
 
 sized : (c : tie.After-known-told Inv-loop μ-loop) →
@@ -45,38 +40,11 @@ sub-at-end c = omega (arith, c .loop .inv .0 .place-max)
 part-at-end-start : tie.Need-part-at-end-start Inv-loop μ-loop
 part-at-end-start c = omega (arith, c .loop .inv .0 .place-max)
 
-part-at-end-end : tie.Need-part-at-end-end Inv-loop μ-loop
-part-at-end-end c = search needs
-
-at-end-requires : tie.Need-at-end-requires Inv-loop μ-loop
-at-end-requires c κs = search needs
-
 sub-next-entry : tie.Need-sub-next-entry Inv-loop μ-loop
 sub-next-entry c = omega (arith, c .before .before .before .loop .inv .0 .place-max)
 
 part-next-entry-start : tie.Need-part-next-entry-start Inv-loop μ-loop
 part-next-entry-start c = omega (arith, c .before .before .before .loop .inv .0 .place-max)
-
-part-next-entry-end : tie.Need-part-next-entry-end Inv-loop μ-loop
-part-next-entry-end c = search needs
-
-next-entry-requires : tie.Need-next-entry-requires Inv-loop μ-loop
-next-entry-requires c κs = search needs
-
-enum-known-len : tie.Need-enum-known-len Inv-loop μ-loop
-enum-known-len c = search needs
-
-enum-told : tie.Need-enum-told Inv-loop μ-loop
-enum-told c = search needs
-
-same-length : tie.Need-same-length Inv-loop μ-loop
-same-length c = search needs
-
-same-length-2 : tie.Need-same-length-2 Inv-loop μ-loop
-same-length-2 c = search needs
-
-same-length-3 : tie.Need-same-length-3 Inv-loop μ-loop
-same-length-3 c = search needs
 
 returns : tie.Need-returns Inv-loop μ-loop
 returns c = fault-ends _ _ _ _ (c .before .before .before .before .before .before .before .loop .inv .0) (sym (c .before .before .next-entry .ensures) ∙ c .enum-told .given .1)
@@ -114,49 +82,13 @@ loop-again c =
       c .before .before .before .before .before .before .run-entry .kept .1 .1 .1 .1 .1 .1 .1 .1 .0 ∙ i .3,
     )
 
-same-length-4 : tie.Need-same-length-4 Inv-loop μ-loop
-same-length-4 c = search needs
-
-same-length-5 : tie.Need-same-length-5 Inv-loop μ-loop
-same-length-5 c = search needs
-
-same-length-6 : tie.Need-same-length-6 Inv-loop μ-loop
-same-length-6 c = search needs
-
 returns-2 : tie.Need-returns-2 Inv-loop μ-loop
 returns-2 c = run-ends _ _ _ _ (c .before .before .before .loop .inv .0) (sym (c .before .at-end .ensures) ∙ not-false _ (c .if1 .left))
 
 pub run-list-spec : {M : Type 1} → statement M
 run-list-spec =
-    tie.close
-    (tie.spec
-    Inv-loop
-    μ-loop
-    loop-holds
-    sub-at-end
-    part-at-end-start
-    part-at-end-end
-    at-end-requires
-    sub-next-entry
-    part-next-entry-start
-    part-next-entry-end
-    next-entry-requires
-    enum-known-len
-    enum-told
-    same-length
-    same-length-2
-    same-length-3
-    returns
-    add-run-entry
-    add-run-entry-2
-    sub-run-entry
-    part-run-entry-start
-    part-run-entry-end
-    run-entry-requires
-    add-at
-    loop-less
-    loop-again
-    same-length-4
-    same-length-5
-    same-length-6
-    returns-2)
+    tie.close (tie.spec Inv-loop μ-loop loop-holds sub-at-end part-at-end-start (λ c. search needs)
+    (λ c κs. search needs) sub-next-entry part-next-entry-start (λ c. search needs) (λ c κs. search needs)
+    (λ c. search needs) (λ c. search needs) (λ c. search needs) (λ c. search needs) (λ c. search needs) returns
+    add-run-entry add-run-entry-2 sub-run-entry part-run-entry-start part-run-entry-end run-entry-requires add-at
+    loop-less loop-again (λ c. search needs) (λ c. search needs) (λ c. search needs) returns-2)

@@ -1,131 +1,72 @@
 use borrow.Author.Needs.{needs}
 use mathlib.Core.Path.{ap, sym, _∙_}
 use mathlib.Core.List.{List}
-use Prim.Native.Nat.{ℕ}
 use Rattle.lights.specs.declared.lamp.Lamp.{Lamp}
-use Rattle.dpa.specs.Served.{Served, layOut}
-use Rattle.dpa.proofs.Serving.{laid-within}
+use Rattle.dpa.specs.Reply.{Reply, replyInBuffer}
+use Rattle.dpa.proofs.Replies.{reply-mapped}
 use Rattle.memory.specs.declared.block.Memory.the-variants.{Eeprom, Ram, External}
 use Rattle.memory.specs.Request.{memoryRequest}
 use Rattle.lights.specs.Lights.{lightsRequest}
 use Rattle.node.proofs.Nodes.{node-settings, node-dimmed, node-ram}
-use Rattle.handler.specs.Request.{State, held, withMemory}
-use Rattle.handler.proofs.Performing.{perform-memory, perform-lights, perform-unknown, laid-as}
+use Rattle.handler.specs.Request.{State, stateFromParts, withMemory}
+use Rattle.handler.proofs.Performing.{perform-memory, perform-lights, perform-unknown, reply-as}
 use Rattle.handler.proofs.peripheral.peripheral.Statement.{statement}
 use Rattle.handler.proofs.peripheral.peripheral.Tie as tie
-use Rattle.handler.proofs.peripheral.peripheral.Reads as reads
-use Rattle.handler.proofs.peripheral.peripheral.Lts as lts
-use Rattle.handler.proofs.peripheral.of_memory.Reads as of-memory-reads
-use Rattle.lights.proofs.request.request.Reads as request-request-reads
-use Rattle.memory.proofs.request.request.Reads as request-request-reads′
 
 -- the state that the function is given
 abbrev given : tie.Start → State
 given c =
-    held (c .args .fixed) (c .args .lamps) (c .args .ram .now) (c .args .eeprom .now) (c .args .external .now)
-
-request-requires : tie.Need-request-requires
-request-requires c κs = search needs
-
-of-memory-requires : tie.Need-of-memory-requires
-of-memory-requires c κs = search needs
-
-same-length : tie.Need-same-length
-same-length c = search needs
-
-same-length-2 : tie.Need-same-length-2
-same-length-2 c = search needs
+    stateFromParts (c .args .fixed) (c .args .lamps) (c .args .ram .now) (c .args .eeprom .now) (c .args .external .now)
 
 returns : tie.Need-returns
 returns c =
     let s = c .before .before .before .before .before .before .before .before .before .before .before .before .before .before in
     let a = s .args in
-    laid-as (c .of-memory .ensures)
-    ∙ laid-within (withMemory Eeprom (given s)) (memoryRequest Eeprom (a .pcmd) (a .pdata .now) (a .eeprom .now)) (a .out .now) (c .before .before .before .before .before .request .ensures)
-    ∙ ap (λ (x : Served State). layOut x (a .out .now)) (sym (perform-memory (a .pnum) (a .pcmd) (a .pdata .now) (given s) Eeprom (c .before .before .before .before .before .before .before .before .if1 .taken)))
-
-request-requires-2 : tie.Need-request-requires-2
-request-requires-2 c κs = search needs
-
-of-memory-requires-2 : tie.Need-of-memory-requires-2
-of-memory-requires-2 c κs = search needs
-
-same-length-3 : tie.Need-same-length-3
-same-length-3 c = search needs
-
-same-length-4 : tie.Need-same-length-4
-same-length-4 c = search needs
+    reply-as (c .memory-reply .ensures)
+    ∙ reply-mapped (withMemory Eeprom (given s)) (memoryRequest Eeprom (a .pcmd) (a .pdata .now) (a .eeprom .now)) (a .out .now) (c .before .before .before .before .before .request .ensures)
+    ∙ ap (λ (x : Reply State). replyInBuffer x (a .out .now)) (sym (perform-memory (a .pnum) (a .pcmd) (a .pdata .now) (given s) Eeprom (c .before .before .before .before .before .before .before .before .if1 .taken)))
 
 returns-2 : tie.Need-returns-2
 returns-2 c =
     let s = c .before .before .before .before .before .before .before .before .before .before .before .before .before .before .before in
     let a = s .args in
-    laid-as (c .of-memory2 .ensures)
-    ∙ laid-within (withMemory External (given s)) (memoryRequest External (a .pcmd) (a .pdata .now) (a .external .now)) (a .out .now) (c .before .before .before .before .before .request2 .ensures)
-    ∙ ap (λ (x : Served State). layOut x (a .out .now)) (sym (perform-memory (a .pnum) (a .pcmd) (a .pdata .now) (given s) External (c .before .before .before .before .before .before .before .before .if2 .taken)))
+    reply-as (c .memory-reply2 .ensures)
+    ∙ reply-mapped (withMemory External (given s)) (memoryRequest External (a .pcmd) (a .pdata .now) (a .external .now)) (a .out .now) (c .before .before .before .before .before .request2 .ensures)
+    ∙ ap (λ (x : Reply State). replyInBuffer x (a .out .now)) (sym (perform-memory (a .pnum) (a .pcmd) (a .pdata .now) (given s) External (c .before .before .before .before .before .before .before .before .if2 .taken)))
 
 request-requires-3 : tie.Need-request-requires-3
 request-requires-3 c κs = let p = c .before .before .before .before .before .before .before .before .before .before .pre in (node-ram _ (p .0 .node-ok), p .1)
-
-of-memory-requires-3 : tie.Need-of-memory-requires-3
-of-memory-requires-3 c κs = search needs
-
-same-length-5 : tie.Need-same-length-5
-same-length-5 c = search needs
-
-same-length-6 : tie.Need-same-length-6
-same-length-6 c = search needs
 
 returns-3 : tie.Need-returns-3
 returns-3 c =
     let s = c .before .before .before .before .before .before .before .before .before .before .before .before .before .before .before .before in
     let a = s .args in
-    laid-as (c .of-memory3 .ensures)
-    ∙ laid-within (withMemory Ram (given s)) (memoryRequest Ram (a .pcmd) (a .pdata .now) (a .ram .now)) (a .out .now) (c .before .before .before .before .before .request3 .ensures)
-    ∙ ap (λ (x : Served State). layOut x (a .out .now)) (sym (perform-memory (a .pnum) (a .pcmd) (a .pdata .now) (given s) Ram (c .before .before .before .before .before .before .before .before .if3 .taken)))
+    reply-as (c .memory-reply3 .ensures)
+    ∙ reply-mapped (withMemory Ram (given s)) (memoryRequest Ram (a .pcmd) (a .pdata .now) (a .ram .now)) (a .out .now) (c .before .before .before .before .before .request3 .ensures)
+    ∙ ap (λ (x : Reply State). replyInBuffer x (a .out .now)) (sym (perform-memory (a .pnum) (a .pcmd) (a .pdata .now) (given s) Ram (c .before .before .before .before .before .before .before .before .if3 .taken)))
 
 request-requires-4 : tie.Need-request-requires-4
 request-requires-4 c κs =
     let p = c .before .before .before .before .before .before .before .before .before .before .pre in
     (node-settings _ (p .0 .node-ok), node-dimmed _ (p .0 .node-ok), p .1)
 
-same-length-7 : tie.Need-same-length-7
-same-length-7 c = search needs
-
 returns-4 : tie.Need-returns-4
 returns-4 c =
     let s = c .before .before .before .before .before .before .before .before .before .before .before .before .before in
     let a = s .args in
-    laid-within (λ (ls : List Lamp). held (a .fixed) ls (a .ram .now) (a .eeprom .now) (a .external .now)) (lightsRequest (a .fixed .settings) (a .pcmd) (a .pdata .now) (a .lamps)) (a .out .now) (c .before .before .request4 .ensures)
-    ∙ ap (λ (x : Served State). layOut x (a .out .now)) (sym (perform-lights (a .pnum) (a .pcmd) (a .pdata .now) (given s) (c .before .before .before .before .if4 .taken)))
+    reply-mapped (λ (ls : List Lamp). stateFromParts (a .fixed) ls (a .ram .now) (a .eeprom .now) (a .external .now)) (lightsRequest (a .fixed .settings) (a .pcmd) (a .pdata .now) (a .lamps)) (a .out .now) (c .before .before .request4 .ensures)
+    ∙ ap (λ (x : Reply State). replyInBuffer x (a .out .now)) (sym (perform-lights (a .pnum) (a .pcmd) (a .pdata .now) (given s) (c .before .before .before .before .if4 .taken)))
 
 returns-5 : tie.Need-returns-5
 returns-5 c =
     let s = c .before .before .before .before .before .before .before .before .before in
     let a = s .args in
-    ap (λ (x : Served State). layOut x (a .out .now))
+    ap (λ (x : Reply State). replyInBuffer x (a .out .now))
     (sym (perform-unknown (a .pnum) (a .pcmd) (a .pdata .now) (given s) (c .before .before .before .if1 .left) (c .before .before .if2 .left) (c .before .if3 .left) (c .if4 .left)))
 
 pub peripheral-spec : {M : Type 1} → statement M
 peripheral-spec =
-    tie.close
-    (tie.spec
-    request-requires
-    of-memory-requires
-    same-length
-    same-length-2
-    returns
-    request-requires-2
-    of-memory-requires-2
-    same-length-3
-    same-length-4
-    returns-2
-    request-requires-3
-    of-memory-requires-3
-    same-length-5
-    same-length-6
-    returns-3
-    request-requires-4
-    same-length-7
-    returns-4
-    returns-5)
+    tie.close (tie.spec (λ c κs. search needs) (λ c κs. search needs) (λ c. search needs) (λ c. search needs) returns
+    (λ c κs. search needs) (λ c κs. search needs) (λ c. search needs) (λ c. search needs) returns-2 request-requires-3
+    (λ c κs. search needs) (λ c. search needs) (λ c. search needs) returns-3 request-requires-4 (λ c. search needs)
+    returns-4 returns-5)

@@ -2,58 +2,30 @@ use borrow.Author.Needs.{needs}
 use mathlib.Core.Path.{sym, _∙_}
 use lib.ListN.{length}
 use Rattle.handler.specs.Request.{state}
-use Rattle.handler.proofs.Taking.{call-refused, call-taken, refusal-none, taken-rule, called-as}
+use Rattle.handler.proofs.Handling.{call-refused, call-accepted, refusal-none, accepted-rule, call-result-as}
 use Rattle.handler.proofs.request.handle_request.Statement.{statement}
 use Rattle.handler.proofs.request.handle_request.Tie as tie
-use Rattle.handler.proofs.request.handle_request.Reads as reads
-use Rattle.handler.proofs.request.handle_request.Lts as lts
-use Rattle.handler.proofs.request.request_refusal.Reads as request-refusal-reads
-use Rattle.handler.proofs.request.take_frame.Reads as take-frame-reads
-use Rattle.handler.proofs.answer.unanswered.Reads as unanswered-reads
-
-request-refusal-requires : tie.Need-request-refusal-requires
-request-refusal-requires c κs = search needs
-
-unanswered-requires : tie.Need-unanswered-requires
-unanswered-requires c κs = search needs
 
 returns : tie.Need-returns
 returns c =
     let a = c .before .before .before .before .before .before .before .args in
-    called-as (c .unanswered .ensures)
+    call-result-as (c .answer-unhandled .ensures)
     ∙ call-refused (a .frame .now) (state (a .node) (a .eeprom .now) (a .external .now)) (a .response .now) (c .before .before .request-refusal .ensures) (c .before .if1 .taken)
 
-take-frame-requires : tie.Need-take-frame-requires
-take-frame-requires c κs =
+handle-frame-requires : tie.Need-handle-frame-requires
+handle-frame-requires c κs =
     let a = c .before .before .before .before .before .before .before .before .before .args in
     let z = sym (c .before .before .before .before .request-refusal .ensures) ∙ c .before .before .before .if1 .left in
     let k = refusal-none (a .node) (length (a .frame .now)) (length (a .eeprom .now)) (length (a .external .now)) (length (a .response .now)) z in
-    (taken-rule (a .node) (a .eeprom .now) (a .external .now) (length (a .frame .now)) (length (a .response .now)) z, k .1, k .2)
-
-same-length : tie.Need-same-length
-same-length c = search needs
-
-same-length-2 : tie.Need-same-length-2
-same-length-2 c = search needs
-
-same-length-3 : tie.Need-same-length-3
-same-length-3 c = search needs
+    (accepted-rule (a .node) (a .eeprom .now) (a .external .now) (length (a .frame .now)) (length (a .response .now)) z, k .1, k .2)
 
 returns-2 : tie.Need-returns-2
 returns-2 c =
     let a = c .before .before .before .before .before .before .before .before .before .before .before .before .before .before .before .before .args in
-    c .before .before .before .before .before .before .take-frame .ensures
-    ∙ sym (call-taken (a .frame .now) (state (a .node) (a .eeprom .now) (a .external .now)) (a .response .now) (sym (c .before .before .before .before .before .before .before .before .before .before .before .request-refusal .ensures) ∙ c .before .before .before .before .before .before .before .before .before .before .if1 .left))
+    c .before .before .before .before .before .before .handle-frame .ensures
+    ∙ sym (call-accepted (a .frame .now) (state (a .node) (a .eeprom .now) (a .external .now)) (a .response .now) (sym (c .before .before .before .before .before .before .before .before .before .before .before .request-refusal .ensures) ∙ c .before .before .before .before .before .before .before .before .before .before .if1 .left))
 
 pub handle-request-spec : {M : Type 1} → statement M
 handle-request-spec =
-    tie.close
-    (tie.spec
-    request-refusal-requires
-    unanswered-requires
-    returns
-    take-frame-requires
-    same-length
-    same-length-2
-    same-length-3
-    returns-2)
+    tie.close (tie.spec (λ c κs. search needs) (λ c κs. search needs) returns handle-frame-requires (λ c. search needs)
+    (λ c. search needs) (λ c. search needs) returns-2)

@@ -8,21 +8,10 @@ use Rattle.node.specs.Node.{nodeOk}
 use Rattle.handler.specs.Request.{requestRefusal}
 use Rattle.handler.proofs.request.request_refusal.Statement.{statement}
 use Rattle.handler.proofs.request.request_refusal.Tie as tie
-use Rattle.handler.proofs.request.request_refusal.Reads as reads
-use Rattle.handler.proofs.request.request_refusal.Lts as lts
-use Rattle.dpa.proofs.frame.Frame.fits.Reads as fits-reads
-use Rattle.memory.proofs.block.size_of.Reads as size-of-reads
-use Rattle.node.proofs.record.node_ok.Reads as node-ok-reads
-
-node-ok-requires : tie.Need-node-ok-requires
-node-ok-requires c κs = search needs
 
 returns : tie.Need-returns
 unfolding requestRefusal
 returns c = simp (sym (c .before .node-ok .ensures) ∙ not-true _ (c .if1 .taken))
-
-fits-requires : tie.Need-fits-requires
-fits-requires c κs = search needs
 
 returns-2 : tie.Need-returns-2
 unfolding requestRefusal
@@ -38,17 +27,11 @@ past : (c : tie.Else3) →
     (nodeOk (a .node) ≡ true) × (frameFits (a .frame) ≡ true) × (ltb (a .response) longestResponse ≡ false)
 past c = (sym (c .before .before .before .before .node-ok .ensures) ∙ not-false _ (c .before .before .before .if1 .left), sym (c .before .before .fits2 .ensures) ∙ not-false _ (c .before .if2 .left), le-ltb _ _ (c .if3 .left))
 
-size-of-requires : tie.Need-size-of-requires
-size-of-requires c κs = search needs
-
 returns-4 : tie.Need-returns-4
 unfolding requestRefusal
 returns-4 c =
     let k = past (c .before .before) in
     simp (k .0, k .1, k .2, ne-eqb _ _ (λ q. c .if4 .taken (q ∙ sym (c .before .size-of .ensures .0))))
-
-size-of-requires-2 : tie.Need-size-of-requires-2
-size-of-requires-2 c κs = search needs
 
 returns-5 : tie.Need-returns-5
 unfolding requestRefusal
@@ -64,15 +47,5 @@ returns-6 c =
 
 pub request-refusal-spec : {M : Type 1} → statement M
 request-refusal-spec =
-    tie.close
-    (tie.spec
-    node-ok-requires
-    returns
-    fits-requires
-    returns-2
-    returns-3
-    size-of-requires
-    returns-4
-    size-of-requires-2
-    returns-5
-    returns-6)
+    tie.close (tie.spec (λ c κs. search needs) returns (λ c κs. search needs) returns-2 returns-3 (λ c κs. search needs)
+    returns-4 (λ c κs. search needs) returns-5 returns-6)

@@ -17,9 +17,6 @@ Inv-loop settings command mask pdata out₀ n after₀ m₀ at₀ k₀ i₀ out 
 abbrev μ-loop : tie.MeasureT-loop
 μ-loop settings command mask pdata out₀ n after₀ m₀ at₀ k₀ i₀ out after m at k i = m
 
-wide-requires : tie.Need-wide-requires Inv-loop μ-loop
-wide-requires c κs = search needs
-
 lamps-length : (c : tie.Start Inv-loop μ-loop) → length (c .args .lamps) ≡ 32
 lamps-length c = search needs
 
@@ -56,9 +53,6 @@ actual-level-requires c κs =
 slice-write-out : tie.Need-slice-write-out Inv-loop μ-loop
 slice-write-out c = free (c .before .before .before .before .before)
 
-lamp-after-requires : tie.Need-lamp-after-requires Inv-loop μ-loop
-lamp-after-requires c κs = search needs
-
 mul-after : tie.Need-mul-after Inv-loop μ-loop
 mul-after c = omega (arith, inside (c .before .before .before .before .before .before))
 
@@ -80,9 +74,6 @@ add-k c =
 
 add-i : tie.Need-add-i Inv-loop μ-loop
 add-i c = omega (arith, inside (c .before))
-
-loop-less : tie.Need-loop-less Inv-loop μ-loop
-loop-less c = search needs
 
 loop-again : tie.Need-loop-again Inv-loop μ-loop
 loop-again c =
@@ -110,25 +101,6 @@ returns c =
 
 pub apply-spec : {M : Type 1} → statement M
 apply-spec =
-    tie.close
-    (tie.spec
-    Inv-loop
-    μ-loop
-    wide-requires
-    loop-holds
-    change-at-requires
-    mul-lamp
-    array-copy-out-lamp
-    actual-level-requires
-    slice-write-out
-    lamp-after-requires
-    mul-after
-    array-set-from-after
-    slice-write-out-2
-    add-at
-    add-k
-    add-i
-    loop-less
-    loop-again
-    same-length
-    returns)
+    tie.close (tie.spec Inv-loop μ-loop (λ c κs. search needs) loop-holds change-at-requires mul-lamp
+    array-copy-out-lamp actual-level-requires slice-write-out (λ c κs. search needs) mul-after array-set-from-after
+    slice-write-out-2 add-at add-k add-i (λ c. search needs) loop-again same-length returns)

@@ -10,9 +10,6 @@ returns : tie.Need-returns
 unfolding lampAfter
 returns c = simp (eq-eqb _ _ (c .if1 .taken))
 
-new-level-requires : tie.Need-new-level-requires
-new-level-requires c κs = search needs
-
 returns-2 : tie.Need-returns-2
 unfolding lampAfter
 returns-2 c = simp (ne-eqb _ _ (c .before .before .if1 .left), sym (c .before .new-level .ensures), eq-eqb _ _ (c .if2 .taken))
@@ -22,4 +19,4 @@ unfolding lampAfter
 returns-3 c = simp (ne-eqb _ _ (c .before .before .if1 .left), sym (c .before .new-level .ensures), ne-eqb _ _ (c .if2 .left))
 
 pub lamp-after-spec : {M : Type 1} → statement M
-lamp-after-spec = tie.close (tie.spec returns new-level-requires returns-2 returns-3)
+lamp-after-spec = tie.close (tie.spec returns (λ c κs. search needs) returns-2 returns-3)

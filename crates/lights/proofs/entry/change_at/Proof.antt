@@ -26,9 +26,6 @@ shared-slice-read-time c =
     let s = c .before .before .before .before in
     valid-next (now (s .args .src)) (s .args .at) (s .pre) (c .before .if1 .left)
 
-seconds-of-requires : tie.Need-seconds-of-requires
-seconds-of-requires c κs = search needs
-
 returns-2 : tie.Need-returns-2
 returns-2 c =
     let s = c .before .before .before .before .before in
@@ -37,4 +34,4 @@ returns-2 c =
 
 pub change-at-spec : {M : Type 1} → statement M
 change-at-spec =
-    tie.close (tie.spec shared-slice-read-byte returns add-next shared-slice-read-time seconds-of-requires returns-2)
+    tie.close (tie.spec shared-slice-read-byte returns add-next shared-slice-read-time (λ c κs. search needs) returns-2)

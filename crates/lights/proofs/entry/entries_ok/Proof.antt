@@ -6,7 +6,7 @@ use Prim.Native.Nat.{_≤_, _-_}
 use lib.ListN.{length, drop}
 use denote.Ref.{now}
 use Rattle.lights.specs.Lights.{entries, isGood, firstEntry}
-use Rattle.lights.specs.declared.entry.Entry.the-variants.{Valid, Invalid}
+use Rattle.lights.specs.declared.entry.PowerEntry.the-variants.{Valid, Invalid}
 use Rattle.lights.proofs.Entries.{first-room, good-more, good-stop, good-end}
 use Rattle.lights.proofs.entry.entries_ok.Statement.{statement}
 use Rattle.lights.proofs.entry.entries_ok.Tie as tie
@@ -21,15 +21,6 @@ loop-holds : tie.Need-loop-holds Inv-loop μ-loop
 loop-holds c =
     let z : c .before .args .n - 0 ≡ c .before .args .n = omega arith in
     (omega arith, omega arith, rw z)
-
-entry-at-requires : tie.Need-entry-at-requires Inv-loop μ-loop
-entry-at-requires c κs = search needs
-
-enum-known-change : tie.Need-enum-known-change Inv-loop μ-loop
-enum-known-change c = search needs
-
-enum-told : tie.Need-enum-told Inv-loop μ-loop
-enum-told c = search needs
 
 returns : tie.Need-returns Inv-loop μ-loop
 returns c =
@@ -53,12 +44,6 @@ room c =
 add-at : tie.Need-add-at Inv-loop μ-loop
 add-at c = omega (arith, room c)
 
-add-k : tie.Need-add-k Inv-loop μ-loop
-add-k c = search needs
-
-loop-less : tie.Need-loop-less Inv-loop μ-loop
-loop-less c = search needs
-
 loop-again : tie.Need-loop-again Inv-loop μ-loop
 loop-again c =
     let l = c .before .before .before .before .before .loop in
@@ -73,17 +58,5 @@ returns-2 c =
 
 pub entries-ok-spec : {M : Type 1} → statement M
 entries-ok-spec =
-    tie.close
-    (tie.spec
-    Inv-loop
-    μ-loop
-    loop-holds
-    entry-at-requires
-    enum-known-change
-    enum-told
-    returns
-    add-at
-    add-k
-    loop-less
-    loop-again
-    returns-2)
+    tie.close (tie.spec Inv-loop μ-loop loop-holds (λ c κs. search needs) (λ c. search needs) (λ c. search needs)
+    returns add-at (λ c. search needs) (λ c. search needs) loop-again returns-2)

@@ -17,12 +17,6 @@ returns c =
     let a = c .before .before .args in
     entry-none (now (a .src)) (a .at) (omega arith)
 
-shared-slice-read-byte : tie.Need-shared-slice-read-byte
-shared-slice-read-byte c = search needs
-
-power-ok-requires : tie.Need-power-ok-requires
-power-ok-requires c κs = search needs
-
 returns-2 : tie.Need-returns-2
 returns-2 c =
     let a = c .before .before .before .before .before .args in
@@ -37,27 +31,15 @@ returns-3 c =
     let a = c .before .before .before .before .before .before .args in
     entry-plain (now (a .src)) (a .at) (omega arith) (power (c .before)) (c .if3 .taken)
 
-add-next : tie.Need-add-next
-add-next c = search needs
-
 returns-4 : tie.Need-returns-4
 returns-4 c =
     let a = c .before .before .before .before .before .before .before .args in
     entry-cut (now (a .src)) (a .at) (omega arith) (power (c .before .before)) (c .before .if3 .left) (omega arith)
 
-shared-slice-read-time : tie.Need-shared-slice-read-time
-shared-slice-read-time c = search needs
-
-time-ok-requires : tie.Need-time-ok-requires
-time-ok-requires c κs = search needs
-
 returns-5 : tie.Need-returns-5
 returns-5 c =
     let a = c .before .before .before .before .before .before .before .before .before .before .args in
     entry-timed (now (a .src)) (a .at) (omega arith) (power (c .before .before .before .before .before)) (c .before .before .before .before .if3 .left) (omega arith) false (sym (c .before .time-ok .ensures) ∙ not-true _ (c .if5 .taken))
-
-seconds-of-requires : tie.Need-seconds-of-requires
-seconds-of-requires c κs = search needs
 
 returns-6 : tie.Need-returns-6
 returns-6 c =
@@ -67,17 +49,5 @@ returns-6 c =
 
 pub entry-at-spec : {M : Type 1} → statement M
 entry-at-spec =
-    tie.close
-    (tie.spec
-    returns
-    shared-slice-read-byte
-    power-ok-requires
-    returns-2
-    returns-3
-    add-next
-    returns-4
-    shared-slice-read-time
-    time-ok-requires
-    returns-5
-    seconds-of-requires
-    returns-6)
+    tie.close (tie.spec returns (λ c. search needs) (λ c κs. search needs) returns-2 returns-3 (λ c. search needs)
+    returns-4 (λ c. search needs) (λ c κs. search needs) returns-5 (λ c κs. search needs) returns-6)

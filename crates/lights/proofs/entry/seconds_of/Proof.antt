@@ -5,19 +5,13 @@ use borrow.Author.Needs.{needs}
 use Rattle.lights.proofs.entry.seconds_of.Statement.{statement}
 use Rattle.lights.proofs.entry.seconds_of.Tie as tie
 
-mul-result : tie.Need-mul-result
-mul-result c = search needs
-
 returns : tie.Need-returns
 unfolding secondsOf
 returns c = simp (lt-ltb _ _ (c .if1 .taken))
-
-cast-result : tie.Need-cast-result
-cast-result c = search needs
 
 returns-2 : tie.Need-returns-2
 unfolding secondsOf
 returns-2 c = simp (le-ltb _ _ (c .if1 .left))
 
 pub seconds-of-spec : {M : Type 1} → statement M
-seconds-of-spec = tie.close (tie.spec mul-result returns cast-result returns-2)
+seconds-of-spec = tie.close (tie.spec (λ c. search needs) returns (λ c. search needs) returns-2)

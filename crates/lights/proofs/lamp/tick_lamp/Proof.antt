@@ -9,9 +9,6 @@ returns : tie.Need-returns
 unfolding tickLamp
 returns c = simp (eq-eqb _ _ (c .if1 .taken))
 
-sub-next : tie.Need-sub-next
-sub-next c = search needs
-
 returns-2 : tie.Need-returns-2
 unfolding tickLamp
 returns-2 c = simp (ne-eqb _ _ (c .before .before .before .if1 .left), eq-eqb _ _ (c .if2 .taken))
@@ -21,4 +18,4 @@ unfolding tickLamp
 returns-3 c = simp (ne-eqb _ _ (c .before .before .before .if1 .left), ne-eqb _ _ (c .if2 .left))
 
 pub tick-lamp-spec : {M : Type 1} → statement M
-tick-lamp-spec = tie.close (tie.spec returns sub-next returns-2 returns-3)
+tick-lamp-spec = tie.close (tie.spec returns (λ c. search needs) returns-2 returns-3)

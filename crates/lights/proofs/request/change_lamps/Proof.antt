@@ -9,30 +9,15 @@ use denote.Ref.{now}
 use Rattle.dpa.specs.Lists.{Bytes}
 use Rattle.lights.specs.Bits.{bits, count}
 use Rattle.lights.specs.Lights.{entries, isGood}
-use Rattle.lights.proofs.Answers.{laid-refused, change-short, change-bad, change-good}
+use Rattle.lights.proofs.Answers.{reply-refused, change-short, change-bad, change-good}
 use borrow.Author.Needs.{needs}
 use Rattle.lights.proofs.request.change_lamps.Statement.{statement}
 use Rattle.lights.proofs.request.change_lamps.Tie as tie
 
-refuse-requires : tie.Need-refuse-requires
-refuse-requires c κs = search needs
-
 returns : tie.Need-returns
 returns c =
     let a = c .before .before .before .before .args in
-    laid-refused _ _ 6 (a .lamps) (now (a .out)) (c .refuse .ensures) (change-short (a .settings) (a .command) (now (a .pdata)) (a .lamps) (c .before .if1 .taken))
-
-mask-of-requires : tie.Need-mask-of-requires
-mask-of-requires c κs = search needs
-
-selected-requires : tie.Need-selected-requires
-selected-requires c κs = search needs
-
-entries-ok-requires : tie.Need-entries-ok-requires
-entries-ok-requires c κs = search needs
-
-refuse-requires-2 : tie.Need-refuse-requires-2
-refuse-requires-2 c κs = search needs
+    reply-refused _ _ 6 (a .lamps) (now (a .out)) (c .refuse .ensures) (change-short (a .settings) (a .command) (now (a .pdata)) (a .lamps) (c .before .if1 .taken))
 
 small : (c : tie.After-entries-ok) → Bytes (now (c .before .before .before .before .before .before .args .pdata))
 small c i = c .before .before .before .before .before .shared-slice-known .given i .fits
@@ -41,7 +26,7 @@ returns-2 : tie.Need-returns-2
 returns-2 c =
     let r = c .before .before in
     let a = r .before .before .before .before .before .before .args in
-    laid-refused _ _ 6 (a .lamps) (now (a .out)) (c .refuse2 .ensures)
+    reply-refused _ _ 6 (a .lamps) (now (a .out)) (c .refuse2 .ensures)
     (change-bad (a .settings) (a .command) (now (a .pdata)) (a .lamps) (r .before .before .mask-of .result) (r .before .selected .result)
     (omega arith) (small r) (r .before .before .mask-of .ensures) (r .before .selected .ensures .0)
     (sym (r .entries-ok .ensures) ∙ not-true _ (c .before .if2 .taken)))
@@ -55,9 +40,6 @@ apply-requires c κs =
     ∙ sym (r .entries-ok .ensures) ∙ not-false _ (c .before .if2 .left) in
     (s .pre .0, s .pre .1, s .pre .2, omega arith, g)
 
-same-length : tie.Need-same-length
-same-length c = search needs
-
 returns-3 : tie.Need-returns-3
 returns-3 c =
     let w = c .before .before in
@@ -69,15 +51,5 @@ returns-3 c =
 
 pub change-lamps-spec : {M : Type 1} → statement M
 change-lamps-spec =
-    tie.close
-    (tie.spec
-    refuse-requires
-    returns
-    mask-of-requires
-    selected-requires
-    entries-ok-requires
-    refuse-requires-2
-    returns-2
-    apply-requires
-    same-length
-    returns-3)
+    tie.close (tie.spec (λ c κs. search needs) returns (λ c κs. search needs) (λ c κs. search needs)
+    (λ c κs. search needs) (λ c κs. search needs) returns-2 apply-requires (λ c. search needs) returns-3)

@@ -1,7 +1,7 @@
 -- `request::enumerate` meets its contract, by the definition's test.
 use denote.Ref.{now}
 use lib.ListN.{length}
-use Rattle.lights.proofs.Answers.{laid-refused, enumerate-bad}
+use Rattle.lights.proofs.Answers.{reply-refused, enumerate-bad}
 use borrow.Author.Tests.{eq-eqb}
 use native.Mathlib.Omega.{arith}
 use Rattle.lights.specs.Lights.{enumerateLamps}
@@ -10,19 +10,10 @@ use borrow.Author.Needs.{needs}
 use Rattle.lights.proofs.request.enumerate.Statement.{statement}
 use Rattle.lights.proofs.request.enumerate.Tie as tie
 
-refuse-requires : tie.Need-refuse-requires
-refuse-requires c κs = search needs
-
 returns : tie.Need-returns
 returns c =
     let a = c .before .before .before .before .args in
-    laid-refused _ _ 5 (a .lamps) (now (a .out)) (c .refuse .ensures) (enumerate-bad (a .settings) (now (a .pdata)) (a .lamps) (c .before .if1 .taken))
-
-slice-write-out : tie.Need-slice-write-out
-slice-write-out c = search needs
-
-same-length : tie.Need-same-length
-same-length c = search needs
+    reply-refused _ _ 5 (a .lamps) (now (a .out)) (c .refuse .ensures) (enumerate-bad (a .settings) (now (a .pdata)) (a .lamps) (c .before .if1 .taken))
 
 returns-2 : tie.Need-returns-2
 unfolding enumerateLamps
@@ -31,4 +22,4 @@ returns-2 c =
     rw (eq-eqb (length (now (a .pdata))) 0 (c .if1 .left), set-first (now (a .out)) (a .settings .«lamp_count») (omega arith))
 
 pub enumerate-spec : {M : Type 1} → statement M
-enumerate-spec = tie.close (tie.spec refuse-requires returns slice-write-out same-length returns-2)
+enumerate-spec = tie.close (tie.spec (λ c κs. search needs) returns (λ c. search needs) (λ c. search needs) returns-2)

@@ -1,38 +1,20 @@
 -- `request::request` meets its contract, by the PCMD.
 use denote.Ref.{now}
 use Rattle.lights.specs.Lights.{lightsRequest}
-use Rattle.lights.proofs.Answers.{laid-refused, known-command, unknown-command}
+use Rattle.lights.proofs.Answers.{reply-refused, known-command, unknown-command}
 use borrow.Author.Needs.{needs}
 use Rattle.lights.proofs.request.request.Statement.{statement}
 use Rattle.lights.proofs.request.request.Tie as tie
-
-enumerate-requires : tie.Need-enumerate-requires
-enumerate-requires c κs = search needs
-
-same-length : tie.Need-same-length
-same-length c = search needs
 
 returns : tie.Need-returns
 unfolding lightsRequest
 returns c = rw (c .before .before .before .before .if1 .taken) (c .before .before .enumerate .ensures)
 
-refuse-requires : tie.Need-refuse-requires
-refuse-requires c κs = search needs
-
 returns-2 : tie.Need-returns-2
 returns-2 c =
     let a = c .before .before .before .before .before .args in
-    laid-refused _ _ 2 (a .lamps) (now (a .out)) (c .refuse .ensures)
+    reply-refused _ _ 2 (a .lamps) (now (a .out)) (c .refuse .ensures)
     (unknown-command (a .settings) (a .pcmd) (now (a .pdata)) (a .lamps) (c .before .if2 .taken) (c .before .before .if1 .left))
-
-command-of-requires : tie.Need-command-of-requires
-command-of-requires c κs = search needs
-
-change-lamps-requires : tie.Need-change-lamps-requires
-change-lamps-requires c κs = search needs
-
-same-length-2 : tie.Need-same-length-2
-same-length-2 c = search needs
 
 returns-3 : tie.Need-returns-3
 returns-3 c =
@@ -43,14 +25,5 @@ returns-3 c =
 
 pub request-spec : {M : Type 1} → statement M
 request-spec =
-    tie.close
-    (tie.spec
-    enumerate-requires
-    same-length
-    returns
-    refuse-requires
-    returns-2
-    command-of-requires
-    change-lamps-requires
-    same-length-2
-    returns-3)
+    tie.close (tie.spec (λ c κs. search needs) (λ c. search needs) returns (λ c κs. search needs) returns-2
+    (λ c κs. search needs) (λ c κs. search needs) (λ c. search needs) returns-3)

@@ -4,16 +4,6 @@ use Rattle.memory.specs.Block.{blockFault}
 use borrow.Author.Needs.{needs}
 use Rattle.memory.proofs.block.block_fault.Statement.{statement}
 use Rattle.memory.proofs.block.block_fault.Tie as tie
-use Rattle.memory.proofs.block.block_fault.Reads as reads
-use Rattle.memory.proofs.block.block_fault.Lts as lts
-use Rattle.memory.proofs.block.longest_of.Reads as longest-of-reads
-use Rattle.memory.proofs.block.size_of.Reads as size-of-reads
-
-size-of-requires : tie.Need-size-of-requires
-size-of-requires c κs = search needs
-
-longest-of-requires : tie.Need-longest-of-requires
-longest-of-requires c κs = search needs
 
 returns : tie.Need-returns
 unfolding blockFault
@@ -22,9 +12,6 @@ returns c = simp (← c .before .longest-of .ensures .0, lt-ltb _ _ (c .if1 .tak
 returns-2 : tie.Need-returns-2
 unfolding blockFault
 returns-2 c = simp (← c .before .before .longest-of .ensures .0, ← c .before .before .before .size-of .ensures .0, le-ltb _ _ (c .before .if1 .left), le-leb _ _ (c .if2 .taken))
-
-add-if3 : tie.Need-add-if3
-add-if3 c = omega arith
 
 returns-3 : tie.Need-returns-3
 unfolding blockFault
@@ -36,5 +23,5 @@ returns-4 c = simp (← c .before .before .before .longest-of .ensures .0, ← c
 
 pub block-fault-spec : {M : Type 1} → statement M
 block-fault-spec =
-    tie.close
-    (tie.spec size-of-requires longest-of-requires returns returns-2 add-if3 returns-3 returns-4)
+    tie.close (tie.spec (λ c κs. search needs) (λ c κs. search needs) returns returns-2 (λ c. omega arith) returns-3
+    returns-4)

@@ -5,28 +5,15 @@ use Rattle.memory.proofs.Requests.{read-fits, read-place, read-refused,
 use borrow.Author.Needs.{needs}
 use Rattle.memory.proofs.request.read.Statement.{statement}
 use Rattle.memory.proofs.request.read.Tie as tie
-use Rattle.memory.proofs.request.read.Reads as reads
-use Rattle.memory.proofs.request.read.Lts as lts
-use Rattle.dpa.proofs.number.wide.Reads as wide-reads
-use Rattle.memory.proofs.block.address_bytes.Reads as address-bytes-reads
-use Rattle.memory.proofs.block.copy_out.Reads as copy-out-reads
-use Rattle.memory.proofs.request.address.Reads as address-reads
-use Rattle.memory.proofs.request.read_error.Reads as read-error-reads
 
 -- past the test there is no error
 zero : (c : tie.Else1) → let a = c .before .before .before .before .before .args in readError (a .memory) (a .pdata .now) ≡ 0
 zero c = sym (c .before .read-error .ensures) ∙ c .if1 .left
 
-read-error-requires : tie.Need-read-error-requires
-read-error-requires c κs = search needs
-
 returns : tie.Need-returns
 returns c =
     let a = c .before .before .before .before .before .args in
     read-refused (a .memory) (a .pdata .now) (a .mem .now) (a .out .now) _ (c .before .read-error .ensures) (c .if1 .taken)
-
-address-bytes-requires : tie.Need-address-bytes-requires
-address-bytes-requires c κs = search needs
 
 address-requires : tie.Need-address-requires
 address-requires c κs = omega (arith, read-fits _ _ (zero (c .before)) .0)
@@ -34,17 +21,11 @@ address-requires c κs = omega (arith, read-fits _ _ (zero (c .before)) .0)
 shared-slice-read-wide : tie.Need-shared-slice-read-wide
 shared-slice-read-wide c = omega (arith, read-fits _ _ (zero (c .before .before .before)) .0, c .before .before .address-bytes .ensures .0)
 
-wide-requires : tie.Need-wide-requires
-wide-requires c κs = search needs
-
 copy-out-requires : tie.Need-copy-out-requires
 copy-out-requires c κs =
     let a = c .before .before .before .before .before .before .before .before .before .before .args in
     let k = read-place (a .memory) (a .pdata .now) (a .mem .now) _ _ _ (c .before .before .before .before .before .before .before .before .before .before .pre .0) (zero (c .before .before .before .before .before)) (c .before .before .before .before .address-bytes .ensures .0) (c .before .before .before .address .ensures) (c .before .wide .ensures .0) in
     (k .0, omega (arith, k .1))
-
-same-length : tie.Need-same-length
-same-length c = search needs
 
 returns-2 : tie.Need-returns-2
 returns-2 c =
@@ -54,14 +35,5 @@ returns-2 c =
 
 pub read-spec : {M : Type 1} → statement M
 read-spec =
-    tie.close
-    (tie.spec
-    read-error-requires
-    returns
-    address-bytes-requires
-    address-requires
-    shared-slice-read-wide
-    wide-requires
-    copy-out-requires
-    same-length
-    returns-2)
+    tie.close (tie.spec (λ c κs. search needs) returns (λ c κs. search needs) address-requires shared-slice-read-wide
+    (λ c κs. search needs) copy-out-requires (λ c. search needs) returns-2)

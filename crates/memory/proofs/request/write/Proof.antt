@@ -6,27 +6,15 @@ use Rattle.memory.proofs.Requests.{write-fits, write-place, write-refus
 use borrow.Author.Needs.{needs}
 use Rattle.memory.proofs.request.write.Statement.{statement}
 use Rattle.memory.proofs.request.write.Tie as tie
-use Rattle.memory.proofs.request.write.Reads as reads
-use Rattle.memory.proofs.request.write.Lts as lts
-use Rattle.memory.proofs.block.address_bytes.Reads as address-bytes-reads
-use Rattle.memory.proofs.block.copy_in.Reads as copy-in-reads
-use Rattle.memory.proofs.request.address.Reads as address-reads
-use Rattle.memory.proofs.request.write_error.Reads as write-error-reads
 
 -- past the test there is no error
 zero : (c : tie.Else1) → let a = c .before .before .before .before .args in writeError (a .memory) (a .pdata .now) ≡ 0
 zero c = sym (c .before .write-error .ensures) ∙ c .if1 .left
 
-write-error-requires : tie.Need-write-error-requires
-write-error-requires c κs = search needs
-
 returns : tie.Need-returns
 returns c =
     let a = c .before .before .before .before .args in
     λ o. write-refused (a .memory) (a .pdata .now) (a .mem .now) o _ (c .before .write-error .ensures) (c .if1 .taken)
-
-address-bytes-requires : tie.Need-address-bytes-requires
-address-bytes-requires c κs = search needs
 
 address-requires : tie.Need-address-requires
 address-requires c κs = omega (arith, write-fits _ _ (zero (c .before)) .0)
@@ -37,17 +25,11 @@ sub-copy-in c = omega (arith, write-fits _ _ (zero (c .before .before .before)) 
 part-copy-in-start : tie.Need-part-copy-in-start
 part-copy-in-start c = omega (arith, write-fits _ _ (zero (c .before .before .before)) .0, c .before .before .address-bytes .ensures .0)
 
-part-copy-in-end : tie.Need-part-copy-in-end
-part-copy-in-end c = search needs
-
 copy-in-requires : tie.Need-copy-in-requires
 copy-in-requires c κs =
     let a = c .before .before .before .before .before .before .before .before .args in
     let k = write-place (a .memory) (a .pdata .now) (a .mem .now) _ _ (zero (c .before .before .before .before)) (c .before .before .before .address-bytes .ensures .0) (c .before .before .address .ensures) (c .before .before .before .before .before .before .before .before .pre) in
     simp (length-take, length-drop) (omega (arith, k))
-
-same-length : tie.Need-same-length
-same-length c = search needs
 
 returns-2 : tie.Need-returns-2
 returns-2 c =
@@ -56,15 +38,5 @@ returns-2 c =
 
 pub write-spec : {M : Type 1} → statement M
 write-spec =
-    tie.close
-    (tie.spec
-    write-error-requires
-    returns
-    address-bytes-requires
-    address-requires
-    sub-copy-in
-    part-copy-in-start
-    part-copy-in-end
-    copy-in-requires
-    same-length
-    returns-2)
+    tie.close (tie.spec (λ c κs. search needs) returns (λ c κs. search needs) address-requires sub-copy-in
+    part-copy-in-start (λ c. search needs) copy-in-requires (λ c. search needs) returns-2)

@@ -2,8 +2,6 @@ use borrow.Author.Tests.{eq-eqb, ne-eqb}
 use Rattle.memory.specs.View.{namesMemory}
 use Rattle.memory.proofs.view.names_memory.Statement.{statement}
 use Rattle.memory.proofs.view.names_memory.Tie as tie
-use Rattle.memory.proofs.view.names_memory.Reads as reads
-use Rattle.memory.proofs.view.names_memory.Lts as lts
 
 returns : tie.Need-returns
 unfolding namesMemory

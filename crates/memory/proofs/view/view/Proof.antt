@@ -6,9 +6,6 @@ use Rattle.memory.proofs.Views.{Viewed, viewed, view-refused, view-eepr
 use borrow.Author.Needs.{needs}
 use Rattle.memory.proofs.view.view.Statement.{statement}
 use Rattle.memory.proofs.view.view.Tie as tie
-use Rattle.memory.proofs.view.view.Reads as reads
-use Rattle.memory.proofs.view.view.Lts as lts
-use Rattle.memory.proofs.view.view_status.Reads as view-status-reads
 
 -- the first test finds the refused views, and past it the view is not
 refused : (c : tie.Then1) → let a = c .before .before .before .before .args in viewStatus (a .eeprom .now) (a .external .now) (a .pnum) (a .start) (a .count) ≡ 0 → ⊥
@@ -20,29 +17,11 @@ zero c = sym (c .before .view-status .ensures) ∙ c .if1 .left
 known : (c : tie.Else1) → let a = c .before .before .before .before .args in Viewed (a .eeprom .now) (a .external .now) (a .pnum) (a .start) (a .count)
 known c = viewed _ _ _ _ _ (zero c)
 
-view-status-requires : tie.Need-view-status-requires
-view-status-requires c κs = search needs
-
-sub-result : tie.Need-sub-result
-sub-result c = search needs
-
-part-result-start : tie.Need-part-result-start
-part-result-start c = search needs
-
-part-result-end : tie.Need-part-result-end
-part-result-end c = search needs
-
 returns : tie.Need-returns
 returns c = (sym (view-refused _ _ _ _ _ (refused (c .before))), sym (place-refused _ _ _ _ _ (refused (c .before))))
 
 add-end : tie.Need-add-end
 add-end c = omega (arith, known c .fits)
-
-sub-result-2 : tie.Need-sub-result-2
-sub-result-2 c = search needs
-
-part-result-start-2 : tie.Need-part-result-start-2
-part-result-start-2 c = search needs
 
 part-result-end-2 : tie.Need-part-result-end-2
 part-result-end-2 c = known (c .before) .eeprom (c .if2 .taken)
@@ -54,9 +33,6 @@ returns-2 c =
 
 sub-result-3 : tie.Need-sub-result-3
 sub-result-3 c = search needs
-
-part-result-start-3 : tie.Need-part-result-start-3
-part-result-start-3 c = search needs
 
 part-result-end-3 : tie.Need-part-result-end-3
 part-result-end-3 c = known (c .before) .external (c .if2 .left)
@@ -70,17 +46,17 @@ pub view-spec : {M : Type 1} → statement M
 view-spec =
     tie.close
     (tie.spec
-    view-status-requires
-    sub-result
-    part-result-start
-    part-result-end
+    (λ c κs. search needs)
+    (λ c. search needs)
+    (λ c. search needs)
+    (λ c. search needs)
     returns
     add-end
-    sub-result-2
-    part-result-start-2
+    (λ c. search needs)
+    (λ c. search needs)
     part-result-end-2
     returns-2
     sub-result-3
-    part-result-start-3
+    (λ c. search needs)
     part-result-end-3
     returns-3)

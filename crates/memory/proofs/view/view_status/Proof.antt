@@ -10,24 +10,13 @@ use Rattle.memory.proofs.Views.{status-sized}
 use borrow.Author.Needs.{needs}
 use Rattle.memory.proofs.view.view_status.Statement.{statement}
 use Rattle.memory.proofs.view.view_status.Tie as tie
-use Rattle.memory.proofs.view.view_status.Reads as reads
-use Rattle.memory.proofs.view.view_status.Lts as lts
-use Rattle.memory.proofs.block.size_of.Reads as size-of-reads
-use Rattle.memory.proofs.view.block_refusal.Reads as block-refusal-reads
-use Rattle.memory.proofs.view.names_memory.Reads as names-memory-reads
 
 eeprom-size : (c : tie.Else1) → length (c .before .before .before .before .args .eeprom .now) ≡ sizeOf Eeprom
 eeprom-size c = c .if1 .left ∙ c .before .size-of .ensures .0
 
-size-of-requires : tie.Need-size-of-requires
-size-of-requires c κs = search needs
-
 returns : tie.Need-returns
 unfolding viewStatus
 returns c = simp (ne-eqb _ _ (λ q. c .if1 .taken (q ∙ sym (c .before .size-of .ensures .0))))
-
-size-of-requires-2 : tie.Need-size-of-requires-2
-size-of-requires-2 c κs = search needs
 
 returns-2 : tie.Need-returns-2
 unfolding viewStatus
@@ -51,14 +40,8 @@ names-memory-requires c κs = search needs
 returns-3 : tie.Need-returns-3
 returns-3 c = rw (sized (c .before .before), sym (c .before .names-memory .ensures) ∙ not-true _ (c .if3 .taken))
 
-block-refusal-requires : tie.Need-block-refusal-requires
-block-refusal-requires c κs = search needs
-
 returns-4 : tie.Need-returns-4
 returns-4 c = rw (sized (c .before .before .before .before), named (c .before .before), eq-eqb _ _ (c .before .if4 .taken)) (c .block-refusal .ensures)
-
-block-refusal-requires-2 : tie.Need-block-refusal-requires-2
-block-refusal-requires-2 c κs = search needs
 
 returns-5 : tie.Need-returns-5
 returns-5 c = rw (sized (c .before .before .before .before), named (c .before .before), ne-eqb _ _ (c .before .if4 .left)) (c .block-refusal2 .ensures)
@@ -67,13 +50,13 @@ pub view-status-spec : {M : Type 1} → statement M
 view-status-spec =
     tie.close
     (tie.spec
-    size-of-requires
+    (λ c κs. search needs)
     returns
-    size-of-requires-2
+    (λ c κs. search needs)
     returns-2
     names-memory-requires
     returns-3
-    block-refusal-requires
+    (λ c κs. search needs)
     returns-4
-    block-refusal-requires-2
+    (λ c κs. search needs)
     returns-5)

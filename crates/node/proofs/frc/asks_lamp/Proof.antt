@@ -10,9 +10,6 @@ use Rattle.node.proofs.frc.asks_lamp.Tie as tie
 known : (c : tie.Else1) → isCommand (c .before .before .before .args .command) ≡ true
 known c = sym (c .before .is-command .ensures) ∙ not-false _ (c .if1 .left)
 
-is-command-requires : tie.Need-is-command-requires
-is-command-requires c κs = search needs
-
 returns : tie.Need-returns
 unfolding asksLamp
 returns c = rw (sym (c .before .is-command .ensures) ∙ not-true _ (c .if1 .taken))
@@ -21,15 +18,9 @@ returns-2 : tie.Need-returns-2
 unfolding asksLamp
 returns-2 c = rw (known (c .before), lt-leb _ _ (c .if2 .taken))
 
-shared-slice-read-if3 : tie.Need-shared-slice-read-if3
-shared-slice-read-if3 c = search needs
-
 returns-3 : tie.Need-returns-3
 unfolding asksLamp
 returns-3 c = rw (known (c .before .before .before), le-leb _ _ (c .before .before .if2 .left), ne-eqb _ _ (c .if3 .taken))
-
-shared-slice-read-result : tie.Need-shared-slice-read-result
-shared-slice-read-result c = search needs
 
 returns-4 : tie.Need-returns-4
 unfolding asksLamp
@@ -38,4 +29,5 @@ returns-4 c =
 
 pub asks-lamp-spec : {M : Type 1} → statement M
 asks-lamp-spec =
-    tie.close (tie.spec is-command-requires returns returns-2 shared-slice-read-if3 returns-3 shared-slice-read-result returns-4)
+    tie.close (tie.spec (λ c κs. search needs) returns returns-2 (λ c. search needs) returns-3 (λ c. search needs)
+    returns-4)

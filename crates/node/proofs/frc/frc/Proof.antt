@@ -17,15 +17,9 @@ asked : (c : tie.Else2) → let a = c .before .before .before .before .before .a
     asksLamp (a .node .settings .«lamp_count») (a .command) (a .user-data .now) ≡ true
 asked c = sym (c .before .asks-lamp .ensures) ∙ not-false _ (c .if2 .left)
 
-node-ok-requires : tie.Need-node-ok-requires
-node-ok-requires c κs = search needs
-
 returns : tie.Need-returns
 unfolding frcOf
 returns c = rw (sym (c .before .node-ok .ensures) ∙ not-true _ (c .if1 .taken))
-
-asks-lamp-requires : tie.Need-asks-lamp-requires
-asks-lamp-requires c κs = search needs
 
 returns-2 : tie.Need-returns-2
 returns-2 c = frc-unasked _ _ _ _ _ (sound (c .before .before)) (sym (c .before .asks-lamp .ensures) ∙ not-true _ (c .if2 .taken))
@@ -36,23 +30,11 @@ shared-slice-read-at c = asks-two _ _ _ (asked (c .before))
 is-on-requires : tie.Need-is-on-requires
 is-on-requires c κs = (sound (c .before .before .before .before), omega arith)
 
-two-bits-requires : tie.Need-two-bits-requires
-two-bits-requires c κs = search needs
-
 returns-3 : tie.Need-returns-3
 returns-3 c =
     frc-on _ _ _ _ _
     (sound (c .before .before .before .before .before .before)) (asked (c .before .before .before .before)) (c .before .before .if3 .taken)
     (c .before .is-on .ensures) (c .two-bits .ensures)
-
-cast-bit-set : tie.Need-cast-bit-set
-cast-bit-set c = search needs
-
-bit-set-requires : tie.Need-bit-set-requires
-bit-set-requires c κs = search needs
-
-two-bits-requires-2 : tie.Need-two-bits-requires-2
-two-bits-requires-2 c κs = search needs
 
 returns-4 : tie.Need-returns-4
 returns-4 c =
@@ -62,17 +44,6 @@ returns-4 c =
 
 pub frc-spec : {M : Type 1} → statement M
 frc-spec =
-    tie.close
-    (tie.spec
-    node-ok-requires
-    returns
-    asks-lamp-requires
-    returns-2
-    shared-slice-read-at
-    is-on-requires
-    two-bits-requires
-    returns-3
-    cast-bit-set
-    bit-set-requires
-    two-bits-requires-2
+    tie.close (tie.spec (λ c κs. search needs) returns (λ c κs. search needs) returns-2 shared-slice-read-at
+    is-on-requires (λ c κs. search needs) returns-3 (λ c. search needs) (λ c κs. search needs) (λ c κs. search needs)
     returns-4)

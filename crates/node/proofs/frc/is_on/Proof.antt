@@ -17,27 +17,16 @@ seen c =
     c .actual-level .ensures
     ∙ ap (λ (k : ℕ). actualLevel (n .settings) (getD (n .lamps) k off .level)) (c .before .before .before .wide .ensures .0)
 
-wide-requires : tie.Need-wide-requires
-wide-requires c κs = search needs
-
-mul-lamp : tie.Need-mul-lamp
-mul-lamp c = search needs
-
-element-copy-out-lamp : tie.Need-element-copy-out-lamp
-element-copy-out-lamp c = search needs
-
 actual-level-requires : tie.Need-actual-level-requires
 actual-level-requires c κs = let p = c .before .before .before .pre in (node-settings _ (p .0), node-dimmed _ (p .0) _)
 
 returns : tie.Need-returns
 returns c = on-lit _ _ _ _ (seen (c .before)) (c .if1 .taken)
 
-bit-set-requires : tie.Need-bit-set-requires
-bit-set-requires c κs = search needs
-
 returns-2 : tie.Need-returns-2
 returns-2 c = on-stuck _ _ _ _ (seen (c .before .before)) (c .before .if1 .left) (c .bit-set .ensures)
 
 pub is-on-spec : {M : Type 1} → statement M
 is-on-spec =
-    tie.close (tie.spec wide-requires mul-lamp element-copy-out-lamp actual-level-requires returns bit-set-requires returns-2)
+    tie.close (tie.spec (λ c κs. search needs) (λ c. search needs) (λ c. search needs) actual-level-requires returns
+    (λ c κs. search needs) returns-2)

@@ -11,9 +11,6 @@ use Rattle.node.proofs.levels.actual_levels.Tie as tie
 sound : (c : tie.Else1) → nodeOk (c .before .before .args .node) ≡ true
 sound c = sym (c .before .node-ok .ensures) ∙ not-false _ (c .if1 .left)
 
-node-ok-requires : tie.Need-node-ok-requires
-node-ok-requires c κs = search needs
-
 returns : tie.Need-returns
 unfolding levelsOf
 returns c = rw (sym (c .before .node-ok .ensures) ∙ not-true _ (c .if1 .taken))
@@ -26,4 +23,4 @@ unfolding levelsOf
 returns-2 c = rw (sound (c .before .before), c .each-level .ensures)
 
 pub actual-levels-spec : {M : Type 1} → statement M
-actual-levels-spec = tie.close (tie.spec node-ok-requires returns each-level-requires returns-2)
+actual-levels-spec = tie.close (tie.spec (λ c κs. search needs) returns each-level-requires returns-2)

@@ -21,23 +21,8 @@ abbrev μ-loop : tie.MeasureT-loop
 loop-holds : tie.Need-loop-holds Inv-loop μ-loop
 loop-holds c = (omega arith, refl)
 
-mul-lamp : tie.Need-mul-lamp Inv-loop μ-loop
-mul-lamp c = omega arith
-
-array-copy-out-lamp : tie.Need-array-copy-out-lamp Inv-loop μ-loop
-array-copy-out-lamp c = omega arith
-
 actual-level-requires : tie.Need-actual-level-requires Inv-loop μ-loop
 actual-level-requires c κs = let p = c .before .before .before .pre in (p .0, p .1 (c .before .before .loop .i))
-
-array-write-levels : tie.Need-array-write-levels Inv-loop μ-loop
-array-write-levels c = omega arith
-
-add-i : tie.Need-add-i Inv-loop μ-loop
-add-i c = omega arith
-
-loop-less : tie.Need-loop-less Inv-loop μ-loop
-loop-less c = omega arith
 
 loop-again : tie.Need-loop-again Inv-loop μ-loop
 loop-again c =
@@ -50,4 +35,5 @@ returns c = map-done _ _ _ _ (c .before .loop .i) (c .before .loop .inv .1) (ome
 
 pub each-level-spec : {M : Type 1} → statement M
 each-level-spec =
-    tie.close (tie.spec Inv-loop μ-loop loop-holds mul-lamp array-copy-out-lamp actual-level-requires array-write-levels add-i loop-less loop-again returns)
+    tie.close (tie.spec Inv-loop μ-loop loop-holds (λ c. omega arith) (λ c. omega arith) actual-level-requires
+    (λ c. omega arith) (λ c. omega arith) (λ c. omega arith) loop-again returns)

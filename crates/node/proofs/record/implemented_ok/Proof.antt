@@ -21,21 +21,6 @@ loop-holds : tie.Need-loop-holds Inv-loop μ-loop
 unfolding allBelow
 loop-holds c = (omega arith, refl)
 
-mul-lamp : tie.Need-mul-lamp Inv-loop μ-loop
-mul-lamp c = omega arith
-
-array-copy-out-lamp : tie.Need-array-copy-out-lamp Inv-loop μ-loop
-array-copy-out-lamp c = omega arith
-
-lamp-ok-requires : tie.Need-lamp-ok-requires Inv-loop μ-loop
-lamp-ok-requires c κs = search needs
-
-add-i : tie.Need-add-i Inv-loop μ-loop
-add-i c = omega arith
-
-loop-less : tie.Need-loop-less Inv-loop μ-loop
-loop-less c = omega arith
-
 loop-again : tie.Need-loop-again Inv-loop μ-loop
 loop-again c =
     (omega arith, all-more _ _ _ _ (c .before .before .before .loop .inv .1) (c .lamp-ok .ensures ∙ sym (fits-below _ _ _ (c .before .before .loop-test .taken))))
@@ -47,4 +32,5 @@ returns c =
 
 pub implemented-ok-spec : {M : Type 1} → statement M
 implemented-ok-spec =
-    tie.close (tie.spec Inv-loop μ-loop loop-holds mul-lamp array-copy-out-lamp lamp-ok-requires add-i loop-less loop-again returns)
+    tie.close (tie.spec Inv-loop μ-loop loop-holds (λ c. omega arith) (λ c. omega arith) (λ c κs. search needs)
+    (λ c. omega arith) (λ c. omega arith) loop-again returns)

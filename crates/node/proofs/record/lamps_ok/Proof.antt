@@ -18,26 +18,8 @@ Inv-loop count lamps ok₀ i₀ ok i = (count ≤ i) × (i ≤ 32) × (ok ≡ al
 abbrev μ-loop : tie.MeasureT-loop
 μ-loop count lamps ok₀ i₀ ok i = 32 - i
 
-implemented-ok-requires : tie.Need-implemented-ok-requires Inv-loop μ-loop
-implemented-ok-requires c κs = search needs
-
 loop-holds : tie.Need-loop-holds Inv-loop μ-loop
 loop-holds c = (omega arith, omega arith, c .implemented-ok .ensures)
-
-mul-lamp : tie.Need-mul-lamp Inv-loop μ-loop
-mul-lamp c = omega arith
-
-array-copy-out-lamp : tie.Need-array-copy-out-lamp Inv-loop μ-loop
-array-copy-out-lamp c = omega arith
-
-lamp-zero-requires : tie.Need-lamp-zero-requires Inv-loop μ-loop
-lamp-zero-requires c κs = search needs
-
-add-i : tie.Need-add-i Inv-loop μ-loop
-add-i c = omega arith
-
-loop-less : tie.Need-loop-less Inv-loop μ-loop
-loop-less c = omega arith
 
 loop-again : tie.Need-loop-again Inv-loop μ-loop
 loop-again c =
@@ -50,5 +32,5 @@ returns c = let e : c .before .loop .i ≡ 32 = omega arith in rw e at (c .befor
 
 pub lamps-ok-spec : {M : Type 1} → statement M
 lamps-ok-spec =
-    tie.close
-    (tie.spec Inv-loop μ-loop implemented-ok-requires loop-holds mul-lamp array-copy-out-lamp lamp-zero-requires add-i loop-less loop-again returns)
+    tie.close (tie.spec Inv-loop μ-loop (λ c κs. search needs) loop-holds (λ c. omega arith) (λ c. omega arith)
+    (λ c κs. search needs) (λ c. omega arith) (λ c. omega arith) loop-again returns)

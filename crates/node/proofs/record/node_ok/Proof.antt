@@ -19,15 +19,9 @@ shaped c =
     (sym (length-map (c .args .node .lamps) _) ∙ c .good .0 .1 .1 .1 .0 .1 .0 .1)
     (sym (length-map (c .args .node .ram) _) ∙ c .good .0 .1 .1 .1 .1 .0 .1 .0 .1)
 
-settings-ok-requires : tie.Need-settings-ok-requires
-settings-ok-requires c κs = search needs
-
 returns : tie.Need-returns
 unfolding nodeOk
 returns c = rw (shaped (c .before .before), sym (c .before .settings-ok .ensures) ∙ not-true _ (c .if1 .taken))
-
-wide-requires : tie.Need-wide-requires
-wide-requires c κs = search needs
 
 ranged : (c : tie.Else1) → settingsOk (c .before .before .args .node .settings) ≡ true
 ranged c = sym (c .before .settings-ok .ensures) ∙ not-false _ (c .if1 .left)
@@ -43,4 +37,4 @@ returns-2 c =
 
 pub node-ok-spec : {M : Type 1} → statement M
 node-ok-spec =
-    tie.close (tie.spec settings-ok-requires returns wide-requires lamps-ok-requires returns-2)
+    tie.close (tie.spec (λ c κs. search needs) returns (λ c κs. search needs) lamps-ok-requires returns-2)

@@ -6,18 +6,9 @@ use Rattle.node.specs.Node.{startOf}
 use Rattle.node.proofs.start.start.Statement.{statement}
 use Rattle.node.proofs.start.start.Tie as tie
 
-settings-ok-requires : tie.Need-settings-ok-requires
-settings-ok-requires c κs = search needs
-
-fresh-node-requires : tie.Need-fresh-node-requires
-fresh-node-requires c κs = search needs
-
 returns : tie.Need-returns
 unfolding startOf
 returns c = rw (sym (c .before .before .settings-ok .ensures) ∙ not-true _ (c .before .if1 .taken), c .fresh-node .ensures)
-
-fresh-node-requires-2 : tie.Need-fresh-node-requires-2
-fresh-node-requires-2 c κs = search needs
 
 returns-2 : tie.Need-returns-2
 unfolding startOf
@@ -25,4 +16,4 @@ returns-2 c = rw (sym (c .before .before .settings-ok .ensures) ∙ not-false _ 
 
 pub start-spec : {M : Type 1} → statement M
 start-spec =
-    tie.close (tie.spec settings-ok-requires fresh-node-requires returns fresh-node-requires-2 returns-2)
+    tie.close (tie.spec (λ c κs. search needs) (λ c κs. search needs) returns (λ c κs. search needs) returns-2)

@@ -6,15 +6,9 @@ use Rattle.node.specs.Node.{tickOf, tickNode}
 use Rattle.node.proofs.tick.tick.Statement.{statement}
 use Rattle.node.proofs.tick.tick.Tie as tie
 
-node-ok-requires : tie.Need-node-ok-requires
-node-ok-requires c κs = search needs
-
 returns : tie.Need-returns
 unfolding tickOf
 returns c = rw (sym (c .before .node-ok .ensures) ∙ not-true _ (c .if1 .taken))
-
-tick-lamps-requires : tie.Need-tick-lamps-requires
-tick-lamps-requires c κs = search needs
 
 returns-2 : tie.Need-returns-2
 unfolding tickOf tickNode
@@ -22,4 +16,4 @@ returns-2 c =
     rw (sym (c .before .before .before .node-ok .ensures) ∙ not-false _ (c .before .before .if1 .left), c .tick-lamps .ensures)
 
 pub tick-spec : {M : Type 1} → statement M
-tick-spec = tie.close (tie.spec node-ok-requires returns tick-lamps-requires returns-2)
+tick-spec = tie.close (tie.spec (λ c κs. search needs) returns (λ c κs. search needs) returns-2)

@@ -20,27 +20,6 @@ abbrev μ-loop : tie.MeasureT-loop
 loop-holds : tie.Need-loop-holds Inv-loop μ-loop
 loop-holds c = (omega arith, refl)
 
-mul-lamp : tie.Need-mul-lamp Inv-loop μ-loop
-mul-lamp c = omega arith
-
-array-copy-out-lamp : tie.Need-array-copy-out-lamp Inv-loop μ-loop
-array-copy-out-lamp c = omega arith
-
-tick-lamp-requires : tie.Need-tick-lamp-requires Inv-loop μ-loop
-tick-lamp-requires c κs = search needs
-
-mul-next : tie.Need-mul-next Inv-loop μ-loop
-mul-next c = omega arith
-
-array-set-from-next : tie.Need-array-set-from-next Inv-loop μ-loop
-array-set-from-next c = omega arith
-
-add-i : tie.Need-add-i Inv-loop μ-loop
-add-i c = omega arith
-
-loop-less : tie.Need-loop-less Inv-loop μ-loop
-loop-less c = omega arith
-
 loop-again : tie.Need-loop-again Inv-loop μ-loop
 loop-again c =
     let l = c .before .before .before .loop in
@@ -53,4 +32,5 @@ returns c = map-done _ _ _ _ (c .before .loop .i) (c .before .loop .inv .1) (ome
 
 pub tick-lamps-spec : {M : Type 1} → statement M
 tick-lamps-spec =
-    tie.close (tie.spec Inv-loop μ-loop loop-holds mul-lamp array-copy-out-lamp tick-lamp-requires mul-next array-set-from-next add-i loop-less loop-again returns)
+    tie.close (tie.spec Inv-loop μ-loop loop-holds (λ c. omega arith) (λ c. omega arith) (λ c κs. search needs)
+    (λ c. omega arith) (λ c. omega arith) (λ c. omega arith) (λ c. omega arith) loop-again returns)

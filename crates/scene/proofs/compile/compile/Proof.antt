@@ -7,26 +7,14 @@ use Rattle.scene.proofs.Lists.{limits}
 use Rattle.scene.proofs.compile.compile.Statement.{statement}
 use Rattle.scene.proofs.compile.compile.Tie as tie
 
-address-ok-requires : tie.Need-address-ok-requires
-address-ok-requires c κs = search needs
-
-refused-requires : tie.Need-refused-requires
-refused-requires c κs = search needs
-
 returns : tie.Need-returns
 unfolding compileOf
 returns c =
     rw (sym (c .before .before .address-ok .ensures) ∙ not-true _ (c .before .if1 .taken))
     (ap (λ (r : CompileAnswer). compiledAs r (c .before .before .before .before .before .args .out .now)) (c .refused .ensures))
 
-slice-aggregate-compile-scene : tie.Need-slice-aggregate-compile-scene
-slice-aggregate-compile-scene c = search needs
-
 compile-scene-requires : tie.Need-compile-scene-requires
 compile-scene-requires c κs = limits
-
-same-length : tie.Need-same-length
-same-length c = search needs
 
 returns-2 : tie.Need-returns-2
 unfolding compileOf
@@ -34,12 +22,5 @@ returns-2 c = rw (sym (c .before .before .before .before .before .before .addres
 
 pub compile-spec : {M : Type 1} → statement M
 compile-spec =
-    tie.close
-    (tie.spec
-    address-ok-requires
-    refused-requires
-    returns
-    slice-aggregate-compile-scene
-    compile-scene-requires
-    same-length
-    returns-2)
+    tie.close (tie.spec (λ c κs. search needs) (λ c κs. search needs) returns (λ c. search needs) compile-scene-requires
+    (λ c. search needs) returns-2)

@@ -5,11 +5,8 @@ use Rattle.scene.proofs.compile.compile_default.Tie as tie
 compile-requires : tie.Need-compile-requires
 compile-requires c κs = tt
 
-same-length : tie.Need-same-length
-same-length c = search needs
-
 returns : tie.Need-returns
 returns c = c .before .before .compile .ensures
 
 pub compile-default-spec : {M : Type 1} → statement M
-compile-default-spec = tie.close (tie.spec compile-requires same-length returns)
+compile-default-spec = tie.close (tie.spec compile-requires (λ c. search needs) returns)

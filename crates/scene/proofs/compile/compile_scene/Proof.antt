@@ -6,7 +6,7 @@ use lib.ListN.{length, drop, length-drop}
 use borrow.Author.Needs.{needs}
 use borrow.Author.Tests.{le-leb, lt-leb, not-true, not-false}
 use Rattle.dpa.proofs.Lists.{to-end}
-use Rattle.book.specs.declared.contents.Content.{Content}
+use Rattle.book.specs.declared.contents.SceneLocation.{SceneLocation}
 use Rattle.book.specs.Book.{stepsMax, stepLength, countOf, bookOk, sceneOf, stepsIn}
 use Rattle.book.proofs.Books.{book-facts, body-within, scene-is}
 use Rattle.scene.specs.declared.compile.CompileAnswer.{CompileAnswer}
@@ -20,19 +20,13 @@ book c = sym (c .before .book-ok .ensures) ∙ not-false _ (c .if1 .left)
 below : (c : tie.Else2) → let a = c .before .before .before .before .before .before .before .before .args in a .scene < countOf (a .book .now)
 below c = rw (c .before .wide .ensures .0) at (c .if2 .left)
 
-inside : (c : tie.After-content-at) → let a = c .before .before .before .before .before .before .before .before .before .args in
-    let n = c .content-at .result in
+inside : (c : tie.After-scene-location) → let a = c .before .before .before .before .before .before .before .before .before .args in
+    let n = c .scene-location .result in
     (n .offset + stepLength * n .steps ≤ length (a .book .now)) × (n .steps ≤ stepsMax)
 inside c =
     let s = c .before .before .before .before .before .before .before .before .before in
-    let p = c .content-at .ensures in
+    let p = c .scene-location .ensures in
     rw (p .0) (body-within (s .args .book .now) (s .args .scene) (book (c .before .before .before .before)) (below (c .before)))
-
-book-ok-requires : tie.Need-book-ok-requires
-book-ok-requires c κs = search needs
-
-refused-requires : tie.Need-refused-requires
-refused-requires c κs = search needs
 
 returns : tie.Need-returns
 unfolding compileScene
@@ -43,20 +37,14 @@ returns c =
 shared-slice-read-wide : tie.Need-shared-slice-read-wide
 shared-slice-read-wide c = omega (arith, book-facts _ (book (c .before)))
 
-wide-requires : tie.Need-wide-requires
-wide-requires c κs = search needs
-
-refused-requires-2 : tie.Need-refused-requires-2
-refused-requires-2 c κs = search needs
-
 returns-2 : tie.Need-returns-2
 unfolding compileScene
 returns-2 c =
     rw (book (c .before .before .before .before), le-leb _ _ (rw (c .before .before .wide .ensures .0) at (c .before .if2 .taken)))
     (ap (λ (r : CompileAnswer). compiledAs r (c .before .before .before .before .before .before .before .before .before .args .out .now)) (c .refused2 .ensures))
 
-content-at-requires : tie.Need-content-at-requires
-content-at-requires c κs = omega (arith, book-facts _ (book (c .before .before .before)), below c)
+scene-location-requires : tie.Need-scene-location-requires
+scene-location-requires c κs = omega (arith, book-facts _ (book (c .before .before .before)), below c)
 
 sub-compile-steps : tie.Need-sub-compile-steps
 sub-compile-steps c = omega (arith, inside c)
@@ -64,20 +52,14 @@ sub-compile-steps c = omega (arith, inside c)
 part-compile-steps-start : tie.Need-part-compile-steps-start
 part-compile-steps-start c = omega (arith, inside c)
 
-part-compile-steps-end : tie.Need-part-compile-steps-end
-part-compile-steps-end c = search needs
-
 compile-steps-requires : tie.Need-compile-steps-requires
 compile-steps-requires c κs =
     let d = c .before .before in
     let s = d .before .before .before .before .before .before .before .before .before in
     let b = s .args .book .now in
     let i = inside d in
-    rw (to-end (d .content-at .result .offset) b)
-    (omega (arith, i .0, length-drop (d .content-at .result .offset) b), i .1, s .pre)
-
-same-length : tie.Need-same-length
-same-length c = search needs
+    rw (to-end (d .scene-location .result .offset) b)
+    (omega (arith, i .0, length-drop (d .scene-location .result .offset) b), i .1, s .pre)
 
 returns-3 : tie.Need-returns-3
 unfolding compileScene
@@ -85,27 +67,14 @@ returns-3 c =
     let d = c .before .before .before .before .before in
     let s = d .before .before .before .before .before .before .before .before .before in
     let b = s .args .book .now in
-    let p = d .content-at .ensures in
-    let scene : sceneOf b (s .args .scene) ≡ stepsIn (d .content-at .result .steps) (drop (d .content-at .result .offset) b) =
-    scene-is b (s .args .scene) (below (d .before)) ∙ ap (λ (x : Content). stepsIn (x .steps) (drop (x .offset) b)) (sym (p .0)) in
+    let p = d .scene-location .ensures in
+    let scene : sceneOf b (s .args .scene) ≡ stepsIn (d .scene-location .result .steps) (drop (d .scene-location .result .offset) b) =
+    scene-is b (s .args .scene) (below (d .before)) ∙ ap (λ (x : SceneLocation). stepsIn (x .steps) (drop (x .offset) b)) (sym (p .0)) in
     rw (book (d .before .before .before .before), lt-leb (countOf b) (s .args .scene) (below (d .before)), scene)
-    (rw (to-end (d .content-at .result .offset) b) at (c .before .before .compile-steps .ensures))
+    (rw (to-end (d .scene-location .result .offset) b) at (c .before .before .compile-steps .ensures))
 
 pub compile-scene-spec : {M : Type 1} → statement M
 compile-scene-spec =
-    tie.close
-    (tie.spec
-    book-ok-requires
-    refused-requires
-    returns
-    shared-slice-read-wide
-    wide-requires
-    refused-requires-2
-    returns-2
-    content-at-requires
-    sub-compile-steps
-    part-compile-steps-start
-    part-compile-steps-end
-    compile-steps-requires
-    same-length
-    returns-3)
+    tie.close (tie.spec (λ c κs. search needs) (λ c κs. search needs) returns shared-slice-read-wide
+    (λ c κs. search needs) (λ c κs. search needs) returns-2 scene-location-requires sub-compile-steps
+    part-compile-steps-start (λ c. search needs) compile-steps-requires (λ c. search needs) returns-3)

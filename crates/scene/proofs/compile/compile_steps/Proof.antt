@@ -6,41 +6,32 @@ use borrow.Author.Tests.{lt-ltb, le-ltb}
 use Rattle.book.specs.Book.{stepsIn}
 use Rattle.book.proofs.Books.{good-index}
 use Rattle.scene.specs.declared.compile.CompileAnswer.{CompileAnswer}
-use Rattle.scene.specs.Call.{output, outputRoom, compiledAs}
+use Rattle.scene.specs.Call.{output, minOutput, compiledAs}
 use Rattle.scene.specs.Fill.{requestsWith}
 use Rattle.scene.proofs.Outputs.{written-as}
 use Rattle.scene.proofs.Requests.{short}
 use Rattle.scene.proofs.compile.compile_steps.Statement.{statement}
 use Rattle.scene.proofs.compile.compile_steps.Tie as tie
 
-first-bad-requires : tie.Need-first-bad-requires
-first-bad-requires c κs = search needs
-
 cast-refused : tie.Need-cast-refused
 cast-refused c = omega (arith, c .if1 .taken, c .before .before .before .before .before .pre .1)
-
-refused-requires : tie.Need-refused-requires
-refused-requires c κs = search needs
 
 returns : tie.Need-returns
 returns c =
     let out = c .before .before .before .before .before .before .args .out .now in
-    rw (c .before .before .first-bad .ensures .1, lt-ltb _ _ (c .before .if1 .taken))
+    rw (c .before .before .first-bad-step .ensures .1, lt-ltb _ _ (c .before .if1 .taken))
     (ap (λ (r : CompileAnswer). compiledAs r out) (c .refused .ensures))
-
-refused-requires-2 : tie.Need-refused-requires-2
-refused-requires-2 c κs = search needs
 
 returns-2 : tie.Need-returns-2
 returns-2 c =
     let out = c .before .before .before .before .before .before .before .args .out .now in
-    rw (c .before .before .before .first-bad .ensures .1, le-ltb _ _ (c .before .before .if1 .left), lt-ltb (length out) outputRoom (c .before .if2 .taken))
+    rw (c .before .before .before .first-bad-step .ensures .1, le-ltb _ _ (c .before .before .if1 .left), lt-ltb (length out) minOutput (c .before .if2 .taken))
     (ap (λ (r : CompileAnswer). compiledAs r out) (c .refused2 .ensures))
 
 write-output-requires : tie.Need-write-output-requires
 write-output-requires c κs =
     let s = c .before .before .before .before .before .before .before in
-    let f = c .before .before .before .first-bad .ensures .1 in (
+    let f = c .before .before .before .first-bad-step .ensures .1 in (
       s .pre .0,
       s .pre .1,
       good-index (s .args .count) (s .args .body .now) (f ∙ rw (le-ltb _ _ (c .before .before .if1 .left))),
@@ -48,17 +39,14 @@ write-output-requires c κs =
       c .before .if2 .left,
     )
 
-same-length : tie.Need-same-length
-same-length c = search needs
-
 returns-3 : tie.Need-returns-3
 returns-3 c =
     let s = c .before .before .before .before .before .before .before .before .before .before in
-    let f = c .before .before .before .before .before .before .first-bad .ensures .1 in
-    let z = le-ltb (c .before .before .before .before .before .before .first-bad .result) (s .args .count) (c .before .before .before .before .before .if1 .left) in
+    let f = c .before .before .before .before .before .before .first-bad-step .ensures .1 in
+    let z = le-ltb (c .before .before .before .before .before .before .first-bad-step .result) (s .args .count) (c .before .before .before .before .before .if1 .left) in
     let p = c .before .before .write-output .ensures in
     let g = good-index (s .args .count) (s .args .body .now) (f ∙ rw z) in
-    rw (f, z, le-ltb (length (s .args .out .now)) outputRoom (c .before .before .before .before .if2 .left))
+    rw (f, z, le-ltb (length (s .args .out .now)) minOutput (c .before .before .before .before .if2 .left))
     (written-as (output (requestsWith (s .args .most) (s .args .head) (s .args .front .now) (stepsIn (s .args .count) (s .args .body .now)))) (s .args .out .now)
     _ _ (p .0) (p .1) (omega (
       arith,
@@ -68,14 +56,5 @@ returns-3 c =
 
 pub compile-steps-spec : {M : Type 1} → statement M
 compile-steps-spec =
-    tie.close
-    (tie.spec
-    first-bad-requires
-    cast-refused
-    refused-requires
-    returns
-    refused-requires-2
-    returns-2
-    write-output-requires
-    same-length
-    returns-3)
+    tie.close (tie.spec (λ c κs. search needs) cast-refused (λ c κs. search needs) returns (λ c κs. search needs)
+    returns-2 write-output-requires (λ c. search needs) returns-3)

@@ -68,39 +68,39 @@ add-head c = let s = c .before .before .before .before .before in omega (arith, 
 loop-holds : tie.Need-loop-holds Inv-loop μ-loop
 loop-holds c = let s = c .before .before .before .before .before in (open-start (s .pre .3) _ _ _ _, left-start _ _ _)
 
-run-from-requires : tie.Need-run-from-requires Inv-loop μ-loop
-run-from-requires c κs =
+entry-from-requires : tie.Need-entry-from-requires Inv-loop μ-loop
+entry-from-requires c κs =
     let s = c .before .before .before .before .before .before .before in
     (s .pre .0, c .loop-test .taken, s .pre .1, entry-limit (s .pre .3))
 
 -- the entry's two bytes have room
-few : (c : tie.After-run-from Inv-loop μ-loop) → c .before .before .loop .pair + 2 ≤ keptRoom
+few : (c : tie.After-entry-from Inv-loop μ-loop) → c .before .before .loop .pair + 2 ≤ keptRoom
 few c =
     let s = c .before .before .before .before .before .before .before .before in
     let l = c .before .before .loop in
     omega (
       arith,
-      kept-few (s .args .most .entry) (steps s) (s .args .kept .now) (l .done) (l .kept) (l .pair) (l .inv .1) _ _ (c .run-from .ensures),
+      kept-few (s .args .most .entry) (steps s) (s .args .kept .now) (l .done) (l .kept) (l .pair) (l .inv .1) _ _ (c .entry-from .ensures),
       steps-length (s .args .count) (s .args .body .now),
       s .pre .1,
     )
 
 -- its steps are within the scene
-part-of : (c : tie.After-run-from Inv-loop μ-loop)
-    → c .before .before .loop .done + c .run-from .result .steps ≤ c .before .before .before .before .before .before .before .before .args .count
+part-of : (c : tie.After-entry-from Inv-loop μ-loop)
+    → c .before .before .loop .done + c .entry-from .result .steps ≤ c .before .before .before .before .before .before .before .before .args .count
 part-of c =
     let s = c .before .before .before .before .before .before .before .before in
     omega (
       arith,
-      c .run-from .ensures .within,
+      c .entry-from .ensures .within,
       length-drop (c .before .before .loop .done) (steps s),
       steps-length (s .args .count) (s .args .body .now),
       c .before .loop-test .taken,
     )
 
 -- its PData fits a frame
-data-of : (c : tie.After-run-from Inv-loop μ-loop) → c .run-from .result .size ≤ pdataMax
-data-of c = let s = c .before .before .before .before .before .before .before .before in omega (arith, c .run-from .ensures .small, entry-limit (s .pre .3) .frame)
+data-of : (c : tie.After-entry-from Inv-loop μ-loop) → c .entry-from .result .size ≤ pdataMax
+data-of c = let s = c .before .before .before .before .before .before .before .before in omega (arith, c .entry-from .ensures .small, entry-limit (s .pre .3) .frame)
 
 cast-kept : tie.Need-cast-kept Inv-loop μ-loop
 cast-kept c = omega (arith, part-of (c .before), c .before .before .before .before .before .before .before .before .before .pre .1)
@@ -132,7 +132,7 @@ next-length-requires c κs =
       l .inv .0 .small,
       data-of d,
       omega (arith, s .pre .3 .frame),
-      lengths-room (s .pre .3) _ _ _ _ _ _ _ _ _ (d .run-from .ensures) _ (l .inv .0) (room (d .before .before .before)),
+      lengths-room (s .pre .3) _ _ _ _ _ _ _ _ _ (d .entry-from .ensures) _ (l .inv .0) (room (d .before .before .before)),
     )
 
 add-done : tie.Need-add-done Inv-loop μ-loop
@@ -143,7 +143,7 @@ add-done c =
 loop-less : tie.Need-loop-less Inv-loop μ-loop
 loop-less c =
     let d = c .before .before .before .before .before .before .before in
-    omega (arith, d .run-from .ensures .some, d .before .loop-test .taken)
+    omega (arith, d .entry-from .ensures .some, d .before .loop-test .taken)
 
 loop-again : tie.Need-loop-again Inv-loop μ-loop
 loop-again c =
@@ -151,8 +151,8 @@ loop-again c =
     let d = c .before .before .before .before .before .before .before in
     let s = d .before .before .before .before .before .before .before .before in
     let l = d .before .before .loop in (
-      lengths-more (s .pre .3) _ _ _ _ _ _ _ _ _ (d .run-from .ensures) _ (l .inv .0) _ _ _ (p .2) (p .0) (p .1),
-      kept-more (s .args .most .entry) _ _ _ _ _ (l .inv .1) _ _ (d .run-from .ensures),
+      lengths-more (s .pre .3) _ _ _ _ _ _ _ _ _ (d .entry-from .ensures) _ (l .inv .0) _ _ _ (p .2) (p .0) (p .1),
+      kept-more (s .args .most .entry) _ _ _ _ _ (l .inv .1) _ _ (d .entry-from .ensures),
     )
 
 add-out : tie.Need-add-out Inv-loop μ-loop
@@ -206,7 +206,7 @@ write-lengths-spec =
     returns
     add-head
     loop-holds
-    run-from-requires
+    entry-from-requires
     cast-kept
     slice-write-kept
     cast-kept-2

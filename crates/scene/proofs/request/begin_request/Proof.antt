@@ -1,25 +1,12 @@
 use mathlib.Core.List.{_++_}
 use mathlib.Core.Path.{refl, _∙_}
 use native.Mathlib.Omega.{arith}
-use lib.ListN.{length}
 use borrow.Author.Needs.{needs}
 use Rattle.dpa.specs.Frame.{headerBytes}
 use Rattle.memory.proofs.Puts.{put-sets}
 use Rattle.book.proofs.Writing.{put-two}
 use Rattle.scene.proofs.request.begin_request.Statement.{statement}
 use Rattle.scene.proofs.request.begin_request.Tie as tie
-
-write-header-requires : tie.Need-write-header-requires
-write-header-requires c κs = search needs
-
-copy-in-requires : tie.Need-copy-in-requires
-copy-in-requires c κs = search needs
-
-add-result : tie.Need-add-result
-add-result c = search needs
-
-same-length : tie.Need-same-length
-same-length c = search needs
 
 returns : tie.Need-returns
 returns c =
@@ -33,4 +20,4 @@ returns c =
 
 pub begin-request-spec : {M : Type 1} → statement M
 begin-request-spec =
-    tie.close (tie.spec write-header-requires copy-in-requires add-result same-length returns)
+    tie.close (tie.spec (λ c κs. search needs) (λ c κs. search needs) (λ c. search needs) (λ c. search needs) returns)

@@ -14,15 +14,6 @@ use Rattle.scene.proofs.request.next_list.Tie as tie
 abbrev head : tie.Start → List ℕ
 head s = headerBytes (s .args .head) ++ s .args .front .now
 
-add-entry : tie.Need-add-entry
-add-entry c = search needs
-
-add-if1 : tie.Need-add-if1
-add-if1 c = search needs
-
-add-t12 : tie.Need-add-t12
-add-t12 c = search needs
-
 returns : tie.Need-returns
 returns c =
     let s = c .before .before .before in
@@ -44,9 +35,6 @@ add-begin-request c = omega (arith, room (c .before))
 begin-request-requires : tie.Need-begin-request-requires
 begin-request-requires c κs = rw length-set (omega (arith, room (c .before)))
 
-add-t10 : tie.Need-add-t10
-add-t10 c = search needs
-
 same-length : tie.Need-same-length
 same-length c =
     let a = c .before .before .before .before .before .before .before .args in
@@ -63,15 +51,5 @@ returns-2 c =
 
 pub next-list-spec : {M : Type 1} → statement M
 next-list-spec =
-    tie.close
-    (tie.spec
-    add-entry
-    add-if1
-    add-t12
-    returns
-    slice-write-out
-    add-begin-request
-    begin-request-requires
-    add-t10
-    same-length
-    returns-2)
+    tie.close (tie.spec (λ c. search needs) (λ c. search needs) (λ c. search needs) returns slice-write-out
+    add-begin-request begin-request-requires (λ c. search needs) same-length returns-2)

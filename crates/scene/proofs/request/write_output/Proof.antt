@@ -27,9 +27,6 @@ room s f =
       output-length (requests s f),
     )
 
-slice-aggregate-write-lengths : tie.Need-slice-aggregate-write-lengths
-slice-aggregate-write-lengths c = search needs
-
 write-lengths-requires : tie.Need-write-lengths-requires
 write-lengths-requires c κs =
     let s = c .before .before .before .before .before in
@@ -48,12 +45,6 @@ cast-out c =
       steps-length (s .args .count) (s .args .body .now),
       s .pre .1,
     )
-
-slice-write-out : tie.Need-slice-write-out
-slice-write-out c = search needs
-
-slice-aggregate-write-requests : tie.Need-slice-aggregate-write-requests
-slice-aggregate-write-requests c = search needs
 
 write-requests-requires : tie.Need-write-requests-requires
 write-requests-requires c κs =
@@ -83,14 +74,5 @@ returns c =
 
 pub write-output-spec : {M : Type 1} → statement M
 write-output-spec =
-    tie.close
-    (tie.spec
-    slice-aggregate-write-lengths
-    write-lengths-requires
-    sub-requests
-    cast-out
-    slice-write-out
-    slice-aggregate-write-requests
-    write-requests-requires
-    same-length
-    returns)
+    tie.close (tie.spec (λ c. search needs) write-lengths-requires sub-requests cast-out (λ c. search needs)
+    (λ c. search needs) write-requests-requires same-length returns)

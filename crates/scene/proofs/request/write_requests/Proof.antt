@@ -10,13 +10,13 @@ use Rattle.batch.specs.Batch.{entryBytes}
 use Rattle.book.specs.declared.step.Step.{Step}
 use Rattle.book.specs.Book.{stepsIn}
 use Rattle.book.specs.Group.{joined}
-use Rattle.book.specs.Entry.{runData, joinedItem}
+use Rattle.book.specs.Entry.{groupData, joinedItem}
 use Rattle.book.specs.Join.{entriesOf}
-use Rattle.book.specs.Run.{FirstRun}
+use Rattle.book.specs.Run.{FirstEntry}
 use Rattle.book.proofs.Joining.{steps-length, steps-part}
 use Rattle.book.proofs.Writing.{put-two}
 use Rattle.book.proofs.Faults.{Good}
-use Rattle.book.proofs.Groups.{all-drop}
+use Rattle.dpa.proofs.All.{all-drop}
 use Rattle.book.proofs.Books.{good-steps}
 use Rattle.book.proofs.Entries.{entry-ok}
 use Rattle.scene.specs.Fill.{requestsWith, KeepsEntries}
@@ -86,24 +86,18 @@ here c =
 shared-slice-read-wide : tie.Need-shared-slice-read-wide Inv-loop μ-loop
 shared-slice-read-wide c = omega (arith, here (c .before) .inside)
 
-wide-requires : tie.Need-wide-requires Inv-loop μ-loop
-wide-requires c κs = search needs
-
 add-wide : tie.Need-add-wide Inv-loop μ-loop
 add-wide c = omega (arith, here (c .before .before) .inside)
 
 shared-slice-read-wide-2 : tie.Need-shared-slice-read-wide-2 Inv-loop μ-loop
 shared-slice-read-wide-2 c = here (c .before .before .before) .inside
 
-wide-requires-2 : tie.Need-wide-requires-2 Inv-loop μ-loop
-wide-requires-2 c κs = search needs
-
 add-pair : tie.Need-add-pair Inv-loop μ-loop
 add-pair c = omega (arith, here (c .before .before .before .before) .inside)
 
 run : (c : tie.After-wide2 Inv-loop μ-loop) → let d = c .before .before .before .before in
     let s = d .before .before .before .before .before .before .before .before .before .before .before in
-    FirstRun (s .args .most .entry) (drop (d .before .loop .done) (steps s)) (c .before .before .wide .result) (c .wide2 .result)
+    FirstEntry (s .args .most .entry) (drop (d .before .loop .done) (steps s)) (c .before .before .wide .result) (c .wide2 .result)
 run c = rw (c .before .before .wide .ensures .0, c .wide2 .ensures .0) (here (c .before .before .before .before) .run)
 
 -- its PData fits a frame
@@ -143,15 +137,15 @@ write-entry-at-requires c κs =
     let s = d .before .before .before .before .before .before .before .before .before .before .before in
     let l = d .before .loop in
     let r = run e in
-    let part = part-of e in (
-      omega (arith, part, s .pre .0),
+    let slice = part-of e in (
+      omega (arith, slice, s .pre .0),
       r .some,
-      omega (arith, part, s .pre .1),
+      omega (arith, slice, s .pre .1),
       data-of e,
-      r .fits ∙ ap (λ (t : List Step). length (runData t))
-          (steps-part (s .args .count) (l .done) (e .before .before .wide .result) (s .args .body .now) part),
+      r .fits ∙ ap (λ (t : List Step). length (groupData t))
+          (steps-part (s .args .count) (l .done) (e .before .before .wide .result) (s .args .body .now) slice),
       entry-room (s .pre .3) _ _ _ _ _ _ _ _ _ r _ _ (l .inv .0) _ _ (t .2) (t .0) (room (d .before .before)),
-      entry-ok (s .args .most .entry) (s .pre .3 .entry) _ _ _ _ _ (s .pre .2) part r,
+      entry-ok (s .args .most .entry) (s .pre .3 .entry) _ _ _ _ _ (s .pre .2) slice r,
     )
 
 add-done : tie.Need-add-done Inv-loop μ-loop
@@ -220,10 +214,10 @@ write-requests-spec =
     begin-request-requires
     loop-holds
     shared-slice-read-wide
-    wide-requires
+    (λ c κs. search needs)
     add-wide
     shared-slice-read-wide-2
-    wide-requires-2
+    (λ c κs. search needs)
     add-pair
     next-list-requires
     write-entry-at-requires

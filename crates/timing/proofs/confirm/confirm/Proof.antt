@@ -9,18 +9,10 @@ use Rattle.timing.proofs.Confirmations.{no-frame, no-room, answered}
 use borrow.Author.Needs.{needs}
 use Rattle.timing.proofs.confirm.confirm.Statement.{statement}
 use Rattle.timing.proofs.confirm.confirm.Tie as tie
-use Rattle.timing.proofs.confirm.confirm.Reads as reads
-use Rattle.timing.proofs.confirm.confirm.Lts as lts
-use Rattle.dpa.proofs.frame.Frame.fits.Reads as fits-reads
-use Rattle.timing.proofs.confirm.write_confirmation.Reads as write-confirmation-reads
-use Rattle.timing.proofs.slot.slot_of.Reads as slot-of-reads
 
 -- the frame's length is in range
 fits : (c : tie.Else1) → frameFits (length (c .before .before .before .before .args .frame .now)) ≡ true
 fits c = sym (c .before .fits2 .ensures) ∙ not-false _ (c .if1 .left)
-
-fits-requires : tie.Need-fits-requires
-fits-requires c κs = search needs
 
 returns : tie.Need-returns
 returns c =
@@ -35,14 +27,8 @@ returns-2 c =
 sub-slot-of : tie.Need-sub-slot-of
 sub-slot-of c = omega (arith, fits-sizes _ (fits (c .before)))
 
-slot-of-requires : tie.Need-slot-of-requires
-slot-of-requires c κs = search needs
-
 write-confirmation-requires : tie.Need-write-confirmation-requires
 write-confirmation-requires c κs = (fits-sizes _ (fits (c .before .before .before)) .0, omega arith)
-
-same-length : tie.Need-same-length
-same-length c = search needs
 
 returns-3 : tie.Need-returns-3
 returns-3 c =
@@ -52,13 +38,5 @@ returns-3 c =
 
 pub confirm-spec : {M : Type 1} → statement M
 confirm-spec =
-    tie.close
-    (tie.spec
-    fits-requires
-    returns
-    returns-2
-    sub-slot-of
-    slot-of-requires
-    write-confirmation-requires
-    same-length
-    returns-3)
+    tie.close (tie.spec (λ c κs. search needs) returns returns-2 sub-slot-of (λ c κs. search needs)
+    write-confirmation-requires (λ c. search needs) returns-3)

@@ -3,20 +3,14 @@ use Rattle.timing.specs.Slot.{timeslotOf}
 use borrow.Author.Needs.{needs}
 use Rattle.timing.proofs.slot.timeslot.Statement.{statement}
 use Rattle.timing.proofs.slot.timeslot.Tie as tie
-use Rattle.timing.proofs.slot.timeslot.Reads as reads
-use Rattle.timing.proofs.slot.timeslot.Lts as lts
-use Rattle.timing.proofs.slot.slot_of.Reads as slot-of-reads
 
 returns : tie.Need-returns
 unfolding timeslotOf
 returns c = simp (lt-ltb _ _ (c .if1 .taken))
-
-slot-of-requires : tie.Need-slot-of-requires
-slot-of-requires c κs = search needs
 
 returns-2 : tie.Need-returns-2
 unfolding timeslotOf
 returns-2 c = simp (le-ltb _ _ (c .before .if1 .left), c .slot-of .ensures)
 
 pub timeslot-spec : {M : Type 1} → statement M
-timeslot-spec = tie.close (tie.spec returns slot-of-requires returns-2)
+timeslot-spec = tie.close (tie.spec returns (λ c κs. search needs) returns-2)

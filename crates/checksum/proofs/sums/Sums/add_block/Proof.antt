@@ -4,12 +4,8 @@ use native.Mathlib.Omega.{arith}
 use lib.ListN.{length, drop}
 use Rattle.checksum.specs.Sums.{sums}
 use Rattle.checksum.proofs.Fletcher.{byte-more, sums-done}
-use borrow.Author.Needs.{needs}
 use Rattle.checksum.proofs.sums.Sums.add_block.Statement.{statement}
 use Rattle.checksum.proofs.sums.Sums.add_block.Tie as tie
-use Rattle.checksum.proofs.sums.Sums.add_block.Reads as reads
-use Rattle.checksum.proofs.sums.Sums.add_block.Lts as lts
-use Rattle.checksum.proofs.sums.Sums.add_byte.Reads as add-byte-reads
 
 abbrev Inv-loop : tie.InvT-loop
 Inv-loop block s₀ i₀ s i = (i ≤ length block) × (sums s (drop i block) ≡ sums s₀ block)
@@ -20,17 +16,8 @@ abbrev μ-loop : tie.MeasureT-loop
 loop-holds : tie.Need-loop-holds Inv-loop μ-loop
 loop-holds c = (omega arith, refl)
 
-shared-slice-read-add-byte : tie.Need-shared-slice-read-add-byte Inv-loop μ-loop
-shared-slice-read-add-byte c = omega arith
-
 add-byte-requires : tie.Need-add-byte-requires Inv-loop μ-loop
 add-byte-requires c κs = tt
-
-add-i : tie.Need-add-i Inv-loop μ-loop
-add-i c = omega arith
-
-loop-less : tie.Need-loop-less Inv-loop μ-loop
-loop-less c = omega arith
 
 loop-again : tie.Need-loop-again Inv-loop μ-loop
 loop-again c =
@@ -44,14 +31,5 @@ returns c =
 
 pub add-block-spec : {M : Type 1} → statement M
 add-block-spec =
-    tie.close
-    (tie.spec
-    Inv-loop
-    μ-loop
-    loop-holds
-    shared-slice-read-add-byte
-    add-byte-requires
-    add-i
-    loop-less
-    loop-again
-    returns)
+    tie.close (tie.spec Inv-loop μ-loop loop-holds (λ c. omega arith) add-byte-requires (λ c. omega arith)
+    (λ c. omega arith) loop-again returns)

@@ -2,8 +2,6 @@ use borrow.Author.Tests.{lt-leb, le-leb}
 use Rattle.dpa.specs.Frame.{frameFits}
 use Rattle.dpa.proofs.frame.Frame.fits.Statement.{statement}
 use Rattle.dpa.proofs.frame.Frame.fits.Tie as tie
-use Rattle.dpa.proofs.frame.Frame.fits.Reads as reads
-use Rattle.dpa.proofs.frame.Frame.fits.Lts as lts
 
 returns : tie.Need-returns
 unfolding frameFits

@@ -1,0 +1,15 @@
+use native.Mathlib.Omega.{arith}
+use borrow.Author.Needs.{needs}
+use Rattle.book.proofs.Joining.{run-part}
+use Rattle.book.proofs.join.entry_from.Statement.{statement}
+use Rattle.book.proofs.join.entry_from.Tie as tie
+
+returns : tie.Need-returns
+returns c =
+    let a = c .before .before .before .args in
+    run-part (a .most) (a .count) (a .done) (a .body .now) _ _ (omega arith) (c .first-entry .ensures)
+
+pub entry-from-spec : {M : Type 1} → statement M
+entry-from-spec =
+    tie.close (tie.spec (λ c. search needs) (λ c. search needs) (λ c. search needs) (λ c. search needs)
+    (λ c. search needs) (λ c κs. search needs) returns)

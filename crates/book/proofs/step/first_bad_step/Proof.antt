@@ -1,0 +1,50 @@
+use mathlib.Core.Path.{_≡_, refl, sym, _∙_}
+use Prim.Native.Nat.{_-_, _≤_}
+use native.Mathlib.Omega.{arith}
+use lib.ListN.{drop}
+use borrow.Author.Needs.{needs}
+use borrow.Author.Tests.{eq-eqb, ne-eqb}
+use Rattle.book.specs.Book.{stepsIn}
+use Rattle.book.specs.Step.{firstBadFrom}
+use Rattle.book.proofs.Books.{bad-more, bad-stop, bad-end}
+use Rattle.book.proofs.step.first_bad_step.Statement.{statement}
+use Rattle.book.proofs.step.first_bad_step.Tie as tie
+
+abbrev Inv-loop : tie.InvT-loop
+Inv-loop body count i₀ i = (i ≤ count) × (firstBadFrom 0 (stepsIn count body) ≡ firstBadFrom i (drop i (stepsIn count body)))
+
+abbrev μ-loop : tie.MeasureT-loop
+μ-loop body count i₀ i = count - i
+
+loop-holds : tie.Need-loop-holds Inv-loop μ-loop
+loop-holds c = (omega arith, refl)
+
+loop-again : tie.Need-loop-again Inv-loop μ-loop
+loop-again c =
+    let s = c .before .before .before .before .before .before in
+    let l = c .before .before .before .before .loop in
+    let x = c .before .before .step-at in
+    let good = eq-eqb _ _ (sym (c .before .step-fault .ensures) ∙ c .if1 .left) in (
+      omega arith,
+      l .inv .1 ∙ bad-more (s .args .count) (s .args .body .now) (l .i) (x .result) (c .before .before .before .loop-test .taken) (x .ensures) good,
+    )
+
+returns : tie.Need-returns Inv-loop μ-loop
+returns c =
+    let s = c .before .before .before .before .before .before in
+    let l = c .before .before .before .before .loop in
+    let x = c .before .before .step-at in
+    let bad = ne-eqb _ _ (λ z. c .if1 .taken (c .before .step-fault .ensures ∙ z)) in (
+      omega arith,
+      l .inv .1 ∙ bad-stop (s .args .count) (s .args .body .now) (l .i) (x .result) (c .before .before .before .loop-test .taken) (x .ensures) bad,
+    )
+
+returns-2 : tie.Need-returns-2 Inv-loop μ-loop
+returns-2 c =
+    let s = c .before .before .before in
+    (omega arith, c .before .loop .inv .1 ∙ bad-end (s .args .count) (s .args .body .now) (c .before .loop .i) (c .loop-test .left))
+
+pub first-bad-step-spec : {M : Type 1} → statement M
+first-bad-step-spec =
+    tie.close (tie.spec Inv-loop μ-loop loop-holds (λ c κs. omega arith) (λ c. omega arith) (λ c κs. search needs)
+    returns (λ c. omega arith) loop-again returns-2)

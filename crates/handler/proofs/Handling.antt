@@ -1,0 +1,120 @@
+-- Taking a frame: whose it is, the response, and the refusals.
+use mathlib.Core.Path.{_≡_, ap, sym, _∙_}
+use mathlib.Core.List.{List, _++_}
+use mathlib.Core.Bool.{true, _&&_, _||_}
+use Prim.Native.Nat.{ℕ, _+_, _-_, _≤_}
+use native.Mathlib.Omega.{arith}
+use lib.Dec.{ltb, eqb}
+use lib.ListN.{length, take, drop}
+use borrow.Rule.Slice.PartMut.{midOf, putMid}
+use borrow.Author.Tests.{eq-eqb, ne-eqb, eqb-true, ltb-false}
+use Rattle.dpa.specs.declared.frame.Frame.{Frame}
+use Rattle.dpa.specs.Lists.{overwriteFront}
+use Rattle.dpa.specs.Frame.{broadcastNadr, headerOf, frameFits, responseHeader}
+use Rattle.dpa.proofs.Bool.{by-cond, first-taken, second-taken}
+use Rattle.dpa.proofs.Headers.{fits-sizes}
+use Rattle.dpa.proofs.Lists.{to-end, rear-lent, rear-back, header-written}
+use Rattle.batch.specs.Batch.{Item, item}
+use Rattle.node.specs.declared.record.Node.{Node}
+use Rattle.node.specs.declared.record.ReadOnly.{ReadOnly}
+use Rattle.handler.specs.declared.os.RequestReply.{RequestReply}
+use Rattle.handler.specs.declared.answer.RequestAnswer.{RequestAnswer}
+use Rattle.node.specs.Node.{nodeOk}
+use Rattle.handler.specs.Request.{State, state, StateRule, Outcome, SeenOutcome, outcomeSeen, outcomeInBuffer, itemOf, execute, CallResult, callResult, callResultFromParts, noResponse, broadcast, respond, handleFrame, requestRefusal, refusalOf, handleRequest}
+
+-- the request that the code takes out of a frame
+pub frame-item : (f : List ℕ) {h : Frame} → h ≡ headerOf f → item (h .pnum) (h .pcmd) (h .hwpid) (take (length f - 6) (drop 6 f)) ≡ itemOf f
+frame-item f e =
+    ap (λ (h : Frame). item (h .pnum) (h .pcmd) (h .hwpid) (take (length f - 6) (drop 6 f))) e
+    ∙ ap (item (headerOf f .pnum) (headerOf f .pcmd) (headerOf f .hwpid)) (to-end 6 f)
+
+module _ (f : List ℕ) (st : State) (o : List ℕ) where
+  pub frame-broadcast : headerOf f .nadr ≡ 255 → handleFrame f st o ≡ broadcast (execute (itemOf f) st) o
+  unfolding handleFrame
+  frame-broadcast e = rw (eq-eqb (headerOf f .nadr) 255 e)
+
+  module _ (n : headerOf f .nadr ≡ 255 → ⊥) where
+    pub frame-unicast : headerOf f .nadr ≡ st .node .settings .address
+        → handleFrame f st o ≡ respond (st .node .settings) (itemOf f) (execute (itemOf f) st) o
+    unfolding handleFrame
+    frame-unicast e = rw (ne-eqb (headerOf f .nadr) 255 n, eq-eqb (headerOf f .nadr) (st .node .settings .address) e)
+
+    pub frame-other : (headerOf f .nadr ≡ st .node .settings .address → ⊥) → handleFrame f st o ≡ noResponse st 0 o
+    unfolding handleFrame
+    frame-other e = rw (ne-eqb (headerOf f .nadr) 255 n, ne-eqb (headerOf f .nadr) (st .node .settings .address) e)
+
+  pub call-refused : {k : ℕ} → k ≡ refusalOf f st o → (k ≡ 0 → ⊥) → noResponse st k o ≡ handleRequest f st o
+  unfolding handleRequest
+  call-refused e n =
+      rw (ne-eqb (refusalOf f st o) 0 (λ z. n (e ∙ z))) (ap (λ (r : ℕ). noResponse st r o) e)
+
+  pub call-accepted : refusalOf f st o ≡ 0 → handleRequest f st o ≡ handleFrame f st o
+  unfolding handleRequest
+  call-accepted e = rw (eq-eqb (refusalOf f st o) 0 e)
+
+-- What holds of a call that does nothing, of a broadcast and of a response holds of every call.
+pub call-cases : (P : CallResult → Type 0) (f : List ℕ) (st : State) (o : List ℕ) → ((k : ℕ) → P (noResponse st k o))
+    → (refusalOf f st o ≡ 0 → P (broadcast (execute (itemOf f) st) o))
+    → (refusalOf f st o ≡ 0 → P (respond (st .node .settings) (itemOf f) (execute (itemOf f) st) o))
+    → P (handleRequest f st o)
+unfolding handleRequest handleFrame
+call-cases P f st o nothing all own =
+    by-cond P (eqb (refusalOf f st o) 0) _ _
+    (λ z. by-cond P (eqb (headerOf f .nadr) broadcastNadr) _ _ (λ _. all (eqb-true _ _ z))
+    (λ _. by-cond P (eqb (headerOf f .nadr) (st .node .settings .address)) _ _ (λ _. own (eqb-true _ _ z)) (λ _. nothing 0)))
+    (λ _. nothing (refusalOf f st o))
+
+-- a call answers "addressed" exactly where it is not refused and NADR is the broadcast's or the node's
+pub addressed-exact : (f : List ℕ) (st : State) (o : List ℕ)
+    → handleRequest f st o .addressed
+    ≡ (eqb (handleRequest f st o .refusal) 0 && (eqb (headerOf f .nadr) broadcastNadr || eqb (headerOf f .nadr) (st .node .settings .address)))
+unfolding handleRequest handleFrame
+addressed-exact f st o =
+    let all = eqb (headerOf f .nadr) broadcastNadr in
+    let own = eqb (headerOf f .nadr) (st .node .settings .address) in
+    let Exact : CallResult → Type 0 = λ a. a .addressed ≡ (eqb (a .refusal) 0 && (all || own)) in
+    by-cond Exact (eqb (refusalOf f st o) 0) _ _
+    (λ _. by-cond Exact all _ _ (λ e. rw e) (λ e. by-cond Exact own _ _ (λ q. rw (e, q)) (λ q. rw (e, q))))
+    (λ e. rw e)
+
+-- what is known where no refusal was given
+module _ (n : Node) (f e x r : ℕ) (z : requestRefusal n f e x r ≡ 0) where
+  pub refusal-none : (nodeOk n ≡ true) × (6 ≤ f) × (64 ≤ r) × (e ≡ 192) × (x ≡ 16384)
+  unfolding requestRefusal
+  refusal-none =
+      let a = first-taken (nodeOk n) _ 1 0 (λ q. omega arith) z in
+      let b = first-taken (frameFits f) _ 2 0 (λ q. omega arith) (a .1) in
+      let c = second-taken (ltb r 64) 3 _ 0 (λ q. omega arith) (b .1) in
+      let d = first-taken (eqb e 192) _ 4 0 (λ q. omega arith) (c .1) in
+      let g = first-taken (eqb x 16384) 0 4 0 (λ q. omega arith) (d .1) in
+      (a .0, fits-sizes f (b .0) .0, ltb-false _ _ (c .0), eqb-true _ _ (d .0), eqb-true _ _ (g .0))
+
+pub accepted-rule : (n : Node) (e x : List ℕ) (f r : ℕ) → requestRefusal n f (length e) (length x) r ≡ 0 → StateRule (state n e x)
+accepted-rule n e x f r z =
+    let k = refusal-none n f (length e) (length x) r z in
+    record { node-ok = k .0; eeprom-size = k .3; external-size = k .4 }
+
+-- what the code leaves
+pub call-result-as : {r t : RequestAnswer} {e x o : List ℕ} → r ≡ t → callResult r e x o ≡ callResult t e x o
+call-result-as {r} {t} {e} {x} {o} q = ap (λ (u : RequestAnswer). callResult u e x o) q
+
+-- the response: data in the lent rear part of the buffer, then the header in front
+pub unicast-answer : (o m : List ℕ) → 8 ≤ length o → (k : ReadOnly) (i : Item) (a : Outcome) {c : RequestReply} {r e x w : List ℕ}
+    → outcomeSeen k c r e x m ≡ outcomeInBuffer a (midOf 8 (length o - 8) o)
+    → w ≡ responseHeader (k .settings) (i .pnum) (i .pcmd) (c .error) ++ drop 8 (putMid 8 (length o - 8) o m)
+    → callResultFromParts k (record { length = 8 + c .length; report = c .report; lamps = c .lamps }) r e x w ≡ respond (k .settings) i a o
+unicast-answer o m h k i a {c} {r} {e} {x} {w} q u =
+    ap (callResultFromParts k (record { length = 8 + c .length; report = c .report; lamps = c .lamps }) r e x)
+    (u ∙ ap (λ (l : List ℕ). responseHeader (k .settings) (i .pnum) (i .pcmd) (c .error) ++ l) (rear-back 8 o m h))
+    ∙ ap headed q
+    ∙ ap answered (rear-lent 8 o)
+    ∙ ap (λ (l : List ℕ). record { after = a .after; refusal = 0; length = 8 + length (a .bytes); report = a .report; addressed = true; response = l })
+    (sym (header-written (responseHeader (k .settings) (i .pnum) (i .pcmd) (a .error)) (a .bytes) o))
+  where
+    headed : SeenOutcome → CallResult
+    headed l =
+        record { after = l .after; refusal = 0; length = 8 + l .length; report = l .report; addressed = true; response = responseHeader (k .settings) (i .pnum) (i .pcmd) (l .error) ++ l .out }
+
+    answered : List ℕ → CallResult
+    answered l =
+        record { after = a .after; refusal = 0; length = 8 + length (a .bytes); report = a .report; addressed = true; response = responseHeader (k .settings) (i .pnum) (i .pcmd) (a .error) ++ overwriteFront (a .bytes) l }

@@ -1,0 +1,15 @@
+use borrow.Author.Tests.{eq-eqb, ne-eqb}
+use Rattle.handler.specs.Request.{hwpidMatches}
+use Rattle.handler.proofs.entries.hwpid_matches.Statement.{statement}
+use Rattle.handler.proofs.entries.hwpid_matches.Tie as tie
+
+returns : tie.Need-returns
+unfolding hwpidMatches
+returns c = simp (eq-eqb _ _ (c .if1 .taken))
+
+returns-2 : tie.Need-returns-2
+unfolding hwpidMatches
+returns-2 c = simp (ne-eqb _ _ (c .if1 .left))
+
+pub hwpid-matches-spec : {M : Type 1} → statement M
+hwpid-matches-spec = tie.close (tie.spec returns returns-2)

@@ -1,0 +1,14 @@
+use borrow.Author.Needs.{needs}
+use mathlib.Core.Path.{ap}
+use mathlib.Core.Bool.{true}
+use Rattle.handler.specs.Request.{SeenOutcome}
+use Rattle.handler.proofs.request.handle_broadcast.Statement.{statement}
+use Rattle.handler.proofs.request.handle_broadcast.Tie as tie
+
+returns : tie.Need-returns
+returns c = λ o. ap (λ (l : SeenOutcome). record { after = l .after; refusal = 0; length = 0; report = l .report; addressed = true; response = o }) (c .before .before .before .before .before .before .before .before .before .execute .ensures)
+
+pub handle-broadcast-spec : {M : Type 1} → statement M
+handle-broadcast-spec =
+    tie.close (tie.spec (λ c. search needs) (λ c κs. search needs) (λ c. search needs) (λ c. search needs)
+    (λ c. search needs) returns)
