@@ -218,6 +218,8 @@ static void gateway(void)
     memset(out, 0xEE, sizeof out);
     answer = grelfint_confirm(frame, sizeof frame, 7, 6, 6, false, out, sizeof out);
     check("confirmation", answer.refusal == 0 && answer.length == 11 && memcmp(out, want, sizeof want) == 0);
+    answer = grelfint_confirm(frame, sizeof frame, 7, 2, 3, false, out, sizeof out);
+    check("hops and response hops", answer.refusal == 0 && out[8] == 2 && out[10] == 3);
     check("no room", grelfint_confirm(frame, sizeof frame, 7, 6, 6, false, out, 63).refusal == 3);
     check("short frame", grelfint_confirm(frame, 5, 7, 6, 6, false, out, sizeof out).refusal == 2);
     check("timeslots", grelfint_timeslot(16, false).slot == 4 && grelfint_timeslot(17, false).slot == 5 &&

@@ -281,6 +281,10 @@ fn guide_confirmation_example(side: Side) {
     assert_eq!((a.refusal, a.length), (0, 11));
     assert_eq!(out[..11], [0x0A, 0, 7, 1, 0xFF, 0xFF, 0xFF, 7, 6, 4, 6]);
     assert!(out[11..].iter().all(|&b| b == 0xEE));
+    // unequal hops: the hops come before the timeslot, the response hops after it
+    let a = (side.confirm)(&[0x0A, 0, 7, 1, 0xFF, 0xFF], 7, 2, 3, false, &mut out);
+    assert_eq!((a.refusal, a.length), (0, 11));
+    assert_eq!(out[8..11], [2, 4, 3]);
     // broadcast: the response hops are 0
     let a = (side.confirm)(&[0xFF, 0, 7, 1, 0xFF, 0xFF], 7, 6, 6, true, &mut out);
     assert_eq!((a.refusal, a.length), (0, 11));
