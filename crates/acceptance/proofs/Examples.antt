@@ -13,11 +13,11 @@ use Rattle.book.specs.Book.{chained, bookOk, sceneOf}
 use Rattle.book.specs.Step.{stepTimeOk, lampFault, byteFault, stepFault}
 use Rattle.book.specs.Entry.{powerBytes, entryData, pnumOf, pcmdOf}
 use Rattle.book.specs.Join.{follows}
-use Rattle.scene.specs.Call.{minOutput, addressOk, compileScene, compileOf}
+use Rattle.scene.specs.Call.{minOutput, addressOk, compileScene, compileFor}
 use Rattle.acceptance.specs.Examples.{WorkedExamples, OwnExamples}
 
 pub worked-examples : WorkedExamples
-unfolding bits bitmap actualLevel powerOk timeOk secondsOf lampAfter lampsAfter levelsBefore changeLamps lightsRequest addWithCarry addByte sums nextEntry readFrom baseSlot networkExtra slotOf directionTime earliestOf sendOf perform hwpidMatches batchRequest osRequest execute entryBytes entriesBytes chained bookOk sceneOf stepTimeOk lampFault byteFault stepFault powerBytes entryData pnumOf pcmdOf follows addressOk compileScene compileOf
+unfolding bits bitmap actualLevel powerOk timeOk secondsOf lampAfter lampsAfter levelsBefore changeLamps lightsRequest addWithCarry addByte sums nextEntry readFrom baseSlot networkExtra slotOf directionTime earliestOf sendOf perform hwpidMatches batchRequest osRequest execute entryBytes entriesBytes chained bookOk sceneOf stepTimeOk lampFault byteFault stepFault powerBytes entryData pnumOf pcmdOf follows addressOk compileScene compileFor
 worked-examples =
     record {
       set-answers = refl;

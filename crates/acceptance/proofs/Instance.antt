@@ -22,7 +22,7 @@ use Rattle.book.specs.Machine.{wellFormed, machineLevel, machineSeconds, machin
 use Rattle.book.specs.Entry.{powerBytes, entryData, pnumOf, pcmdOf}
 use Rattle.book.specs.Join.{follows, entryLimit}
 use Rattle.scene.specs.Compile.{listLimit, batchesOf, compiled}
-use Rattle.scene.specs.Call.{minOutput, requestsIn, compileOf}
+use Rattle.scene.specs.Call.{minOutput, requestsIn, compileFor}
 use Rattle.acceptance.specs.SceneTheorem.{Addressable, SceneRule, Given, DoneAsSteps, afterCalls}
 use Rattle.acceptance.proofs.Refusals.{compile-refusals}
 use Rattle.acceptance.proofs.Scenes.{condition-3}
@@ -82,7 +82,7 @@ faultless =
 abbrev out : List ℕ
 out = replicate minOutput 0xCC
 
-accepted : (a h : ℕ) → Addressable a → compileOf book 1 a h out .refusal ≡ 0
+accepted : (a h : ℕ) → Addressable a → compileFor book 1 a h out .refusal ≡ 0
 accepted a h ad = compile-refusals book 1 a h out .none .1 (ad, faultless, omega (arith, length-replicate {A = ℕ} minOutput 0xCC))
 
 -- it compiles to two requests, of five entries and of one
@@ -112,10 +112,10 @@ pub done-all : DoneAsSteps 0x05 broadcastNadr buffers (compiled broadcastNadr an
 done-all = condition-3 .requests before buffers book 1 broadcastNadr anyHwpid given-all faultless
 
 -- and so do those in the output buffer
-pub buffer-own : DoneAsSteps 0x05 7 buffers (requestsIn (compileOf book 1 7 0x2471 out .buffer)) (sceneOf book 1) before
+pub buffer-own : DoneAsSteps 0x05 7 buffers (requestsIn (compileFor book 1 7 0x2471 out .buffer)) (sceneOf book 1) before
 buffer-own = condition-3 .buffer before buffers book 1 7 0x2471 out given-own (accepted 7 0x2471 (inl (omega arith, omega arith)))
 
-pub buffer-all : DoneAsSteps 0x05 broadcastNadr buffers (requestsIn (compileOf book 1 broadcastNadr anyHwpid out .buffer)) (sceneOf book 1) before
+pub buffer-all : DoneAsSteps 0x05 broadcastNadr buffers (requestsIn (compileFor book 1 broadcastNadr anyHwpid out .buffer)) (sceneOf book 1) before
 buffer-all = condition-3 .buffer before buffers book 1 broadcastNadr anyHwpid out given-all (accepted broadcastNadr anyHwpid (inr refl))
 
 -- and the node ends with these lamps, timers and bytes

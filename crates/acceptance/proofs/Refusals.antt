@@ -19,7 +19,7 @@ use Rattle.book.specs.Step.{stepFault, goodStep, firstBadFrom}
 use Rattle.dpa.proofs.All.{all-weaken}
 use Rattle.book.proofs.Faults.{Good, no-bad}
 use Rattle.scene.specs.Compile.{compiled}
-use Rattle.scene.specs.Call.{CompileResult, output, minOutput, refusedAt, written, addressOk, compileSteps, compileScene, compileOf}
+use Rattle.scene.specs.Call.{CompileResult, output, minOutput, refusedAt, written, addressOk, compileSteps, compileScene, compileFor}
 use Rattle.scene.proofs.Outputs.{Faultless, written-whole, compile-refused}
 use Rattle.acceptance.specs.SceneTheorem.{Addressable, NoFault, SceneRule, FirstBad, Refusals}
 
@@ -122,30 +122,30 @@ module _ (b : List ℕ) (k a h : ℕ) (out : List ℕ) where
   Accepted = Addressable a × SceneRule b k × (minOutput ≤ length out)
 
   -- what each fault is answered with
-  address-answer : ¬ Addressable a → compileOf b k a h out ≡ refusedAt 1 0 out
-  unfolding compileOf compileScene
+  address-answer : ¬ Addressable a → compileFor b k a h out ≡ refusedAt 1 0 out
+  unfolding compileFor compileScene
   address-answer n = by-test (addressOk a) (λ t. absurd (n (addressable a .1 t))) (λ t. rw t refl)
 
-  book-answer : IllFormed → compileOf b k a h out ≡ refusedAt 6 0 out
-  unfolding compileOf compileScene
+  book-answer : IllFormed → compileFor b k a h out ≡ refusedAt 6 0 out
+  unfolding compileFor compileScene
   book-answer f = rw (addressable a .0 (f .0), f .1)
 
-  number-answer : Unknown → compileOf b k a h out ≡ refusedAt 7 0 out
-  unfolding compileOf compileScene
+  number-answer : Unknown → compileFor b k a h out ≡ refusedAt 7 0 out
+  unfolding compileFor compileScene
   number-answer f = rw (addressable a .0 (f .0), f .1, le-leb (countOf b) k (f .2))
 
-  step-answer : (j : ℕ) → BadStep j → compileOf b k a h out ≡ refusedAt 8 j out
-  unfolding compileOf compileScene
+  step-answer : (j : ℕ) → BadStep j → compileFor b k a h out ≡ refusedAt 8 j out
+  unfolding compileFor compileScene
   step-answer j f = rw (addressable a .0 (f .0), f .1, lt-leb (countOf b) k (f .2), first-bad-step (sceneOf b k) j .1 (f .3))
 
-  room-answer : NoRoom → compileOf b k a h out ≡ refusedAt 9 0 out
-  unfolding compileOf compileScene
+  room-answer : NoRoom → compileFor b k a h out ≡ refusedAt 9 0 out
+  unfolding compileFor compileScene
   room-answer f =
       let w = rule-faultless b k (f .1) in
       rw (addressable a .0 (f .0), w .book, lt-leb (countOf b) k (w .number), w .steps, lt-ltb (length out) minOutput (f .2))
 
   -- without a fault the call writes the output
-  pub accepted-answer : Accepted → compileOf b k a h out ≡ written (output (compiled a h (sceneOf b k))) out
+  pub accepted-answer : Accepted → compileFor b k a h out ≡ written (output (compiled a h (sceneOf b k))) out
   accepted-answer f = written-whole b k a h out (addressable a .0 (f .0)) (f .2) (rule-faultless b k (f .1))
 
   -- one of the cases applies: what holds of each answer holds of the call's
@@ -164,8 +164,8 @@ module _ (b : List ℕ) (k a h : ℕ) (out : List ℕ) where
         record { well-formed = ok; known = below; no-fault = good-no-fault (sceneOf b k) (no-bad (sceneOf b k) .0 e) } in
         by-cond P (ltb (length out) minOutput) _ _ (λ t. no-room (ad, r, ltb-true _ _ t)) (λ t. accepted (ad, r, ltb-false _ _ t))
 
-    pub compile-cases : P (compileOf b k a h out)
-    unfolding compileOf compileScene
+    pub compile-cases : P (compileFor b k a h out)
+    unfolding compileFor compileScene
     compile-cases =
         by-cond P (not (addressOk a)) _ _
         (λ t. address (λ ad. let z : _≡_ {A = ℕ} 0 1 = cc (addressable a .0 ad, not-true (addressOk a) t) in absurd (omega arith)))
@@ -179,7 +179,7 @@ module _ (b : List ℕ) (k a h : ℕ) (out : List ℕ) where
   numberOf r = r .refusal
 
   -- each number exactly for its fault
-  pub compile-refusals : Refusals b k a out (compileOf b k a h out)
+  pub compile-refusals : Refusals b k a out (compileFor b k a h out)
   compile-refusals =
       record {
         address = (

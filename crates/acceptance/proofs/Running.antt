@@ -17,7 +17,7 @@ use Rattle.handler.proofs.Soundness.{request-rule}
 use Rattle.book.specs.Book.{sceneOf}
 use Rattle.book.specs.Machine.{machine}
 use Rattle.scene.specs.Compile.{compiled}
-use Rattle.scene.specs.Call.{CompileResult, output, requestsIn, compileOf}
+use Rattle.scene.specs.Call.{CompileResult, output, requestsIn, compileFor}
 use Rattle.scene.proofs.Outputs.{compile-refused}
 use Rattle.acceptance.specs.SceneTheorem.{Given, afterCalls}
 use Rattle.acceptance.specs.RunScene.{cleared, Holds, Ran, notRun, afterCompile, runScene}
@@ -46,7 +46,7 @@ module _ (book : List ℕ) (k : ℕ) (st : State) (out : List ℕ) where
 
       -- what the compiler answered, with node and memories as they are to be
       module _ (x : length (st .external) ≡ sizeOf External) (c : CompileResult)
-          (q : c ≡ compileOf book k (st .node .settings .address) (st .node .settings .hwpid) out) where
+          (q : c ≡ compileFor book k (st .node .settings .address) (st .node .settings .hwpid) out) where
         rule : StateRule st
         rule = record { node-ok = ok; eeprom-size = e; external-size = x }
 
@@ -61,7 +61,7 @@ module _ (book : List ℕ) (k : ℕ) (st : State) (out : List ℕ) where
         run-refused n = sym (compiled-first ∙ rw (ne-eqb (c .refusal) 0 n))
 
         module _ (z : c .refusal ≡ 0) where
-          accepted : compileOf book k (st .node .settings .address) (st .node .settings .hwpid) out .refusal ≡ 0
+          accepted : compileFor book k (st .node .settings .address) (st .node .settings .hwpid) out .refusal ≡ 0
           accepted = sym (ap (λ (d : CompileResult). d .refusal) q) ∙ z
 
           -- the buffer holds the requests
@@ -105,7 +105,7 @@ module _ (book : List ℕ) (k : ℕ) (st : State) (out : List ℕ) where
       by-cond Unrun (nodeOk (st .node)) _ _
       (λ _. by-cond Unrun (eqb (length (st .eeprom)) (sizeOf Eeprom)) _ _
       (λ _. by-cond Unrun (eqb (length (st .external)) (sizeOf External)) _ _
-      (λ _. by-cond Unrun (eqb (compileOf book k a h out .refusal) 0) _ _
+      (λ _. by-cond Unrun (eqb (compileFor book k a h out .refusal) 0) _ _
       (λ _ n. absurd (n refl))
       (λ _ n. (refl, compile-refused book k a h out n .1)))
       (λ _ _. (refl, refl)))
@@ -118,7 +118,7 @@ module _ (book : List ℕ) (k : ℕ) (st : State) (out : List ℕ) where
   scene-rule r =
       let a = st .node .settings .address in
       let h = st .node .settings .hwpid in
-      let c = compileOf book k a h out in
+      let c = compileFor book k a h out in
       let Kept : Ran → Type 0 = λ (x : Ran). StateRule (x .after) in
       by-cond Kept (nodeOk (st .node)) _ _
       (λ _. by-cond Kept (eqb (length (st .eeprom)) (sizeOf Eeprom)) _ _

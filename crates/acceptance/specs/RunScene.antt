@@ -11,7 +11,7 @@ use Rattle.node.specs.Node.{nodeOk}
 use Rattle.handler.specs.Request.{State, state}
 use Rattle.book.specs.Book.{sceneOf}
 use Rattle.book.specs.Machine.{machine}
-use Rattle.scene.specs.Call.{CompileResult, compileOf}
+use Rattle.scene.specs.Call.{CompileResult, compileFor}
 use Rattle.acceptance.specs.declared.run.SceneAnswer.{SceneAnswer}
 
 -- the response buffer of each call
@@ -50,7 +50,7 @@ runScene book k st out =
     cond (nodeOk (st .node))
     (cond (eqb (length (st .eeprom)) (sizeOf Eeprom))
     (cond (eqb (length (st .external)) (sizeOf External))
-    (afterCompile (compileOf book k (st .node .settings .address) (st .node .settings .hwpid) out) st (machine (sceneOf book k) st))
+    (afterCompile (compileFor book k (st .node .settings .address) (st .node .settings .hwpid) out) st (machine (sceneOf book k) st))
     (notRun 4 0 st out))
     (notRun 4 0 st out))
     (notRun 1 0 st out)

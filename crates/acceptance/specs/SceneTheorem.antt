@@ -26,7 +26,7 @@ use Rattle.book.specs.Book.{countOf, bookOk, sceneOf}
 use Rattle.book.specs.Step.{stepFault}
 use Rattle.book.specs.Machine.{machine}
 use Rattle.scene.specs.Compile.{compiled}
-use Rattle.scene.specs.Call.{CompileResult, minOutput, requestsIn, compileOf}
+use Rattle.scene.specs.Call.{CompileResult, minOutput, requestsIn, compileFor}
 
 -- ---- what compiling refuses
 
@@ -120,12 +120,12 @@ SceneTheorem =
 abbrev pub BufferTheorem : Type 0
 BufferTheorem =
     (st : State) (buffers : ℕ → List ℕ) (book : List ℕ) (scene a h : ℕ) (out : List ℕ)
-    → Given st buffers a h → compileOf book scene a h out .refusal ≡ 0
-    → DoneAsSteps 0x05 a buffers (requestsIn (compileOf book scene a h out .buffer)) (sceneOf book scene) st
+    → Given st buffers a h → compileFor book scene a h out .refusal ≡ 0
+    → DoneAsSteps 0x05 a buffers (requestsIn (compileFor book scene a h out .buffer)) (sceneOf book scene) st
 
 -- ---- condition 3
 
 pub record Condition3 : Type 0 where
-  pub refusals : (book : List ℕ) (scene a h : ℕ) (out : List ℕ) → Refusals book scene a out (compileOf book scene a h out)
+  pub refusals : (book : List ℕ) (scene a h : ℕ) (out : List ℕ) → Refusals book scene a out (compileFor book scene a h out)
   pub requests : SceneTheorem
   pub buffer : BufferTheorem

@@ -26,7 +26,7 @@ use Rattle.book.proofs.Groups.{length-group}
 use Rattle.book.proofs.Books.{scene-length}
 use Rattle.scene.specs.declared.fill.SizeLimits.{SizeLimits}
 use Rattle.scene.specs.Compile.{listLimit, Limits, fills, batchesOf, requestWith, compiled}
-use Rattle.scene.specs.Call.{lengths, output, splitBy, requestsIn, minOutput, CompileResult, written, addressOk, compileSteps, compileScene, compileOf}
+use Rattle.scene.specs.Call.{lengths, output, splitBy, requestsIn, minOutput, CompileResult, written, addressOk, compileSteps, compileScene, compileFor}
 use Rattle.scene.specs.Fill.{requestsWith}
 use Rattle.scene.proofs.Sizes.{Frame-sized, requests-fit}
 use Rattle.scene.proofs.Lists.{limits}
@@ -133,29 +133,29 @@ module _ (b : List ℕ) (k : ℕ) (requests : List Step → List (List ℕ)) (ou
 module _ (b : List ℕ) (k a h : ℕ) (out : List ℕ) where
   -- with address and room in range, a call without faults is not refused: it writes the output
   pub written-whole : addressOk a ≡ true → minOutput ≤ length out → Faultless b k
-      → compileOf b k a h out ≡ written (output (compiled a h (sceneOf b k))) out
-  unfolding compileOf
+      → compileFor b k a h out ≡ written (output (compiled a h (sceneOf b k))) out
+  unfolding compileFor
   written-whole ad room f = rw ad (scene-written b k (compiled a h) out room f)
 
   -- a call that is not refused has no faults
-  pub refused-none : compileOf b k a h out .refusal ≡ 0 → Faultless b k
-  unfolding compileOf
+  pub refused-none : compileFor b k a h out .refusal ≡ 0 → Faultless b k
+  unfolding compileFor
   refused-none =
       by-cond (Whole b k (compiled a h) out) (not (addressOk a)) _ _ (λ _ z. absurd (omega arith)) (λ _. scene-whole b k (compiled a h) out)
 
   -- a refused call has no output, and the buffer stays
-  pub compile-refused : (compileOf b k a h out .refusal ≡ 0 → ⊥) → (compileOf b k a h out .length ≡ 0) × (compileOf b k a h out .buffer ≡ out)
-  unfolding compileOf
+  pub compile-refused : (compileFor b k a h out .refusal ≡ 0 → ⊥) → (compileFor b k a h out .length ≡ 0) × (compileFor b k a h out .buffer ≡ out)
+  unfolding compileFor
   compile-refused =
       by-cond (Unwritten b k (compiled a h) out) (not (addressOk a)) _ _ (λ _ _. (refl, refl)) (λ _. scene-unwritten b k (compiled a h) out)
 
   -- refusal 0 exactly without faults, where address and room are in range
-  pub refusal-exact : addressOk a ≡ true → minOutput ≤ length out → (compileOf b k a h out .refusal ≡ 0) ↔ Faultless b k
+  pub refusal-exact : addressOk a ≡ true → minOutput ≤ length out → (compileFor b k a h out .refusal ≡ 0) ↔ Faultless b k
   refusal-exact ad room = (refused-none, λ f. ap (λ (r : CompileResult). r .refusal) (written-whole ad room f))
 
   -- and what it wrote is read back as the requests
   pub buffer-back : addressOk a ≡ true → minOutput ≤ length out → Faultless b k
-      → requestsIn (compileOf b k a h out .buffer) ≡ compiled a h (sceneOf b k)
+      → requestsIn (compileFor b k a h out .buffer) ≡ compiled a h (sceneOf b k)
   buffer-back ad room f =
       let rs = compiled a h (sceneOf b k) in
       ap (λ (r : CompileResult). requestsIn (r .buffer)) (written-whole ad room f) ∙ requests-back rs (drop (length (output rs)) out)

@@ -47,8 +47,8 @@ pub record CompileResult : Type 0 where
   pub length : ℕ
   pub buffer : List ℕ
 
-abbrev pub compiledAs : CompileAnswer → List ℕ → CompileResult
-compiledAs r out = record { refusal = r .refusal; step = r .step; length = r .length; buffer = out }
+abbrev pub compileResult : CompileAnswer → List ℕ → CompileResult
+compileResult r out = record { refusal = r .refusal; step = r .step; length = r .length; buffer = out }
 
 -- refused: nothing is written
 abbrev pub refusedAt : ℕ → ℕ → List ℕ → CompileResult
@@ -77,5 +77,5 @@ compileScene b k requests out =
     (compileSteps (firstBadFrom 0 (sceneOf b k)) (requests (sceneOf b k)) out))
 
 -- a book, a scene's number, an address, a profile, and the output buffer
-unfoldable pub compileOf : List ℕ → ℕ → ℕ → ℕ → List ℕ → CompileResult
-compileOf b k a h out = cond (not (addressOk a)) (refusedAt 1 0 out) (compileScene b k (compiled a h) out)
+unfoldable pub compileFor : List ℕ → ℕ → ℕ → ℕ → List ℕ → CompileResult
+compileFor b k a h out = cond (not (addressOk a)) (refusedAt 1 0 out) (compileScene b k (compiled a h) out)

@@ -17,7 +17,7 @@ ghost use Rattle.dpa.specs.Frame.{anyHwpid};
 ghost use Rattle.book.specs.Book.{stepsMax, stepLength, stepsIn};
 ghost use Rattle.book.specs.Step.{firstBadFrom};
 ghost use Rattle.scene.specs.Compile.{Limits};
-ghost use Rattle.scene.specs.Call.{addressOk, compileSteps, compileScene, compileOf, compiledAs};
+ghost use Rattle.scene.specs.Call.{addressOk, compileSteps, compileScene, compileFor, compileResult};
 ghost use Rattle.scene.specs.Fill.{requestsWith};
 
 // A batch: the longest PData of an entry, and the longest list.
@@ -68,7 +68,7 @@ fn compile_steps(
     out: &mut [u8],
 ) -> CompileAnswer
     requires { ⌜ (stepLength * count ≤ length (now body)) × (count ≤ stepsMax) × Limits (most .entry) (most .list) (now front) ⌝ }
-    ensures { λ r. ⌜ compiledAs r (now (out .exit))
+    ensures { λ r. ⌜ compileResult r (now (out .exit))
         ≡ compileSteps (firstBadFrom 0 (stepsIn count (now (body .entry)))) (requestsWith most head (now (front .entry)) (stepsIn count (now (body .entry))))
         (now (out .entry)) ⌝ }
 {
@@ -97,7 +97,7 @@ fn compile_scene(
     out: &mut [u8],
 ) -> CompileAnswer
     requires { ⌜ Limits (most .entry) (most .list) (now front) ⌝ }
-    ensures { λ r. ⌜ compiledAs r (now (out .exit))
+    ensures { λ r. ⌜ compileResult r (now (out .exit))
         ≡ compileScene (now (book .entry)) scene (requestsWith most head (now (front .entry))) (now (out .entry)) ⌝ }
 {
     if !book_ok(book) {
@@ -115,7 +115,7 @@ fn compile_scene(
 
 // A scene of a book as batches for an address and a hardware profile.
 pub fn compile(book: &[u8], scene: usize, address: u16, hwpid: u16, out: &mut [u8]) -> CompileAnswer
-    ensures { λ r. ⌜ compiledAs r (now (out .exit)) ≡ compileOf (now (book .entry)) scene address hwpid (now (out .entry)) ⌝ }
+    ensures { λ r. ⌜ compileResult r (now (out .exit)) ≡ compileFor (now (book .entry)) scene address hwpid (now (out .entry)) ⌝ }
 {
     if !address_ok(address) {
         return refused(refusal::NODE, 0);
@@ -135,7 +135,7 @@ pub fn compile(book: &[u8], scene: usize, address: u16, hwpid: u16, out: &mut [u
 
 // The same with the profile that every node takes.
 pub fn compile_default(book: &[u8], scene: usize, address: u16, out: &mut [u8]) -> CompileAnswer
-    ensures { λ r. ⌜ compiledAs r (now (out .exit)) ≡ compileOf (now (book .entry)) scene address anyHwpid (now (out .entry)) ⌝ }
+    ensures { λ r. ⌜ compileResult r (now (out .exit)) ≡ compileFor (now (book .entry)) scene address anyHwpid (now (out .entry)) ⌝ }
 {
     compile(book, scene, address, Frame::ANY_HWPID, out)
 }

@@ -7,7 +7,7 @@ use Rattle.memory.specs.declared.block.Memory.the-variants.{Eeprom, External}
 use Rattle.memory.specs.Block.{sizeOf}
 use Rattle.node.specs.Node.{nodeOk}
 use Rattle.handler.specs.Request.{state}
-use Rattle.scene.specs.Call.{compiledAs}
+use Rattle.scene.specs.Call.{compileResult}
 use Rattle.acceptance.specs.declared.run.SceneAnswer.{SceneAnswer}
 use Rattle.acceptance.specs.RunScene.{ranAs}
 use Rattle.acceptance.proofs.Running.{run-broken, run-eeprom, run-external, run-refused, run-holds, run-done}
@@ -47,20 +47,20 @@ returns-4 c =
     let k = c .before .before .before .before .before in
     let a = k .before .before .before .before .before .before .before .before .before .before .before .before .before .args in
     ap (λ (r : SceneAnswer). ranAs r (a .eeprom .now) (a .external .now) (k .compile .last .1 .1 .1 .1 .0)) (c .answer4 .ensures)
-    ∙ run-refused (a .book .now) (a .scene) (state (a .node) (a .eeprom .now) (a .external .now)) (a .out .now) (node-sound (k .before .before .before .before .before .before .before)) (eeprom-size (k .before .before .before .before .before)) (external-size (k .before .before .before)) (compiledAs (k .compile .result) (k .compile .last .1 .1 .1 .1 .0)) (k .compile .ensures) (c .before .if4 .taken)
+    ∙ run-refused (a .book .now) (a .scene) (state (a .node) (a .eeprom .now) (a .external .now)) (a .out .now) (node-sound (k .before .before .before .before .before .before .before)) (eeprom-size (k .before .before .before .before .before)) (external-size (k .before .before .before)) (compileResult (k .compile .result) (k .compile .last .1 .1 .1 .1 .0)) (k .compile .ensures) (c .before .if4 .taken)
 
 take-output-requires : tie.Need-take-output-requires
 take-output-requires c κs =
     let k = c .before .before .before .before .before .before .before in
     let a = k .before .before .before .before .before .before .before .before .before .before .before .before .before .args in
-    run-holds (a .book .now) (a .scene) (state (a .node) (a .eeprom .now) (a .external .now)) (a .out .now) (node-sound (k .before .before .before .before .before .before .before)) (eeprom-size (k .before .before .before .before .before)) (external-size (k .before .before .before)) (compiledAs (k .compile .result) (k .compile .last .1 .1 .1 .1 .0)) (k .compile .ensures) (c .before .before .before .if4 .left)
+    run-holds (a .book .now) (a .scene) (state (a .node) (a .eeprom .now) (a .external .now)) (a .out .now) (node-sound (k .before .before .before .before .before .before .before)) (eeprom-size (k .before .before .before .before .before)) (external-size (k .before .before .before)) (compileResult (k .compile .result) (k .compile .last .1 .1 .1 .1 .0)) (k .compile .ensures) (c .before .before .before .if4 .left)
 
 returns-5 : tie.Need-returns-5
 returns-5 c =
     let k = c .before .before .before .before .before .before .before .before .before .before .before .before .before in
     let a = k .before .before .before .before .before .before .before .before .before .before .before .before .before .args in
     ap (λ (r : SceneAnswer). ranAs r (c .before .before .before .before .before .take-output .last .1 .1 .0) (c .before .before .before .before .before .take-output .last .1 .1 .1 .0) (k .compile .last .1 .1 .1 .1 .0)) (c .answer5 .ensures)
-    ∙ run-done (a .book .now) (a .scene) (state (a .node) (a .eeprom .now) (a .external .now)) (a .out .now) (node-sound (k .before .before .before .before .before .before .before)) (eeprom-size (k .before .before .before .before .before)) (external-size (k .before .before .before)) (compiledAs (k .compile .result) (k .compile .last .1 .1 .1 .1 .0)) (k .compile .ensures) (c .before .before .before .before .before .before .before .before .before .if4 .left) _ (c .before .before .before .before .before .take-output .ensures)
+    ∙ run-done (a .book .now) (a .scene) (state (a .node) (a .eeprom .now) (a .external .now)) (a .out .now) (node-sound (k .before .before .before .before .before .before .before)) (eeprom-size (k .before .before .before .before .before)) (external-size (k .before .before .before)) (compileResult (k .compile .result) (k .compile .last .1 .1 .1 .1 .0)) (k .compile .ensures) (c .before .before .before .before .before .before .before .before .before .if4 .left) _ (c .before .before .before .before .before .take-output .ensures)
 
 pub run-scene-spec : {M : Type 1} → statement M
 run-scene-spec =

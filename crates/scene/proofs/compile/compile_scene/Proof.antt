@@ -10,7 +10,7 @@ use Rattle.book.specs.declared.contents.SceneLocation.{SceneLocation}
 use Rattle.book.specs.Book.{stepsMax, stepLength, countOf, bookOk, sceneOf, stepsIn}
 use Rattle.book.proofs.Books.{book-facts, body-within, scene-is}
 use Rattle.scene.specs.declared.compile.CompileAnswer.{CompileAnswer}
-use Rattle.scene.specs.Call.{compiledAs, compileScene}
+use Rattle.scene.specs.Call.{compileResult, compileScene}
 use Rattle.scene.proofs.compile.compile_scene.Statement.{statement}
 use Rattle.scene.proofs.compile.compile_scene.Tie as tie
 
@@ -32,7 +32,7 @@ returns : tie.Need-returns
 unfolding compileScene
 returns c =
     rw (sym (c .before .before .book-ok .ensures) ∙ not-true _ (c .before .if1 .taken))
-    (ap (λ (r : CompileAnswer). compiledAs r (c .before .before .before .before .before .before .args .out .now)) (c .refused .ensures))
+    (ap (λ (r : CompileAnswer). compileResult r (c .before .before .before .before .before .before .args .out .now)) (c .refused .ensures))
 
 shared-slice-read-wide : tie.Need-shared-slice-read-wide
 shared-slice-read-wide c = omega (arith, book-facts _ (book (c .before)))
@@ -41,7 +41,7 @@ returns-2 : tie.Need-returns-2
 unfolding compileScene
 returns-2 c =
     rw (book (c .before .before .before .before), le-leb _ _ (rw (c .before .before .wide .ensures .0) at (c .before .if2 .taken)))
-    (ap (λ (r : CompileAnswer). compiledAs r (c .before .before .before .before .before .before .before .before .before .args .out .now)) (c .refused2 .ensures))
+    (ap (λ (r : CompileAnswer). compileResult r (c .before .before .before .before .before .before .before .before .before .args .out .now)) (c .refused2 .ensures))
 
 scene-location-requires : tie.Need-scene-location-requires
 scene-location-requires c κs = omega (arith, book-facts _ (book (c .before .before .before)), below c)

@@ -6,7 +6,7 @@ use borrow.Author.Tests.{lt-ltb, le-ltb}
 use Rattle.book.specs.Book.{stepsIn}
 use Rattle.book.proofs.Books.{good-index}
 use Rattle.scene.specs.declared.compile.CompileAnswer.{CompileAnswer}
-use Rattle.scene.specs.Call.{output, minOutput, compiledAs}
+use Rattle.scene.specs.Call.{output, minOutput, compileResult}
 use Rattle.scene.specs.Fill.{requestsWith}
 use Rattle.scene.proofs.Outputs.{written-as}
 use Rattle.scene.proofs.Requests.{short}
@@ -20,13 +20,13 @@ returns : tie.Need-returns
 returns c =
     let out = c .before .before .before .before .before .before .args .out .now in
     rw (c .before .before .first-bad-step .ensures .1, lt-ltb _ _ (c .before .if1 .taken))
-    (ap (λ (r : CompileAnswer). compiledAs r out) (c .refused .ensures))
+    (ap (λ (r : CompileAnswer). compileResult r out) (c .refused .ensures))
 
 returns-2 : tie.Need-returns-2
 returns-2 c =
     let out = c .before .before .before .before .before .before .before .args .out .now in
     rw (c .before .before .before .first-bad-step .ensures .1, le-ltb _ _ (c .before .before .if1 .left), lt-ltb (length out) minOutput (c .before .if2 .taken))
-    (ap (λ (r : CompileAnswer). compiledAs r out) (c .refused2 .ensures))
+    (ap (λ (r : CompileAnswer). compileResult r out) (c .refused2 .ensures))
 
 write-output-requires : tie.Need-write-output-requires
 write-output-requires c κs =
