@@ -60,7 +60,7 @@ left-by s i end es o true = (refl, refl, refl, refl, refl, refl)
 left-by s i end es o false = (refl, refl, refl, refl, refl, refl)
 
 module _ (pcmd a h : ℕ) (pdata : List ℕ) (st : State) (o : List ℕ) (k : StateRule st)
-    (short : length (headerBytes (frame a osPnum pcmd h) ++ pdata) ≤ longestFrame) (room : longestResponse ≤ length o)
+    (length-max : length (headerBytes (frame a osPnum pcmd h) ++ pdata) ≤ longestFrame) (room : longestResponse ≤ length o)
     (mine : (a ≡ st .node .settings .address) ⊎ (a ≡ broadcastNadr))
     {end : State} {es : List ℕ} (did : execute (item osPnum pcmd h pdata) st ≡ finished end es) where
   abbrev request : List ℕ
@@ -75,7 +75,7 @@ module _ (pcmd a h : ℕ) (pdata : List ℕ) (st : State) (o : List ℕ) (k : St
 
   call-as : handleRequest request st o ≡ takenAs a (st .node .settings) (itemOf request) (finished end es) o
   call-as =
-      taken-as request st o k (not-refused request st o k (omega arith) short room) a (ap (λ (x : Frame). x .nadr) back) mine
+      taken-as request st o k (not-refused request st o k (omega arith) length-max room) a (ap (λ (x : Frame). x .nadr) back) mine
       ∙ ap (λ (x : Outcome). takenAs a (st .node .settings) (itemOf request) x o) request-did
 
   -- the call leaves what carrying out leaves

@@ -16,12 +16,12 @@ use Rattle.dpa.specs.declared.settings.Settings.{Settings}
 use Rattle.dpa.proofs.Bool.{by-test}
 use Rattle.lights.specs.Bits.{bits, count, bitmap}
 use Rattle.lights.specs.Lamp.{off}
-use Rattle.lights.specs.Lights.{powerOk, timeOk, secondsOf, change, good, entries, newLevel, lampAfter, lampsAfter, levelsBefore, changeLamps, lightsRequest}
+use Rattle.lights.specs.Lights.{powerOk, timeOk, secondsOf, change, allValid, powerEntries, newLevel, lampAfter, lampsAfter, levelsBefore, changeLamps, lightsRequest}
 use Rattle.lights.proofs.Bits.{bits-mask}
 use Rattle.lights.specs.declared.apply.Command.{Command}
 use Rattle.lights.specs.declared.apply.Command.the-variants.{Set, Raise, Lower}
 use Rattle.lights.specs.declared.lamp.Lamp.{Lamp}
-use Rattle.lights.specs.declared.entry.LampChange.{LampChange}
+use Rattle.lights.specs.declared.power.LampChange.{LampChange}
 use Rattle.node.specs.Node.{withLamps}
 use Rattle.handler.specs.Request.{State, withNode, perform}
 use Rattle.handler.proofs.Performing.{perform-lights}
@@ -173,15 +173,15 @@ bitmap-bytes m a b d e rest p q r s w =
     sym (bits-mask (a ∷ b ∷ d ∷ e ∷ []) (four-bytes a b d e p q r s)) ∙ ap (bits 32) (sym w)
 
 -- a level without a time, in front of entries that are all valid
-pub entry-level : (n v : ℕ) (xs : List ℕ) (es : List LampChange) → v ≤ 100 → entries n xs ≡ good es → entries (suc n) (v ∷ xs) ≡ good (change v 0 ∷ es)
+pub entry-level : (n v : ℕ) (xs : List ℕ) (es : List LampChange) → v ≤ 100 → powerEntries n xs ≡ allValid es → powerEntries (suc n) (v ∷ xs) ≡ allValid (change v 0 ∷ es)
 unfolding powerOk
 entry-level n v xs es h e =
     let q : v % 128 ≡ v = omega arith in
     rw (q, le-leb v 100 h, lt-ltb v 128 (omega arith), e)
 
 -- a level with a time
-pub entry-timed : (n v t : ℕ) (xs : List ℕ) (es : List LampChange) → v ≤ 100 → timeOk t ≡ true → entries n xs ≡ good es
-    → entries (suc n) ((v + 128) ∷ t ∷ xs) ≡ good (change v (secondsOf t) ∷ es)
+pub entry-timed : (n v t : ℕ) (xs : List ℕ) (es : List LampChange) → v ≤ 100 → timeOk t ≡ true → powerEntries n xs ≡ allValid es
+    → powerEntries (suc n) ((v + 128) ∷ t ∷ xs) ≡ allValid (change v (secondsOf t) ∷ es)
 unfolding powerOk
 entry-timed n v t xs es h k e =
     let q : (v + 128) % 128 ≡ v = omega arith in
@@ -261,7 +261,7 @@ module _ (k : ℕ) (lamp : k < 3) where
       ∙ ap (bits 32) (bitmap-mask ss)
 
   -- the power bytes are read as the steps' entries
-  run-entries : (i : ℕ) (ss : List Step) → LampRun k i ss → entries (length ss) (powersBytes ss) ≡ good (map changeOf ss)
+  run-entries : (i : ℕ) (ss : List Step) → LampRun k i ss → powerEntries (length ss) (powersBytes ss) ≡ allValid (map changeOf ss)
   unfolding powerBytes stepTimeOk timeOk secondsOf
   run-entries i [] r = refl
   run-entries i (s ∷ ss) r =

@@ -9,9 +9,9 @@ use Rattle.dpa.specs.Reply.{reply}
 use Rattle.memory.specs.declared.block.Memory.{Memory}
 use Rattle.memory.specs.declared.block.Memory.the-variants.{Eeprom, Ram}
 use Rattle.memory.specs.Block.{sizeOf, longestOf, addressBytes, writeCommand}
-use Rattle.memory.proofs.Blocks.{Fits}
-use Rattle.memory.proofs.Puts.{put-sets}
-use Rattle.memory.proofs.Requests.{write-short}
+use Rattle.memory.proofs.Blocks.{BlockFits}
+use Rattle.memory.proofs.Overwrite.{overwrite-sets}
+use Rattle.memory.proofs.Requests.{write-byte-address}
 use Rattle.handler.specs.Request.{State, memoryOf, withMemory, onMemory, perform}
 use Rattle.handler.proofs.Performing.{memory-same, perform-memory}
 use Rattle.book.specs.declared.step.Step.{Step}
@@ -80,11 +80,11 @@ module _ (k : ℕ) (m : Memory) (w : Writes k m) where
   pub entry-byte-run : (i : ℕ) (s : Step) (ss : List Step) (st : State)
       → length (memoryOf m st) ≡ sizeOf m → length (values (s ∷ ss)) ≤ 55 → ByteRun k i (s ∷ ss)
       → perform (pnumOf k) (pcmdOf k) (i ∷ values (s ∷ ss)) st ≡ reply (machine (s ∷ ss) st) 0 []
-  entry-byte-run i s ss st size short r =
+  entry-byte-run i s ss st size length-max r =
       let d = values (s ∷ ss) in
       let start : i < sizeOf m = omega (arith, r .2, w .place s (r .0) (r .1)) in
-      let ends : i + length d ≤ sizeOf m = run-ends i (s ∷ ss) r (omega arith) in
-      let fits : Fits (sizeOf m) (longestOf m) i (length d) =
-      record { short = w .block (length d) short (omega arith); starts = start; ends = ends } in
+      let end-inside : i + length d ≤ sizeOf m = run-ends i (s ∷ ss) r (omega arith) in
+      let fits : BlockFits (sizeOf m) (longestOf m) i (length d) =
+      record { length-max = w .block (length d) length-max (omega arith); start-inside = start; end-inside = end-inside } in
       w .entry (i ∷ d) st
-      ∙ rw (write-short m (memoryOf m st) i d (w .address) (omega arith) fits, put-sets (memoryOf m st) i d (omega arith), machine-byte-run i (s ∷ ss) st r)
+      ∙ rw (write-byte-address m (memoryOf m st) i d (w .address) (omega arith) fits, overwrite-sets (memoryOf m st) i d (omega arith), machine-byte-run i (s ∷ ss) st r)

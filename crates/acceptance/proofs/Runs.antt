@@ -62,7 +62,7 @@ module _ (most : ℕ) (limit : most ≤ pdataMax) (s : Step) (ss : List Step) (s
   unfolding entryData
   bytes-perform m w h size =
       let q : ByteRun (s .kind) (s .target) (s ∷ ss) = (r .0, refl, refl, byte-run (s .kind) h s ss refl (r .1)) in
-      let short = rw (le-ltb (s .kind) 3 h) at (r .2) in
+      let length-max = rw (le-ltb (s .kind) 3 h) at (r .2) in
       rw (le-ltb (s .kind) 3 h, entry-byte-run (s .kind) m w (s .target) s ss st size (omega arith) q) (refl, refl)
 
   kinds-perform : StateRule st → Leaves (machine (s ∷ ss) st) done

@@ -46,14 +46,14 @@ module _ {entryMost listMost : ℕ} {front : List ℕ} (limits : Limits entryMos
       let own : hwpidMatches (st .node .settings) h ≡ true = ap (λ (n : Settings). hwpidMatches n h) e ∙ ours in
       let to : (a ≡ st .node .settings .address) ⊎ (a ≡ broadcastNadr) = subst (λ (n : Settings). (a ≡ n .address) ⊎ (a ≡ broadcastNadr)) (sym e) mine in
       let did = carried (joinedItems h runs) st e ∙ batch-performs h (Run entryMost) performs runs st (b .entries) k own in
-      let short = filling-fits limits (frame a osPnum pcmd h) runs b .1 in
+      let length-max = filling-fits limits (frame a osPnum pcmd h) runs b .1 in
       record {
         success =
             subst (λ (n : Settings). Success pcmd a n (requestBytes pcmd front a h runs) st o) e
-            (call-succeeds pcmd a h (front ++ list) st o k short room to did
+            (call-succeeds pcmd a h (front ++ list) st o k length-max room to did
             (entries-perform h (Run entryMost) performs runs st (b .entries) k own .0));
-        after = call-leaves pcmd a h (front ++ list) st o k short room to did;
-        sound = call-sound pcmd a h (front ++ list) st o k short room to did;
+        after = call-leaves pcmd a h (front ++ list) st o k length-max room to did;
+        sound = call-sound pcmd a h (front ++ list) st o k length-max room to did;
       }
 
   requests-done : (bs : List (List (List Step))) (buffers : ℕ → List ℕ) (st : State)
@@ -77,9 +77,9 @@ module _ {entryMost listMost : ℕ} {front : List ℕ} (limits : Limits entryMos
   pub steps-done : (steps : List Step) (buffers : ℕ → List ℕ) (st : State)
       → All Good steps → StateRule st → st .node .settings ≡ s → ((k : ℕ) → longestResponse ≤ length (buffers k))
       → DoneAsSteps pcmd a buffers (requestsOf entryMost listMost pcmd front a h steps) steps st
-  steps-done steps buffers st good k e room =
+  steps-done steps buffers st allValid k e room =
       let bs = batchesOf entryMost listMost h steps in
-      let did = requests-done bs buffers st (fillings limits h steps good) k e room in
+      let did = requests-done bs buffers st (fillings limits h steps allValid) k e room in
       let whole : joined (joined bs) ≡ steps = ap joined (filling-keeps entryMost listMost h steps) ∙ joining-keeps entryMost steps in
       record {
         calls = subst (λ (n : Settings). AllSucceed pcmd a n buffers (requestsOf entryMost listMost pcmd front a h steps) st) (sym e) (did .0);

@@ -10,7 +10,7 @@ use Rattle.dpa.specs.Lists.{Bytes}
 use Rattle.dpa.specs.Reply.{Reply, refused, replySeen, replyInBuffer}
 use Rattle.dpa.specs.declared.settings.Settings.{Settings}
 use Rattle.lights.specs.Bits.{bits, count, bitmap, maskOf}
-use Rattle.lights.specs.Lights.{entries, isGood, levelsBefore, answered, commandOf, changeLamps, enumerateLamps, lightsRequest}
+use Rattle.lights.specs.Lights.{powerEntries, isGood, levelsBefore, answered, commandOf, changeLamps, enumerateLamps, lightsRequest}
 use Rattle.lights.proofs.Bits.{bits-mask}
 use Rattle.lights.proofs.Entries.{bad-entries}
 use Rattle.lights.specs.declared.apply.Command.{Command}
@@ -38,21 +38,21 @@ module _ (s : Settings) (c : Command) (xs : List ℕ) (ls : List Lamp) where
   change-short h = rw (lt-ltb (length xs) 4 h)
 
   -- four bytes and more: the answer goes by the entries behind the bitmap
-  pub change-entries : 4 ≤ length xs → changeLamps s c xs ls ≡ answered s c (bitmap xs) ls (entries (count (bitmap xs)) (drop 4 xs))
+  pub change-entries : 4 ≤ length xs → changeLamps s c xs ls ≡ answered s c (bitmap xs) ls (powerEntries (count (bitmap xs)) (drop 4 xs))
   unfolding changeLamps
   change-entries h = rw (le-ltb (length xs) 4 h)
 
   module _ (m k : ℕ) (h : 4 ≤ length xs) (small : Bytes xs) (w : m ≡ maskOf xs) (q : k ≡ count (bits 32 m)) where
-    change-read : changeLamps s c xs ls ≡ answered s c (bits 32 m) ls (entries k (drop 4 xs))
+    change-read : changeLamps s c xs ls ≡ answered s c (bits 32 m) ls (powerEntries k (drop 4 xs))
     change-read = rw (q, w, bits-mask xs small) (change-entries h)
 
     -- entries that are not all valid
-    pub change-bad : isGood (entries k (drop 4 xs)) ≡ false → changeLamps s c xs ls ≡ refused ls 6
-    change-bad e = change-read ∙ ap (answered s c (bits 32 m) ls) (bad-entries (entries k (drop 4 xs)) e)
+    pub change-bad : isGood (powerEntries k (drop 4 xs)) ≡ false → changeLamps s c xs ls ≡ refused ls 6
+    change-bad e = change-read ∙ ap (answered s c (bits 32 m) ls) (bad-entries (powerEntries k (drop 4 xs)) e)
 
     -- what the walk over valid entries leaves
     pub change-good : (after : List Lamp) (out old : List ℕ)
-        → replySeen after 0 (count (bits 32 m)) out ≡ replyInBuffer (answered s c (bits 32 m) ls (entries (count (bits 32 m)) (drop 4 xs))) old
+        → replySeen after 0 (count (bits 32 m)) out ≡ replyInBuffer (answered s c (bits 32 m) ls (powerEntries (count (bits 32 m)) (drop 4 xs))) old
         → replySeen after 0 k out ≡ replyInBuffer (changeLamps s c xs ls) old
     change-good after out old p = rw (change-read, q) p
 

@@ -10,7 +10,7 @@ use lib.Seq.{drop-cons, drop-drop}
 use lib.Dec.{ltb, eqb}
 use borrow.Author.Tests.{lt-ltb, le-ltb, ltb-true, ltb-false, eq-eqb, ne-eqb}
 use Rattle.dpa.proofs.Bool.{by-test}
-use Rattle.lights.specs.Lights.{powerOk, timeOk, secondsOf, change, timedEntry, firstEntry, isValid, Reading, good, bad, prepend, andThen, entries, isGood}
+use Rattle.lights.specs.Lights.{powerOk, timeOk, secondsOf, change, timedEntry, firstEntry, isValid, Reading, allValid, bad, prepend, andThen, powerEntries, isGood}
 use Rattle.lights.specs.declared.entry.LampChange.{LampChange}
 use Rattle.lights.specs.declared.entry.PowerEntry.{PowerEntry}
 use Rattle.lights.specs.declared.entry.PowerEntry.the-variants.{Valid, Invalid}
@@ -78,24 +78,24 @@ still = change 0 0
 
 -- the entries that were read
 abbrev pub itemsOf : Reading → List LampChange
-itemsOf (good es) = es
+itemsOf (allValid es) = es
 itemsOf bad = []
 
-pub good-items : (r : Reading) → isGood r ≡ true → r ≡ good (itemsOf r)
-good-items (good es) g = refl
+pub good-items : (r : Reading) → isGood r ≡ true → r ≡ allValid (itemsOf r)
+good-items (allValid es) g = refl
 good-items bad g = let z : _≡_ {A = ℕ} 0 1 = cc in absurd (omega arith)
 
 pub bad-entries : (r : Reading) → isGood r ≡ false → r ≡ bad
-bad-entries (good es) g = let z : _≡_ {A = ℕ} 0 1 = cc in absurd (omega arith)
+bad-entries (allValid es) g = let z : _≡_ {A = ℕ} 0 1 = cc in absurd (omega arith)
 bad-entries bad g = refl
 
 -- an entry in front
 pub good-prepend : (e : LampChange) (r : Reading) → isGood (prepend (e ∷ []) r) ≡ isGood r
-good-prepend e (good es) = refl
+good-prepend e (allValid es) = refl
 good-prepend e bad = refl
 
 pub items-prepend : (e : LampChange) (r : Reading) → isGood r ≡ true → itemsOf (prepend (e ∷ []) r) ≡ e ∷ itemsOf r
-items-prepend e (good es) g = refl
+items-prepend e (allValid es) g = refl
 items-prepend e bad g = let z : _≡_ {A = ℕ} 0 1 = cc in absurd (omega arith)
 
 -- where all entries are valid the first one is
@@ -127,19 +127,19 @@ first-room src at e size h = rw length-drop at (first-size (drop at src) e size 
 module _ (src : List ℕ) (at k n : ℕ) where
   -- one entry more
   pub good-more : (e : LampChange) (size : ℕ) → k < n → firstEntry (drop at src) ≡ Valid e size
-      → isGood (entries (n - k) (drop at src)) ≡ isGood (entries (n - (k + 1)) (drop (at + size) src))
+      → isGood (powerEntries (n - k) (drop at src)) ≡ isGood (powerEntries (n - (k + 1)) (drop (at + size) src))
   good-more e size h q =
       let j : n - k ≡ suc (n - (k + 1)) = omega arith in
-      rw (j, q, drop-drop) (good-prepend e (entries (n - (k + 1)) (drop (at + size) src)))
+      rw (j, q, drop-drop) (good-prepend e (powerEntries (n - (k + 1)) (drop (at + size) src)))
 
   -- an entry that is not valid
-  pub good-stop : k < n → firstEntry (drop at src) ≡ Invalid → isGood (entries (n - k) (drop at src)) ≡ false
+  pub good-stop : k < n → firstEntry (drop at src) ≡ Invalid → isGood (powerEntries (n - k) (drop at src)) ≡ false
   good-stop h q =
       let j : n - k ≡ suc (n - (k + 1)) = omega arith in
       rw (j, q)
 
   -- all entries read: no byte may follow
-  pub good-end : n ≤ k → at ≤ length src → isGood (entries (n - k) (drop at src)) ≡ eqb at (length src)
+  pub good-end : n ≤ k → at ≤ length src → isGood (powerEntries (n - k) (drop at src)) ≡ eqb at (length src)
   good-end h l =
       let j : n - k ≡ 0 = omega arith in
       rw j (by-test (ltb at (length src))
@@ -153,7 +153,7 @@ module _ (src : List ℕ) (at k n : ℕ) where
 -- as many entries as asked for, and each with what every valid entry of these bytes has
 pub entries-each : (Q : LampChange → Type 0) → Q still → (n : ℕ) (xs : List ℕ) (es : List LampChange)
     → ((j : ℕ) (e : LampChange) (size : ℕ) → firstEntry (drop j xs) ≡ Valid e size → Q e)
-    → entries n xs ≡ good es → (length es ≡ n) × ((i : ℕ) → Q (getD es i still))
+    → powerEntries n xs ≡ allValid es → (length es ≡ n) × ((i : ℕ) → Q (getD es i still))
 entries-each Q q zero [] es w h = let e : es ≡ [] = cc in rw e (refl, λ i. q)
 entries-each Q q zero (x ∷ xs) es w h = let z : _≡_ {A = ℕ} 0 1 = cc in absurd (omega arith)
 entries-each Q q (suc n) xs es w h = go (λ size fs. entries-each Q q n (drop size xs) fs) (firstEntry xs) refl h
@@ -163,22 +163,22 @@ entries-each Q q (suc n) xs es w h = go (λ size fs. entries-each Q q n (drop si
 
     Later : Type 0
     Later = (size : ℕ) (fs : List LampChange) → ((j : ℕ) (e : LampChange) (m : ℕ) → firstEntry (drop j (drop size xs)) ≡ Valid e m → Q e)
-        → entries n (drop size xs) ≡ good fs → Each n fs
+        → powerEntries n (drop size xs) ≡ allValid fs → Each n fs
 
     each : (e : LampChange) (fs : List LampChange) → Q e → Each n fs → (i : ℕ) → Q (getD (e ∷ fs) i still)
     each e fs a r zero = a
     each e fs a r (suc i) = r .1 i
 
-    rest : Later → (e : LampChange) (size : ℕ) (r : Reading) → firstEntry xs ≡ Valid e size → entries n (drop size xs) ≡ r → prepend (e ∷ []) r ≡ good es → Each (suc n) es
+    rest : Later → (e : LampChange) (size : ℕ) (r : Reading) → firstEntry xs ≡ Valid e size → powerEntries n (drop size xs) ≡ r → prepend (e ∷ []) r ≡ allValid es → Each (suc n) es
     rest ih e size bad f g p = let z : _≡_ {A = ℕ} 0 1 = cc in absurd (omega arith)
-    rest ih e size (good fs) f g p =
+    rest ih e size (allValid fs) f g p =
         let k : es ≡ e ∷ fs = cc in
         let t : Each n fs = ih size fs (λ j d m u. w (size + j) d m (sym (ap firstEntry (drop-drop j size xs)) ∙ u)) g in
         rw k (ap suc (t .0), each e fs (w 0 e size f) t)
 
-    go : Later → (f : PowerEntry) → firstEntry xs ≡ f → andThen f (λ size. entries n (drop size xs)) ≡ good es → Each (suc n) es
-    go ih (Valid e size) f p = rest ih e size (entries n (drop size xs)) f refl p
+    go : Later → (f : PowerEntry) → firstEntry xs ≡ f → andThen f (λ size. powerEntries n (drop size xs)) ≡ allValid es → Each (suc n) es
+    go ih (Valid e size) f p = rest ih e size (powerEntries n (drop size xs)) f refl p
     go ih Invalid f p = let z : _≡_ {A = ℕ} 0 1 = cc in absurd (omega arith)
 
-pub entries-length : (n : ℕ) (xs : List ℕ) (es : List LampChange) → entries n xs ≡ good es → length es ≡ n
+pub entries-length : (n : ℕ) (xs : List ℕ) (es : List LampChange) → powerEntries n xs ≡ allValid es → length es ≡ n
 entries-length n xs es h = entries-each (λ (e : LampChange). Unit {0}) tt n xs es (λ j e size f. tt) h .0

@@ -12,7 +12,7 @@ use Rattle.dpa.proofs.Bool.{by-cond}
 use Rattle.dpa.specs.declared.settings.Settings.{Settings}
 use Rattle.lights.specs.Bits.{count, bitmap, isOne, selected, numberBelow}
 use Rattle.lights.specs.Lamp.{off, lampFits, LampRule, actualLevel}
-use Rattle.lights.specs.Lights.{Reading, good, bad, entries, lampsAfter, levelsBefore, answered, changeLamps, enumerateLamps, lightsRequest}
+use Rattle.lights.specs.Lights.{Reading, allValid, bad, powerEntries, lampsAfter, levelsBefore, answered, changeLamps, enumerateLamps, lightsRequest}
 use Rattle.lights.proofs.Lamps.{fits-test, fits-rule, fits-above, zero-facts}
 use Rattle.lights.proofs.Bits.{count-length}
 use Rattle.lights.proofs.Selected.{bitmap-length, count-selected, rank-selected, selected-digit}
@@ -27,7 +27,7 @@ use Rattle.lights.specs.declared.entry.LampChange.{LampChange}
 
 -- the entries that PData holds, and lamp k's own among them
 abbrev pub entriesOf : List ℕ → List LampChange
-entriesOf xs = itemsOf (entries (count (bitmap xs)) (drop 4 xs))
+entriesOf xs = itemsOf (powerEntries (count (bitmap xs)) (drop 4 xs))
 
 abbrev pub entryOf : List ℕ → ℕ → LampChange
 entryOf xs k = getD (entriesOf xs) (numberBelow k (selected xs)) still
@@ -35,22 +35,22 @@ entryOf xs k = getD (entriesOf xs) (numberBelow k (selected xs)) still
 module _ (s : Settings) (xs : List ℕ) (ls : List Lamp) where
   -- a request to change lamps is refused with 6, or its entries are all valid
   pub change-cases : (c : Command) (P : Reply (List Lamp) → Type 0) → P (refused ls 6)
-      → ((es : List LampChange) → 4 ≤ length xs → entries (count (bitmap xs)) (drop 4 xs) ≡ good es
+      → ((es : List LampChange) → 4 ≤ length xs → powerEntries (count (bitmap xs)) (drop 4 xs) ≡ allValid es
       → P (reply (lampsAfter c (s .«lamp_count») (bitmap xs) es ls) 0 (levelsBefore s (s .«lamp_count») (bitmap xs) ls)))
       → P (changeLamps s c xs ls)
   unfolding changeLamps
   change-cases c P f g =
-      by-cond P (ltb (length xs) 4) _ _ (λ t. f) (λ t. go (entries (count (bitmap xs)) (drop 4 xs)) refl (ltb-false _ _ t))
+      by-cond P (ltb (length xs) 4) _ _ (λ t. f) (λ t. go (powerEntries (count (bitmap xs)) (drop 4 xs)) refl (ltb-false _ _ t))
     where
-      go : (r : Reading) → entries (count (bitmap xs)) (drop 4 xs) ≡ r → 4 ≤ length xs → P (answered s c (bitmap xs) ls r)
-      go (good es) e h = g es h e
+      go : (r : Reading) → powerEntries (count (bitmap xs)) (drop 4 xs) ≡ r → 4 ≤ length xs → P (answered s c (bitmap xs) ls r)
+      go (allValid es) e h = g es h e
       go bad e h = f
 
   -- any request is refused with an error, tells the count, or has entries that are all valid
   pub request-cases : (p : ℕ) (P : Reply (List Lamp) → Type 0)
       → ((e : ℕ) → (e ≡ 0 → ⊥) → P (refused ls e))
       → P (reply ls 0 (s .«lamp_count» ∷ []))
-      → ((c : Command) (es : List LampChange) → 4 ≤ length xs → entries (count (bitmap xs)) (drop 4 xs) ≡ good es
+      → ((c : Command) (es : List LampChange) → 4 ≤ length xs → powerEntries (count (bitmap xs)) (drop 4 xs) ≡ allValid es
       → P (reply (lampsAfter c (s .«lamp_count») (bitmap xs) es ls) 0 (levelsBefore s (s .«lamp_count») (bitmap xs) ls)))
       → P (lightsRequest s p xs ls)
   unfolding lightsRequest enumerateLamps
@@ -79,7 +79,7 @@ module _ (s : Settings) (xs : List ℕ) (ls : List Lamp) where
     fits-map : length (bitmap xs) ≤ length ls
     fits-map = omega (arith, bitmap-length xs)
 
-    enough : (es : List LampChange) → entries (count (bitmap xs)) (drop 4 xs) ≡ good es → count (bitmap xs) ≤ length es
+    enough : (es : List LampChange) → powerEntries (count (bitmap xs)) (drop 4 xs) ≡ allValid es → count (bitmap xs) ≤ length es
     enough es e = omega (arith, entries-length (count (bitmap xs)) (drop 4 xs) es e)
 
     -- a successful change answers a byte for each selected lamp

@@ -9,7 +9,7 @@ use lib.Dec.{ltb, leb, eqb}
 use borrow.Author.Tests.{leb-true, ltb-true, eqb-false}
 use Rattle.dpa.proofs.Bool.{by-cond}
 use Rattle.lights.specs.Lamp.{LampRule, lamp}
-use Rattle.lights.specs.Lights.{powerOk, timeOk, secondsOf, change, timedEntry, firstEntry, good, entries, newLevel, lampAfter}
+use Rattle.lights.specs.Lights.{powerOk, timeOk, secondsOf, change, timedEntry, firstEntry, allValid, powerEntries, newLevel, lampAfter}
 use Rattle.lights.proofs.Entries.{still, entries-each}
 use Rattle.lights.proofs.Places.{lampBy}
 use Rattle.lights.specs.declared.apply.Command.{Command}
@@ -54,7 +54,7 @@ still-rule : ChangeRule still
 unfolding powerOk
 still-rule = record { power = refl; seconds = omega arith }
 
-pub entries-rule : (n : ℕ) (xs : List ℕ) (es : List LampChange) → entries n xs ≡ good es → (i : ℕ) → ChangeRule (getD es i still)
+pub entries-rule : (n : ℕ) (xs : List ℕ) (es : List LampChange) → powerEntries n xs ≡ allValid es → (i : ℕ) → ChangeRule (getD es i still)
 entries-rule n xs es h = entries-each ChangeRule still-rule n xs es (λ j. first-rule (drop j xs)) h .1
 
 -- ---- a lamp after an entry in range

@@ -13,7 +13,7 @@ use Rattle.dpa.specs.declared.settings.Settings.{Settings}
 use Rattle.dpa.proofs.Lists.{kept-next, kept-more, front-written}
 use Rattle.lights.specs.Bits.{bits, count}
 use Rattle.lights.specs.Lamp.{off, LevelsInRange, actualLevel}
-use Rattle.lights.specs.Lights.{Reading, firstEntry, isValid, prepend, entries, isGood, lampAfter, lampsAfter, levelsBefore, answered}
+use Rattle.lights.specs.Lights.{Reading, firstEntry, isValid, prepend, powerEntries, isGood, lampAfter, lampsAfter, levelsBefore, answered}
 use Rattle.lights.proofs.Bits.{bits-length, bits-more, bits-inside, bits-half}
 use Rattle.lights.proofs.Entries.{itemsOf, good-items, good-first, good-prepend, items-prepend, first-room}
 use Rattle.lights.proofs.Turns.{from, from-skip, from-idle, from-done, from-end, told, told-skip, told-more, told-end, shown-lit, shown-dark}
@@ -25,7 +25,7 @@ use Rattle.lights.specs.declared.entry.PowerEntry.the-variants.{Valid}
 
 -- the entries that are left at lamp i, read from a place on
 abbrev pub left : List ℕ → ℕ → ℕ → ℕ → Reading
-left src i m at = entries (count (bits (32 - i) m)) (drop at src)
+left src i m at = powerEntries (count (bits (32 - i) m)) (drop at src)
 
 -- the walk over lamps ls and a lent buffer old: lamps below i and bytes below k are as they will be, the others as they were
 pub record Walk (s : Settings) (c : Command) (mask : ℕ) (src : List ℕ) (ls : List Lamp) (old : List ℕ) (n : ℕ)
@@ -129,12 +129,12 @@ module _ {s : Settings} {c : Command} {mask : ℕ} {src : List ℕ} {ls : List L
         }
 
     module _ (z : m % 2 ≡ 1) where
-      left-first : left src i m at ≡ entries (suc (count (bits (32 - (i + 1)) (m / 2)))) (drop at src)
+      left-first : left src i m at ≡ powerEntries (suc (count (bits (32 - (i + 1)) (m / 2)))) (drop at src)
       left-first = rw (bits-more i m walk-inside, z)
 
       pub walk-valid : isValid (firstEntry (drop at src)) ≡ true
       walk-valid =
-          good-first (firstEntry (drop at src)) (λ size. entries (count (bits (32 - (i + 1)) (m / 2))) (drop size (drop at src)))
+          good-first (firstEntry (drop at src)) (λ size. powerEntries (count (bits (32 - (i + 1)) (m / 2))) (drop size (drop at src)))
           (ap isGood (sym left-first) ∙ w .valid)
 
       module _ (e : LampChange) (size : ℕ) (q : firstEntry (drop at src) ≡ Valid e size) where

@@ -63,11 +63,11 @@ powerEntryError Invalid = 6
 -- ---- all entries, read before any lamp changes
 
 pub data Reading : Type 0 where
-  good : List LampChange → Reading
+  allValid : List LampChange → Reading
   bad : Reading
 
 abbrev pub prepend : List LampChange → Reading → Reading
-prepend es (good fs) = good (es ++ fs)
+prepend es (allValid fs) = allValid (es ++ fs)
 prepend es bad = bad
 
 -- an entry, then what is read behind it
@@ -76,10 +76,10 @@ andThen (Valid e size) rest = prepend (e ∷ []) (rest size)
 andThen Invalid rest = bad
 
 -- n valid entries and no byte behind them
-abbrev pub entries : ℕ → List ℕ → Reading
-entries zero [] = good []
-entries zero (x ∷ xs) = bad
-entries (suc n) xs = andThen (firstEntry xs) (λ size. entries n (drop size xs))
+abbrev pub powerEntries : ℕ → List ℕ → Reading
+powerEntries zero [] = allValid []
+powerEntries zero (x ∷ xs) = bad
+powerEntries (suc n) xs = andThen (firstEntry xs) (λ size. powerEntries n (drop size xs))
 
 -- ---- a lamp after its entry
 
@@ -117,7 +117,7 @@ levelsBefore s n (suc b ∷ bs) (l ∷ ls) = cond (ltb 0 n) (actualLevel s (l .l
 -- ---- the request
 
 abbrev pub answered : Settings → Command → List ℕ → List Lamp → Reading → Reply (List Lamp)
-answered s c bs ls (good es) =
+answered s c bs ls (allValid es) =
     reply (lampsAfter c (s .«lamp_count») bs es ls) 0 (levelsBefore s (s .«lamp_count») bs ls)
 answered s c bs ls bad = refused ls (powerEntryError Invalid)
 
@@ -125,7 +125,7 @@ answered s c bs ls bad = refused ls (powerEntryError Invalid)
 unfoldable pub changeLamps : Settings → Command → List ℕ → List Lamp → Reply (List Lamp)
 changeLamps s c xs ls =
     cond (ltb (length xs) 4) (refused ls (powerEntryError Invalid))
-    (answered s c (bitmap xs) ls (entries (count (bitmap xs)) (drop 4 xs)))
+    (answered s c (bitmap xs) ls (powerEntries (count (bitmap xs)) (drop 4 xs)))
 
 -- 3E hex: the count of lamps
 unfoldable pub enumerateLamps : Settings → List ℕ → List Lamp → Reply (List Lamp)
@@ -146,7 +146,7 @@ isValid (Valid e size) = true
 isValid Invalid = false
 
 abbrev pub isGood : Reading → Bool
-isGood (good es) = true
+isGood (allValid es) = true
 isGood bad = false
 
 -- the command of a PCMD up to 02 hex

@@ -14,7 +14,7 @@ ghost use Rattle.dpa.specs.Reply.{replySeen, replyInBuffer};
 ghost use Rattle.dpa.specs.Settings.{settingsOk};
 ghost use Rattle.lights.specs.Bits.{bits, count};
 ghost use Rattle.lights.specs.Lamp.{LevelsInRange};
-ghost use Rattle.lights.specs.Lights.{newLevel, lampAfter, entries, isGood, answered};
+ghost use Rattle.lights.specs.Lights.{newLevel, lampAfter, powerEntries, isGood, answered};
 
 pub enum Command {
     Set,
@@ -63,9 +63,9 @@ pub fn apply(
     out: &mut [u8],
 ) -> [Lamp; LAMPS]
     requires { ⌜ (settingsOk settings ≡ true) × LevelsInRange lamps × (32 ≤ length (now out)) × (4 ≤ length (now pdata))
-        × (isGood (entries (count (bits 32 mask)) (drop 4 (now pdata))) ≡ true) ⌝ }
+        × (isGood (powerEntries (count (bits 32 mask)) (drop 4 (now pdata))) ≡ true) ⌝ }
     ensures { λ r. ⌜ replySeen r 0 (count (bits 32 mask)) (now (out .exit))
-        ≡ replyInBuffer (answered settings command (bits 32 mask) lamps (entries (count (bits 32 mask)) (drop 4 (now (pdata .entry))))) (now (out .entry)) ⌝ }
+        ≡ replyInBuffer (answered settings command (bits 32 mask) lamps (powerEntries (count (bits 32 mask)) (drop 4 (now (pdata .entry))))) (now (out .entry)) ⌝ }
 {
     let n = wide(settings.lamp_count);
     let mut after = lamps;

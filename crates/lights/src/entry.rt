@@ -3,7 +3,7 @@ ghost use mathlib.Core.Path.{_≡_};
 ghost use mathlib.Core.Bool.{true};
 ghost use Prim.Native.Nat.{_≤_};
 ghost use lib.ListN.{length, drop};
-ghost use Rattle.lights.specs.Lights.{powerOk, timeOk, secondsOf, change, firstEntry, isValid, entries, isGood};
+ghost use Rattle.lights.specs.Lights.{powerOk, timeOk, secondsOf, change, firstEntry, isValid, powerEntries, isGood};
 ghost use Rattle.lights.specs.declared.entry.PowerEntry.the-variants.{Valid};
 
 // The power that keeps a lamp as it is.
@@ -82,7 +82,7 @@ fn entry_at(src: &[u8], at: usize) -> PowerEntry
 // Whether n valid entries stand behind the four bitmap bytes, and no byte behind them.
 pub fn entries_ok(src: &[u8], n: usize) -> bool
     requires { ⌜ 4 ≤ length (now src) ⌝ }
-    ensures { λ r. ⌜ r ≡ isGood (entries n (drop 4 (now (src .entry)))) ⌝ }
+    ensures { λ r. ⌜ r ≡ isGood (powerEntries n (drop 4 (now (src .entry)))) ⌝ }
 {
     let mut at: usize = 4;
     let mut k: usize = 0;

@@ -15,24 +15,24 @@ use Rattle.memory.specs.declared.block.Memory.the-variants.{Eeprom}
 use Rattle.memory.specs.Block.{longestOf, blockFault, put}
 
 -- a block that can be had
-pub record Fits (size longest start n : ℕ) : Type 0 where
-  pub short : n ≤ longest
-  pub starts : start < size
-  pub ends : start + n ≤ size
+pub record BlockFits (size longest start n : ℕ) : Type 0 where
+  pub length-max : n ≤ longest
+  pub start-inside : start < size
+  pub end-inside : start + n ≤ size
 
 module _ (size longest start n tooLong outside : ℕ) where
   -- the rule finds no fault exactly in a block that can be had
-  pub block-fits : (tooLong ≡ 0 → ⊥) → (outside ≡ 0 → ⊥) → blockFault size longest start n tooLong outside ≡ 0 → Fits size longest start n
+  pub block-fits : (tooLong ≡ 0 → ⊥) → (outside ≡ 0 → ⊥) → blockFault size longest start n tooLong outside ≡ 0 → BlockFits size longest start n
   unfolding blockFault
   block-fits t o e =
       let a = second-taken (ltb longest n) tooLong _ 0 t e in
       let b = second-taken (leb size start) outside _ 0 o (a .1) in
       let d = second-taken (ltb size (start + n)) outside 0 0 o (b .1) in
-      record { short = ltb-false _ _ (a .0); starts = leb-false _ _ (b .0); ends = ltb-false _ _ (d .0) }
+      record { length-max = ltb-false _ _ (a .0); start-inside = leb-false _ _ (b .0); end-inside = ltb-false _ _ (d .0) }
 
-  pub fits-block : Fits size longest start n → blockFault size longest start n tooLong outside ≡ 0
+  pub fits-block : BlockFits size longest start n → blockFault size longest start n tooLong outside ≡ 0
   unfolding blockFault
-  fits-block f = simp (le-ltb longest n (f .short), lt-leb size start (f .starts), le-ltb size (start + n) (f .ends))
+  fits-block f = simp (le-ltb longest n (f .length-max), lt-leb size start (f .start-inside), le-ltb size (start + n) (f .end-inside))
 
 -- no longest block is over EEPROM's
 pub longest-max : (m : Memory) → longestOf m ≤ longestOf Eeprom

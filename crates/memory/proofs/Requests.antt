@@ -16,15 +16,15 @@ use Rattle.memory.specs.declared.block.Memory.{Memory}
 use Rattle.memory.specs.declared.block.Memory.the-variants.{Eeprom}
 use Rattle.memory.specs.Block.{sizeOf, longestOf, addressBytes, readCommand, writeCommand, put}
 use Rattle.memory.specs.Request.{addressOf, startOf, lengthOf, dataOf, blockError, readError, writeError, readRequest, writeRequest, memoryRequest}
-use Rattle.memory.proofs.Blocks.{Fits, block-fits, fits-block, longest-max, part-length}
-use Rattle.memory.proofs.Puts.{put-length}
+use Rattle.memory.proofs.Blocks.{BlockFits, block-fits, fits-block, longest-max, part-length}
+use Rattle.memory.proofs.Overwrite.{put-length}
 
 module _ (m : Memory) (p : List ℕ) where
   abbrev pub ReadFits : Type 0
-  ReadFits = (length p ≡ addressBytes m + 1) × Fits (sizeOf m) (longestOf m) (startOf m p) (lengthOf m p)
+  ReadFits = (length p ≡ addressBytes m + 1) × BlockFits (sizeOf m) (longestOf m) (startOf m p) (lengthOf m p)
 
   abbrev pub WriteFits : Type 0
-  WriteFits = (addressBytes m < length p) × Fits (sizeOf m) (longestOf m) (startOf m p) (length p - addressBytes m)
+  WriteFits = (addressBytes m < length p) × BlockFits (sizeOf m) (longestOf m) (startOf m p) (length p - addressBytes m)
 
   pub read-fits : readError m p ≡ 0 → ReadFits
   unfolding readError
@@ -65,7 +65,7 @@ module _ (m : Memory) (p : List ℕ) where
           let f = read-fits z .1 in
           let s : a ≡ startOf m p = ea ∙ ap (λ (k : ℕ). addressOf k p) ew in
           let l : n ≡ lengthOf m p = en ∙ ap (λ (k : ℕ). getD p k 0) ew in
-          (omega (arith, f .ends), omega (arith, f .short, longest-max m))
+          (omega (arith, f .end-inside), omega (arith, f .length-max, longest-max m))
 
       pub read-served : (out last : List ℕ) → last ≡ slice mem a n ++ drop n out → replySeen mem 0 n last ≡ replyInBuffer (readRequest m p mem) out
       unfolding readRequest
@@ -76,7 +76,7 @@ module _ (m : Memory) (p : List ℕ) where
       write-place size =
           let f = write-fits z .1 in
           let s : a ≡ startOf m p = ea ∙ ap (λ (k : ℕ). addressOf k p) ew in
-          omega (arith, f .ends)
+          omega (arith, f .end-inside)
 
       pub write-served : (out last : List ℕ) → last ≡ put mem a (take (length p - w) (drop w p)) → replySeen last 0 0 out ≡ replyInBuffer (writeRequest m p mem) out
       unfolding writeRequest
@@ -133,14 +133,14 @@ module _ (m : Memory) (p mem : List ℕ) where
     request-length size =
         request-cases (λ (x : Reply (List ℕ)). length (x .after) ≡ length mem)
         (λ z. refl)
-        (λ z. put-length mem (startOf m p) (dataOf m p) (rw length-drop (omega (arith, write-fits m p z .1 .ends))))
+        (λ z. put-length mem (startOf m p) (dataOf m p) (rw length-drop (omega (arith, write-fits m p z .1 .end-inside))))
         (λ e. refl)
 
     -- an answer is no longer than the memory's longest block
     pub request-longest : length (memoryRequest m pcmd p mem .bytes) ≤ longestOf m
     request-longest =
         request-cases (λ (x : Reply (List ℕ)). length (x .bytes) ≤ longestOf m)
-        (λ z. rw length-take (omega (arith, read-fits m p z .1 .short)))
+        (λ z. rw length-take (omega (arith, read-fits m p z .1 .length-max)))
         (λ z. omega arith)
         (λ e. omega arith)
 
@@ -149,11 +149,11 @@ module _ (m : Memory) (p mem : List ℕ) where
     request-max = omega (arith, request-longest, longest-max m)
 
 -- a write at an address of one byte
-pub write-short : (m : Memory) (mem : List ℕ) (a : ℕ) (d : List ℕ) → addressBytes m ≡ 1 → 0 < length d
-    → Fits (sizeOf m) (longestOf m) a (length d)
+pub write-byte-address : (m : Memory) (mem : List ℕ) (a : ℕ) (d : List ℕ) → addressBytes m ≡ 1 → 0 < length d
+    → BlockFits (sizeOf m) (longestOf m) a (length d)
     → memoryRequest m (writeCommand m) (a ∷ d) mem ≡ reply (put mem a d) 0 []
 unfolding addressOf
-write-short m mem a d one some f =
+write-byte-address m mem a d one some f =
     let s : startOf m (a ∷ d) ≡ a = ap (λ (w : ℕ). addressOf w (a ∷ d)) one in
     let t : dataOf m (a ∷ d) ≡ d = ap (λ (w : ℕ). drop w (a ∷ d)) one in
     let l : length (a ∷ d) - addressBytes m ≡ length d = omega arith in

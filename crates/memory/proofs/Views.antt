@@ -30,7 +30,7 @@ pub record Viewed (e x : List ℕ) (p start n : ℕ) : Type 0 where
   pub external : (p ≡ memoryPnum Eeprom → ⊥) → start + n ≤ length x
 
 block-ends : (m : Memory) (start n : ℕ) → blockRefusal m start n ≡ 0 → start + n ≤ sizeOf m
-block-ends m start n e = block-fits (sizeOf m) (longestOf m) start n 15 16 (λ q. omega arith) (λ q. omega arith) e .ends
+block-ends m start n e = block-fits (sizeOf m) (longestOf m) start n 15 16 (λ q. omega arith) (λ q. omega arith) e .end-inside
 
 named : (p start n : ℕ) (b : Bool) → eqb p (memoryPnum Eeprom) ≡ b
     → cond b (blockRefusal Eeprom start n) (blockRefusal External start n) ≡ 0

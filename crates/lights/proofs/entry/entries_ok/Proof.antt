@@ -5,14 +5,14 @@ use mathlib.Core.Path.{_≡_, sym, _∙_}
 use Prim.Native.Nat.{_≤_, _-_}
 use lib.ListN.{length, drop}
 use denote.Ref.{now}
-use Rattle.lights.specs.Lights.{entries, isGood, firstEntry}
+use Rattle.lights.specs.Lights.{powerEntries, isGood, firstEntry}
 use Rattle.lights.specs.declared.entry.PowerEntry.the-variants.{Valid, Invalid}
 use Rattle.lights.proofs.Entries.{first-room, good-more, good-stop, good-end}
 use Rattle.lights.proofs.entry.entries_ok.Statement.{statement}
 use Rattle.lights.proofs.entry.entries_ok.Tie as tie
 
 abbrev Inv-loop : tie.InvT-loop
-Inv-loop src n at₀ k₀ at k = (k ≤ n) × (at ≤ length src) × (isGood (entries n (drop 4 src)) ≡ isGood (entries (n - k) (drop at src)))
+Inv-loop src n at₀ k₀ at k = (k ≤ n) × (at ≤ length src) × (isGood (powerEntries n (drop 4 src)) ≡ isGood (powerEntries (n - k) (drop at src)))
 
 abbrev μ-loop : tie.MeasureT-loop
 μ-loop src n at₀ k₀ at k = n - k

@@ -8,7 +8,7 @@ use lib.ListN.{drop}
 use denote.Ref.{now}
 use Rattle.dpa.specs.Lists.{Bytes}
 use Rattle.lights.specs.Bits.{bits, count}
-use Rattle.lights.specs.Lights.{entries, isGood}
+use Rattle.lights.specs.Lights.{powerEntries, isGood}
 use Rattle.lights.proofs.Answers.{reply-refused, change-short, change-bad, change-good}
 use borrow.Author.Needs.{needs}
 use Rattle.lights.proofs.request.change_lamps.Statement.{statement}
@@ -35,8 +35,8 @@ apply-requires : tie.Need-apply-requires
 apply-requires c κs =
     let r = c .before .before in
     let s = r .before .before .before .before .before .before in
-    let g : isGood (entries (count (bits 32 (r .before .before .mask-of .result))) (drop 4 (now (s .args .pdata)))) ≡ true =
-    ap (λ (j : ℕ). isGood (entries j (drop 4 (now (s .args .pdata))))) (sym (r .before .selected .ensures .0))
+    let g : isGood (powerEntries (count (bits 32 (r .before .before .mask-of .result))) (drop 4 (now (s .args .pdata)))) ≡ true =
+    ap (λ (j : ℕ). isGood (powerEntries j (drop 4 (now (s .args .pdata))))) (sym (r .before .selected .ensures .0))
     ∙ sym (r .entries-ok .ensures) ∙ not-false _ (c .before .if2 .left) in
     (s .pre .0, s .pre .1, s .pre .2, omega arith, g)
 

@@ -9,24 +9,24 @@ use lib.Seq.{sets, sets-eq, length-sets, length-take-le, getD-append-add, getD-t
 use Rattle.memory.specs.Block.{put}
 
 -- a block that lies in the memory is stored byte by byte
-pub put-sets : (mem : List ℕ) (start : ℕ) (d : List ℕ) → start + length d ≤ length mem → put mem start d ≡ sets mem start d
-put-sets mem start d h = sym (sets-eq d mem start h)
+pub overwrite-sets : (mem : List ℕ) (start : ℕ) (d : List ℕ) → start + length d ≤ length mem → put mem start d ≡ sets mem start d
+overwrite-sets mem start d h = sym (sets-eq d mem start h)
 
 -- one byte
 pub put-one : (mem : List ℕ) (start v : ℕ) → start < length mem → put mem start (v ∷ []) ≡ set mem start v
-put-one mem start v h = put-sets mem start (v ∷ []) (omega arith)
+put-one mem start v h = overwrite-sets mem start (v ∷ []) (omega arith)
 
 -- the first byte, then the others
 pub put-more : (mem : List ℕ) (start v : ℕ) (d : List ℕ) → start + length (v ∷ d) ≤ length mem
     → put mem start (v ∷ d) ≡ put (set mem start v) (start + 1) d
 put-more mem start v d h =
     let l : start + 1 + length d ≤ length (set mem start v) = rw length-set (omega arith) in
-    put-sets mem start (v ∷ d) h ∙ rw (put-sets (set mem start v) (start + 1) d l, add-one)
+    overwrite-sets mem start (v ∷ d) h ∙ rw (overwrite-sets (set mem start v) (start + 1) d l, add-one)
 
 module _ (mem : List ℕ) (start : ℕ) (d : List ℕ) (h : start + length d ≤ length mem) where
   -- the memory keeps its length
   pub put-length : length (put mem start d) ≡ length mem
-  put-length = ap length (put-sets mem start d h) ∙ length-sets mem start d
+  put-length = ap length (overwrite-sets mem start d h) ∙ length-sets mem start d
 
   front-length : length (take start mem) ≡ start
   front-length = length-take-le start mem (omega arith)
