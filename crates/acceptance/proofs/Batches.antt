@@ -8,10 +8,10 @@ use Rattle.dpa.specs.Reply.{reply}
 use Rattle.dpa.specs.declared.settings.Settings.{Settings}
 use Rattle.batch.specs.Batch.{listBytes, Reading, runItems, errorsOf}
 use Rattle.dpa.specs.Lists.{All}
-use Rattle.batch.proofs.RoundTrip.{round-trip, list-some}
-use Rattle.handler.specs.Request.{State, StateRule, hwpidMatches, executeEntry, entryAfter, entryError, noReport, Outcome, outcome, batchOutcome, batchRequest}
+use Rattle.batch.proofs.RoundTrip.{round-trip, list-nonempty}
+use Rattle.handler.specs.Request.{State, SoundState, hwpidMatches, executeEntry, entryAfter, entryError, noReport, Outcome, outcome, batchOutcome, batchRequest}
 use Rattle.handler.proofs.Soundness.{entry-sound}
-use Rattle.handler.proofs.Executing.{batch-runs}
+use Rattle.handler.proofs.Outcomes.{batch-runs}
 use Rattle.book.specs.declared.step.Step.{Step}
 use Rattle.book.specs.Group.{joined}
 use Rattle.book.specs.Machine.{machine}
@@ -30,11 +30,11 @@ Performs h run st = (executeEntry (joinedItem h run) st .error ≡ 0) × (execut
 -- the entries of these steps, at any sound node that takes their profile
 abbrev pub AllPerform : ℕ → (List Step → Type 0) → Type 0
 AllPerform h Run =
-    (run : List Step) (st : State) → Run run → StateRule st → hwpidMatches (st .node .settings) h ≡ true → Performs h run st
+    (run : List Step) (st : State) → Run run → SoundState st → hwpidMatches (st .node .settings) h ≡ true → Performs h run st
 
 module _ (h : ℕ) (Run : List Step → Type 0) (performs : AllPerform h Run) where
   -- in order, each from what the last one left
-  pub entries-perform : (runs : List (List Step)) (st : State) → All Run runs → StateRule st → hwpidMatches (st .node .settings) h ≡ true
+  pub entries-perform : (runs : List (List Step)) (st : State) → All Run runs → SoundState st → hwpidMatches (st .node .settings) h ≡ true
       → All (λ (e : ℕ). e ≡ 0) (errorsOf entryError entryAfter (joinedItems h runs) st)
       × (runItems entryAfter (joinedItems h runs) st ≡ machine (joined runs) st)
   unfolding runItems errorsOf
@@ -47,12 +47,12 @@ module _ (h : ℕ) (Run : List Step → Type 0) (performs : AllPerform h Run) wh
       ((first .0, rest .0), rest .1 ∙ ap (machine (joined rs)) (first .1) ∙ sym (machine-append r (joined rs) st))
 
   -- their list is read back and runs
-  pub batch-performs : (runs : List (List Step)) (st : State) → All Run runs → StateRule st → hwpidMatches (st .node .settings) h ≡ true
+  pub batch-performs : (runs : List (List Step)) (st : State) → All Run runs → SoundState st → hwpidMatches (st .node .settings) h ≡ true
       → batchRequest (listBytes (joinedItems h runs)) st
       ≡ finished (machine (joined runs) st) (errorsOf entryError entryAfter (joinedItems h runs) st)
   batch-performs runs st a k f =
       let is = joinedItems h runs in
       let back = round-trip is in
-      batch-runs (listBytes is) st (λ z. omega (arith, list-some is)) (ap (λ (r : Reading). r .check) back)
+      batch-runs (listBytes is) st (λ z. omega (arith, list-nonempty is)) (ap (λ (r : Reading). r .check) back)
       ∙ ap (λ (r : Reading). batchOutcome (r .items) st) back
       ∙ ap (λ (t : State). finished t (errorsOf entryError entryAfter is st)) (entries-perform runs st a k f .1)

@@ -19,15 +19,15 @@ use Rattle.dpa.proofs.Ranges.{settings-facts}
 use Rattle.memory.specs.declared.block.Memory.the-variants.{Eeprom, External}
 use Rattle.memory.specs.Block.{sizeOf}
 use Rattle.batch.specs.Batch.{Item, item}
-use Rattle.handler.specs.Request.{State, StateRule, itemOf, noReport, Outcome, execute, CallResult, broadcast, respond, requestRefusal, refusalOf, handleRequest}
+use Rattle.handler.specs.Request.{State, SoundState, frameItem, noReport, Outcome, execute, CallResult, broadcastResult, unicastResult, requestRefusal, callRefusal, handleRequest}
 use Rattle.node.proofs.Nodes.{node-settings}
-use Rattle.handler.proofs.Handling.{frame-broadcast, frame-unicast, call-accepted}
+use Rattle.handler.proofs.Calls.{frame-broadcast, frame-unicast, call-accepted}
 use Rattle.handler.proofs.Soundness.{execute-sound}
 use Rattle.acceptance.specs.SceneTheorem.{Success}
 use Rattle.acceptance.proofs.Batches.{finished}
 
 -- a sound node with its memories, a frame and room: no refusal
-not-refused : (f : List ℕ) (st : State) (o : List ℕ) → StateRule st → headerSize ≤ length f → length f ≤ longestFrame → longestResponse ≤ length o → refusalOf f st o ≡ 0
+not-refused : (f : List ℕ) (st : State) (o : List ℕ) → SoundState st → headerSize ≤ length f → length f ≤ longestFrame → longestResponse ≤ length o → callRefusal f st o ≡ 0
 unfolding requestRefusal frameFits
 not-refused f st o k lo hi room =
     rw (
@@ -40,12 +40,12 @@ not-refused f st o k lo hi room =
 
 -- carried out in silence for all, with a response for the node's address
 abbrev takenAs : ℕ → Settings → Item → Outcome → List ℕ → CallResult
-takenAs a s i x o = cond (eqb a broadcastNadr) (broadcast x o) (respond s i x o)
+takenAs a s i x o = cond (eqb a broadcastNadr) (broadcastResult x o) (unicastResult s i x o)
 
 -- a frame for the node's address or for all that is not refused
-taken-as : (f : List ℕ) (st : State) (o : List ℕ) → StateRule st → refusalOf f st o ≡ 0
+taken-as : (f : List ℕ) (st : State) (o : List ℕ) → SoundState st → callRefusal f st o ≡ 0
     → (a : ℕ) → headerOf f .nadr ≡ a → (a ≡ st .node .settings .address) ⊎ (a ≡ broadcastNadr)
-    → handleRequest f st o ≡ takenAs a (st .node .settings) (itemOf f) (execute (itemOf f) st) o
+    → handleRequest f st o ≡ takenAs a (st .node .settings) (frameItem f) (execute (frameItem f) st) o
 taken-as f st o k z a e (inl own) =
     let most = settings-facts (st .node .settings) (node-settings (st .node) (k .node-ok)) .address-max in
     rw (ne-eqb a broadcastNadr (λ q. omega arith)) (call-accepted f st o z ∙ frame-unicast f st o (λ q. omega arith) (e ∙ own))
@@ -53,13 +53,13 @@ taken-as f st o k z a e (inr all) = rw (eq-eqb a broadcastNadr all) (call-accept
 
 -- what is then left, without an error and without data
 left-by : (s : Settings) (i : Item) (end : State) (es o : List ℕ) (b : Bool)
-    → let c : CallResult = cond b (broadcast (finished end es) o) (respond s i (finished end es) o) in
+    → let c : CallResult = cond b (broadcastResult (finished end es) o) (unicastResult s i (finished end es) o) in
     (c .refusal ≡ 0) × (c .length ≡ cond b 0 responseHeaderSize) × (c .response ≡ cond b o (overwriteFront (responseHeader s (i .pnum) (i .pcmd) 0) o))
     × (c .report ≡ noReport) × (c .addressed ≡ true) × (c .after ≡ end)
 left-by s i end es o true = (refl, refl, refl, refl, refl, refl)
 left-by s i end es o false = (refl, refl, refl, refl, refl, refl)
 
-module _ (pcmd a h : ℕ) (pdata : List ℕ) (st : State) (o : List ℕ) (k : StateRule st)
+module _ (pcmd a h : ℕ) (pdata : List ℕ) (st : State) (o : List ℕ) (k : SoundState st)
     (short : length (headerBytes (frame a osPnum pcmd h) ++ pdata) ≤ longestFrame) (room : longestResponse ≤ length o)
     (mine : (a ≡ st .node .settings .address) ⊎ (a ≡ broadcastNadr))
     {end : State} {es : List ℕ} (did : execute (item osPnum pcmd h pdata) st ≡ finished end es) where
@@ -70,26 +70,26 @@ module _ (pcmd a h : ℕ) (pdata : List ℕ) (st : State) (o : List ℕ) (k : St
   back = read-written (frame a osPnum pcmd h) pdata
 
   -- the request is the one that was carried out
-  request-did : execute (itemOf request) st ≡ finished end es
+  request-did : execute (frameItem request) st ≡ finished end es
   request-did = ap (λ (x : Frame). execute (item (x .pnum) (x .pcmd) (x .hwpid) pdata) st) back ∙ did
 
-  call-as : handleRequest request st o ≡ takenAs a (st .node .settings) (itemOf request) (finished end es) o
+  call-as : handleRequest request st o ≡ takenAs a (st .node .settings) (frameItem request) (finished end es) o
   call-as =
       taken-as request st o k (not-refused request st o k (omega arith) short room) a (ap (λ (x : Frame). x .nadr) back) mine
-      ∙ ap (λ (x : Outcome). takenAs a (st .node .settings) (itemOf request) x o) request-did
+      ∙ ap (λ (x : Outcome). takenAs a (st .node .settings) (frameItem request) x o) request-did
 
   -- the call leaves what carrying out leaves
   pub call-leaves : handleRequest request st o .after ≡ end
-  call-leaves = ap (λ (c : CallResult). c .after) call-as ∙ left-by (st .node .settings) (itemOf request) end es o (eqb a broadcastNadr) .5
+  call-leaves = ap (λ (c : CallResult). c .after) call-as ∙ left-by (st .node .settings) (frameItem request) end es o (eqb a broadcastNadr) .5
 
   -- which is a sound node with its memories
-  pub call-sound : StateRule (handleRequest request st o .after)
-  call-sound = subst StateRule (ap (λ (x : Outcome). x .after) request-did ∙ sym call-leaves) (execute-sound (itemOf request) st k)
+  pub call-sound : SoundState (handleRequest request st o .after)
+  call-sound = subst SoundState (ap (λ (x : Outcome). x .after) request-did ∙ sym call-leaves) (execute-sound (frameItem request) st k)
 
   -- no entry has an error: the call succeeds
   pub call-succeeds : All (λ (e : ℕ). e ≡ 0) es → Success pcmd a (st .node .settings) request st o
   call-succeeds none =
-      let is = left-by (st .node .settings) (itemOf request) end es o (eqb a broadcastNadr) in
+      let is = left-by (st .node .settings) (frameItem request) end es o (eqb a broadcastNadr) in
       record {
         refusal = ap (λ (c : CallResult). c .refusal) call-as ∙ is .0;
         error = ap (λ (x : Outcome). x .error) request-did;

@@ -23,8 +23,8 @@ use Rattle.lights.specs.declared.apply.Command.the-variants.{Set, Raise, Lower}
 use Rattle.lights.specs.declared.lamp.Lamp.{Lamp}
 use Rattle.lights.specs.declared.entry.LampChange.{LampChange}
 use Rattle.node.specs.Node.{withLamps}
-use Rattle.handler.specs.Request.{State, withNode, perform}
-use Rattle.handler.proofs.Performing.{perform-lights}
+use Rattle.handler.specs.Request.{State, withNode, peripheralRequest}
+use Rattle.handler.proofs.Peripherals.{peripheral-lights}
 use Rattle.book.specs.declared.step.Step.{Step}
 use Rattle.book.specs.Step.{stepTimeOk}
 use Rattle.book.specs.Machine.{machineLevel, machineSeconds, machineLamp, machineLamps, machineEffect, machineStep, machine}
@@ -283,10 +283,10 @@ module _ (k : ℕ) (lamp : k < 3) where
       go (suc (suc (suc j))) h = absurd (omega arith)
 
   entry-lights : (d : List ℕ) (st : State)
-      → perform (pnumOf k) (pcmdOf k) d st
+      → peripheralRequest (pnumOf k) (pcmdOf k) d st
       ≡ mapState (withNode st) (mapState (withLamps (st .node)) (changeLamps (st .node .settings) (commandOf k) d (st .node .lamps)))
   unfolding pnumOf pcmdOf
-  entry-lights d st = rw (lt-ltb k 3 lamp) (perform-lights 0x71 k d st refl ∙ rw (request-command (st .node .settings) d (st .node .lamps)))
+  entry-lights d st = rw (lt-ltb k 3 lamp) (peripheral-lights 0x71 k d st refl ∙ rw (request-command (st .node .settings) d (st .node .lamps)))
 
   -- the request of such steps
   request-run : (s : Settings) (ss : List Step) (ls : List Lamp) → length ls ≡ 32 → LampRun k 0 ss
@@ -305,7 +305,7 @@ module _ (k : ℕ) (lamp : k < 3) where
 
   -- an entry of such steps: no error, and the step machine's state
   pub entry-lamp-run : (ss : List Step) (st : State) → length (st .node .lamps) ≡ 32 → LampRun k 0 ss
-      → perform (pnumOf k) (pcmdOf k) (fourBytes (bitmapOf ss) ++ powersBytes ss) st
+      → peripheralRequest (pnumOf k) (pcmdOf k) (fourBytes (bitmapOf ss) ++ powersBytes ss) st
       ≡ reply (machine ss st) 0 (levelsBefore (st .node .settings) (st .node .settings .«lamp_count») (bits 32 (maskFrom targetOf 0 ss)) (st .node .lamps))
   entry-lamp-run ss st full r =
       entry-lights (fourBytes (bitmapOf ss) ++ powersBytes ss) st

@@ -12,8 +12,8 @@ use Rattle.memory.specs.Block.{sizeOf, longestOf, addressBytes, writeCommand}
 use Rattle.memory.proofs.Blocks.{Fits}
 use Rattle.memory.proofs.Puts.{put-sets}
 use Rattle.memory.proofs.Requests.{write-short}
-use Rattle.handler.specs.Request.{State, memoryOf, withMemory, onMemory, perform}
-use Rattle.handler.proofs.Performing.{memory-same, perform-memory}
+use Rattle.handler.specs.Request.{State, memoryOf, withMemory, memoryRequestOnState, peripheralRequest}
+use Rattle.handler.proofs.Peripherals.{memory-same, peripheral-memory}
 use Rattle.book.specs.declared.step.Step.{Step}
 use Rattle.book.specs.Machine.{machineEffect, machineStep, machine}
 use Rattle.book.specs.Entry.{values, pnumOf, pcmdOf}
@@ -33,7 +33,7 @@ with-with Memory.External st first bytes = refl
 pub record Writes (k : ℕ) (m : Memory) : Type 0 where
   pub place : (s : Step) → Good s → s .kind ≡ k → s .target < sizeOf m
   pub singly : (s : Step) (st : State) → Good s → s .kind ≡ k → machineStep s st ≡ withMemory m st (set (memoryOf m st) (s .target) (s .value))
-  pub entry : (d : List ℕ) (st : State) → perform (pnumOf k) (pcmdOf k) d st ≡ onMemory m (writeCommand m) d st
+  pub entry : (d : List ℕ) (st : State) → peripheralRequest (pnumOf k) (pcmdOf k) d st ≡ memoryRequestOnState m (writeCommand m) d st
   pub address : addressBytes m ≡ 1
   pub block : (n : ℕ) → n ≤ 55 → n ≤ sizeOf m → n ≤ longestOf m
 
@@ -43,7 +43,7 @@ writes-ram =
     record {
       place = λ s g e. ram-good s g e .target-max;
       singly = λ s st g e. rw (good-formed s .0 g, e);
-      entry = λ d st. perform-memory 5 1 d st Ram refl;
+      entry = λ d st. peripheral-memory 5 1 d st Ram refl;
       address = refl;
       block = λ n h l. l;
     }
@@ -54,7 +54,7 @@ writes-eeprom =
     record {
       place = λ s g e. eeprom-good s g (omega arith) .1 .target-max;
       singly = λ s st g e. rw (good-formed s .0 g, e);
-      entry = λ d st. perform-memory 3 1 d st Eeprom refl;
+      entry = λ d st. peripheral-memory 3 1 d st Eeprom refl;
       address = refl;
       block = λ n h l. h;
     }
@@ -79,7 +79,7 @@ module _ (k : ℕ) (m : Memory) (w : Writes k m) where
   -- an entry of such steps
   pub entry-byte-run : (i : ℕ) (s : Step) (ss : List Step) (st : State)
       → length (memoryOf m st) ≡ sizeOf m → length (values (s ∷ ss)) ≤ 55 → ByteRun k i (s ∷ ss)
-      → perform (pnumOf k) (pcmdOf k) (i ∷ values (s ∷ ss)) st ≡ reply (machine (s ∷ ss) st) 0 []
+      → peripheralRequest (pnumOf k) (pcmdOf k) (i ∷ values (s ∷ ss)) st ≡ reply (machine (s ∷ ss) st) 0 []
   entry-byte-run i s ss st size short r =
       let d = values (s ∷ ss) in
       let start : i < sizeOf m = omega (arith, r .2, w .place s (r .0) (r .1)) in

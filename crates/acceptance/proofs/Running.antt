@@ -12,8 +12,8 @@ use Rattle.dpa.proofs.Bool.{by-cond}
 use Rattle.memory.specs.declared.block.Memory.the-variants.{Eeprom, External}
 use Rattle.memory.specs.Block.{sizeOf}
 use Rattle.node.specs.Node.{nodeOk}
-use Rattle.handler.specs.Request.{State, StateRule, handleRequest}
-use Rattle.handler.proofs.Soundness.{request-rule}
+use Rattle.handler.specs.Request.{State, SoundState, handleRequest}
+use Rattle.handler.proofs.Soundness.{request-sound}
 use Rattle.book.specs.Book.{sceneOf}
 use Rattle.book.specs.Machine.{machine}
 use Rattle.scene.specs.Compile.{compiled}
@@ -26,7 +26,7 @@ use Rattle.acceptance.proofs.Scenes.{buffer-theorem}
 use Rattle.acceptance.proofs.Taken.{output-holds}
 
 -- what the theorem asks of a sound node, for its own address and profile
-own-given : (st : State) → StateRule st → Given st (λ _. cleared) (st .node .settings .address) (st .node .settings .hwpid)
+own-given : (st : State) → SoundState st → Given st (λ _. cleared) (st .node .settings .address) (st .node .settings .hwpid)
 own-given st r = record { sound = r; room = λ _. omega arith; address = inl refl; profile = inl refl }
 
 module _ (book : List ℕ) (k : ℕ) (st : State) (out : List ℕ) where
@@ -47,7 +47,7 @@ module _ (book : List ℕ) (k : ℕ) (st : State) (out : List ℕ) where
       -- what the compiler answered, with node and memories as they are to be
       module _ (x : length (st .external) ≡ sizeOf External) (c : CompileResult)
           (q : c ≡ compileOf book k (st .node .settings .address) (st .node .settings .hwpid) out) where
-        rule : StateRule st
+        rule : SoundState st
         rule = record { node-ok = ok; eeprom-size = e; external-size = x }
 
         compiled-first : runScene book k st out ≡ afterCompile c st (machine (sceneOf book k) st)
@@ -87,10 +87,10 @@ module _ (book : List ℕ) (k : ℕ) (st : State) (out : List ℕ) where
               sym (compiled-first ∙ rw (eq-eqb (c .refusal) 0 z) (ap (λ (y : State). notRun 0 0 y (c .buffer)) (sym end)))
 
 -- a sound node with memories of their sizes stays so under any calls
-calls-rule : (buffers : ℕ → List ℕ) (rs : List (List ℕ)) (st : State) → StateRule st → StateRule (afterCalls buffers rs st)
+calls-rule : (buffers : ℕ → List ℕ) (rs : List (List ℕ)) (st : State) → SoundState st → SoundState (afterCalls buffers rs st)
 calls-rule buffers [] st r = r
 calls-rule buffers (f ∷ fs) st r =
-    calls-rule (λ i. buffers (suc i)) fs (handleRequest f st (buffers 0) .after) (request-rule f st (buffers 0) r)
+    calls-rule (λ i. buffers (suc i)) fs (handleRequest f st (buffers 0) .after) (request-sound f st (buffers 0) r)
 
 module _ (book : List ℕ) (k : ℕ) (st : State) (out : List ℕ) where
   abbrev Unrun : Ran → Type 0
@@ -113,18 +113,18 @@ module _ (book : List ℕ) (k : ℕ) (st : State) (out : List ℕ) where
       (λ _ _. (refl, refl))
 
   -- a run keeps the rules of node and memories
-  pub scene-rule : StateRule st → StateRule (runScene book k st out .after)
+  pub scene-rule : SoundState st → SoundState (runScene book k st out .after)
   unfolding runScene afterCompile
   scene-rule r =
       let a = st .node .settings .address in
       let h = st .node .settings .hwpid in
       let c = compileOf book k a h out in
-      let Kept : Ran → Type 0 = λ (x : Ran). StateRule (x .after) in
+      let Kept : Ran → Type 0 = λ (x : Ran). SoundState (x .after) in
       by-cond Kept (nodeOk (st .node)) _ _
       (λ _. by-cond Kept (eqb (length (st .eeprom)) (sizeOf Eeprom)) _ _
       (λ _. by-cond Kept (eqb (length (st .external)) (sizeOf External)) _ _
       (λ _. by-cond Kept (eqb (c .refusal) 0) _ _
-      (λ z. subst StateRule (buffer-theorem st (λ _. cleared) book k a h out (own-given st r) (eqb-true _ _ z) .final)
+      (λ z. subst SoundState (buffer-theorem st (λ _. cleared) book k a h out (own-given st r) (eqb-true _ _ z) .final)
       (calls-rule (λ _. cleared) (requestsIn (c .buffer)) st r))
       (λ _. r))
       (λ _. r))

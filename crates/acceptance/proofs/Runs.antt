@@ -13,9 +13,9 @@ use Rattle.dpa.proofs.Bool.{by-test, and-left, and-right}
 use Rattle.memory.specs.declared.block.Memory.{Memory}
 use Rattle.memory.specs.declared.block.Memory.the-variants.{Eeprom, Ram}
 use Rattle.memory.specs.Block.{sizeOf}
-use Rattle.handler.specs.Request.{State, StateRule, memoryOf, hwpidMatches, perform, executeEntry}
+use Rattle.handler.specs.Request.{State, SoundState, memoryOf, hwpidMatches, peripheralRequest, executeEntry}
 use Rattle.node.proofs.Nodes.{node-lamps, node-ram}
-use Rattle.handler.proofs.Entering.{entry-mine}
+use Rattle.handler.proofs.BatchEntries.{entry-match}
 use Rattle.book.specs.declared.step.Step.{Step}
 use Rattle.book.specs.Machine.{machine}
 use Rattle.book.specs.Entry.{entryData, pnumOf, pcmdOf, joinedItem}
@@ -50,9 +50,9 @@ Leaves st a = (a .error ≡ 0) × (a .after ≡ st)
 
 module _ (most : ℕ) (limit : most ≤ pdataMax) (s : Step) (ss : List Step) (st : State) (r : Run most (s ∷ ss)) where
   abbrev done : Reply State
-  done = perform (pnumOf (s .kind)) (pcmdOf (s .kind)) (entryData s ss) st
+  done = peripheralRequest (pnumOf (s .kind)) (pcmdOf (s .kind)) (entryData s ss) st
 
-  lamps-perform : s .kind < 3 → StateRule st → Leaves (machine (s ∷ ss) st) done
+  lamps-perform : s .kind < 3 → SoundState st → Leaves (machine (s ∷ ss) st) done
   unfolding entryData
   lamps-perform h k =
       let q : LampRun (s .kind) 0 (s ∷ ss) = (r .0, refl, omega arith, lamp-run (s .kind) h s ss refl (r .1)) in
@@ -65,7 +65,7 @@ module _ (most : ℕ) (limit : most ≤ pdataMax) (s : Step) (ss : List Step) (s
       let short = rw (le-ltb (s .kind) 3 h) at (r .2) in
       rw (le-ltb (s .kind) 3 h, entry-byte-run (s .kind) m w (s .target) s ss st size (omega arith) q) (refl, refl)
 
-  kinds-perform : StateRule st → Leaves (machine (s ∷ ss) st) done
+  kinds-perform : SoundState st → Leaves (machine (s ∷ ss) st) done
   kinds-perform k =
       by-test (ltb (s .kind) 3) (λ t. lamps-perform (ltb-true (s .kind) 3 t) k)
       (λ t. by-test (eqb (s .kind) 3)
@@ -77,10 +77,10 @@ module _ (most : ℕ) (limit : most ≤ pdataMax) (s : Step) (ss : List Step) (s
 
 -- an entry that joining makes, for a profile that the node takes: no error, and the state of its steps done singly
 pub run-performs : {entryMost listMost : ℕ} {front : List ℕ} → Limits entryMost listMost front → (h : ℕ) (run : List Step) (st : State)
-    → Run entryMost run → StateRule st → hwpidMatches (st .node .settings) h ≡ true
+    → Run entryMost run → SoundState st → hwpidMatches (st .node .settings) h ≡ true
     → (executeEntry (joinedItem h run) st .error ≡ 0) × (executeEntry (joinedItem h run) st .after ≡ machine run st)
 run-performs limits h [] st r k f = absurd r
 run-performs {entryMost} limits h (s ∷ ss) st r k f =
-    let e = entry-mine (joinedItem h (s ∷ ss)) st f in
+    let e = entry-match (joinedItem h (s ∷ ss)) st f in
     let d = kinds-perform entryMost (omega (arith, limits .list, limits .frame)) s ss st r k in
     (ap (λ (a : Reply State). a .error) e ∙ d .0, ap (λ (a : Reply State). a .after) e ∙ d .1)

@@ -11,7 +11,7 @@ use Rattle.dpa.specs.Pnum.{osPnum}
 use Rattle.dpa.specs.declared.settings.Settings.{Settings}
 use Rattle.batch.specs.Batch.{item, listBytes}
 use Rattle.handler.specs.Request.{State, hwpidMatches, batchRequest, execute}
-use Rattle.handler.proofs.Executing.{execute-os, os-batch}
+use Rattle.handler.proofs.Outcomes.{execute-os, os-batch}
 use Rattle.book.specs.Book.{sceneOf}
 use Rattle.scene.proofs.Lists.{limits}
 use Rattle.scene.proofs.Outputs.{buffer-back}

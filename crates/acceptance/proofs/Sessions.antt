@@ -10,7 +10,7 @@ use Rattle.dpa.specs.Frame.{longestResponse, broadcastNadr, frame}
 use Rattle.dpa.specs.Pnum.{osPnum}
 use Rattle.batch.specs.Batch.{Item, item, listBytes}
 use Rattle.dpa.specs.Lists.{All}
-use Rattle.handler.specs.Request.{State, StateRule, hwpidMatches, batchRequest, execute, handleRequest}
+use Rattle.handler.specs.Request.{State, SoundState, hwpidMatches, batchRequest, execute, handleRequest}
 use Rattle.book.specs.declared.step.Step.{Step}
 use Rattle.book.specs.Group.{joined}
 use Rattle.book.specs.Machine.{machine}
@@ -29,7 +29,7 @@ use Rattle.acceptance.proofs.Calls.{call-leaves, call-sound, call-succe
 pub record Done (pcmd a : ℕ) (s : Settings) (request : List ℕ) (steps : List Step) (st : State) (o : List ℕ) : Type 0 where
   pub success : Success pcmd a s request st o
   pub after : handleRequest request st o .after ≡ machine steps st
-  pub sound : StateRule (handleRequest request st o .after)
+  pub sound : SoundState (handleRequest request st o .after)
 
 -- Two limits; a PCMD of OS 02 and bytes in front of a list of entries, which a node with settings s carries out as the list
 -- alone. Only lists that can be read are asked about.
@@ -40,7 +40,7 @@ module _ {entryMost listMost : ℕ} {front : List ℕ} (limits : Limits entryMos
     (performs : AllPerform h (Run entryMost)) where
   -- a request of entries that joining and filling make
   pub request-done : (runs : List (List Step)) (st : State) (o : List ℕ) → Filling entryMost listMost h runs
-      → StateRule st → st .node .settings ≡ s → longestResponse ≤ length o → Done pcmd a s (requestBytes pcmd front a h runs) (joined runs) st o
+      → SoundState st → st .node .settings ≡ s → longestResponse ≤ length o → Done pcmd a s (requestBytes pcmd front a h runs) (joined runs) st o
   request-done runs st o b k e room =
       let list = listBytes (joinedItems h runs) in
       let own : hwpidMatches (st .node .settings) h ≡ true = ap (λ (n : Settings). hwpidMatches n h) e ∙ ours in
@@ -57,7 +57,7 @@ module _ {entryMost listMost : ℕ} {front : List ℕ} (limits : Limits entryMos
       }
 
   requests-done : (bs : List (List (List Step))) (buffers : ℕ → List ℕ) (st : State)
-      → All (Filling entryMost listMost h) bs → StateRule st → st .node .settings ≡ s → ((k : ℕ) → longestResponse ≤ length (buffers k))
+      → All (Filling entryMost listMost h) bs → SoundState st → st .node .settings ≡ s → ((k : ℕ) → longestResponse ≤ length (buffers k))
       → AllSucceed pcmd a s buffers (map (requestBytes pcmd front a h) bs) st
       × (afterCalls buffers (map (requestBytes pcmd front a h) bs) st ≡ machine (joined (joined bs)) st)
   requests-done [] buffers st b k e room = (tt, refl)
@@ -75,7 +75,7 @@ module _ {entryMost listMost : ℕ} {front : List ℕ} (limits : Limits entryMos
 
   -- steps of which none is bad
   pub steps-done : (steps : List Step) (buffers : ℕ → List ℕ) (st : State)
-      → All Good steps → StateRule st → st .node .settings ≡ s → ((k : ℕ) → longestResponse ≤ length (buffers k))
+      → All Good steps → SoundState st → st .node .settings ≡ s → ((k : ℕ) → longestResponse ≤ length (buffers k))
       → DoneAsSteps pcmd a buffers (requestsOf entryMost listMost pcmd front a h steps) steps st
   steps-done steps buffers st good k e room =
       let bs = batchesOf entryMost listMost h steps in

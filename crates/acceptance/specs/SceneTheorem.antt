@@ -20,7 +20,7 @@ use Rattle.dpa.specs.Lists.{overwriteFront, All}
 use Rattle.dpa.specs.Frame.{responseHeaderSize, longestResponse, broadcastNadr, anyHwpid, responseHeader}
 use Rattle.dpa.specs.Pnum.{osPnum}
 use Rattle.dpa.specs.Settings.{lastAddress}
-use Rattle.handler.specs.Request.{State, StateRule, itemOf, noReport, execute, handleRequest}
+use Rattle.handler.specs.Request.{State, SoundState, frameItem, noReport, execute, handleRequest}
 use Rattle.book.specs.declared.step.Step.{Step}
 use Rattle.book.specs.Book.{countOf, bookOk, sceneOf}
 use Rattle.book.specs.Step.{stepFault}
@@ -73,7 +73,7 @@ pub record Refusals (book : List ℕ) (scene a : ℕ) (out : List ℕ) (r : Comp
 -- its number, has a response buffer with room and any contents; the scene is compiled for the node's address or 255, with the
 -- node's profile or 0xFFFF.
 pub record Given (st : State) (buffers : ℕ → List ℕ) (a h : ℕ) : Type 0 where
-  pub sound : StateRule st
+  pub sound : SoundState st
   pub room : (k : ℕ) → longestResponse ≤ length (buffers k)
   pub address : (a ≡ st .node .settings .address) ⊎ (a ≡ broadcastNadr)
   pub profile : (h ≡ st .node .settings .hwpid) ⊎ (h ≡ anyHwpid)
@@ -83,8 +83,8 @@ pub record Success (pcmd a : ℕ) (s : Settings) (request : List ℕ) (st : Stat
   -- the call's refusal
   pub refusal : handleRequest request st buffer .refusal ≡ 0
   -- the ErrN of the request and of each entry in it, sent or not
-  pub error : execute (itemOf request) st .error ≡ 0
-  pub entries : All (λ (e : ℕ). e ≡ 0) (execute (itemOf request) st .entries)
+  pub error : execute (frameItem request) st .error ≡ 0
+  pub entries : All (λ (e : ℕ). e ≡ 0) (execute (frameItem request) st .entries)
   -- the answer: eight header bytes and the later bytes as they were, or at broadcast the buffer as it was
   pub length : handleRequest request st buffer .length ≡ cond (eqb a broadcastNadr) 0 responseHeaderSize
   pub response : handleRequest request st buffer .response ≡ cond (eqb a broadcastNadr) buffer (overwriteFront (responseHeader s osPnum pcmd 0) buffer)

@@ -13,12 +13,12 @@ use Rattle.batch.specs.declared.list.ListCheck.{ListCheck}
 use Rattle.batch.specs.declared.list.ListCheck.the-variants.{Sound, Broken}
 use Rattle.batch.specs.declared.entry.NextEntry.{NextEntry}
 use Rattle.batch.specs.declared.entry.NextEntry.the-variants.{Entry, Fault}
-use Rattle.batch.specs.Batch.{closing, nextEntry, Reading, stopped, entryLength, shiftFault, faultOf, andRest, readFrom, reading}
+use Rattle.batch.specs.Batch.{closing, nextEntry, Reading, stopped, entryLength, shiftFault, faultOf, andRest, readingFrom, reading}
 use Rattle.batch.proofs.Entries.{Means, next-means, next-none, entry-sized, entry-open}
 
 -- what is read from byte k on is what the bytes from there read as
-pub from-drop : (s : List ℕ) (k : ℕ) → readFrom s k ≡ reading (drop k s)
-unfolding readFrom
+pub from-drop : (s : List ℕ) (k : ℕ) → readingFrom s k ≡ reading (drop k s)
+unfolding readingFrom
 from-drop [] zero = refl
 from-drop [] (suc k) = refl
 from-drop (b ∷ s) zero = refl
@@ -27,16 +27,16 @@ from-drop (b ∷ s) (suc k) = from-drop s k
 -- the closing zero is tested; then each entry is read, then the rest of the list
 pub reading-step : (s : List ℕ)
     → reading s ≡ cond (closing s) (stopped Sound) (andRest (nextEntry s) s (reading (drop (entryLength (nextEntry s)) s)))
-unfolding readFrom
+unfolding readingFrom
 reading-step [] = ap (λ (n : NextEntry). andRest n [] (reading (drop (entryLength n) []))) (sym (next-none [] refl))
 reading-step (b ∷ s) = ap (cond (closing (b ∷ s)) (stopped Sound)) (at (nextEntry (b ∷ s)) (next-means (b ∷ s)))
   where
-    after : (l : ℕ) → 5 ≤ l → readFrom s (l - 1) ≡ reading (drop l (b ∷ s))
+    after : (l : ℕ) → 5 ≤ l → readingFrom s (l - 1) ≡ reading (drop l (b ∷ s))
     after zero h = absurd (omega arith)
     after (suc l) h = rw (sub-one (suc l)) (from-drop s l)
 
     at : (n : NextEntry) → Means (b ∷ s) n
-        → andRest n (b ∷ s) (readFrom s (entryLength n - 1)) ≡ andRest n (b ∷ s) (reading (drop (entryLength n) (b ∷ s)))
+        → andRest n (b ∷ s) (readingFrom s (entryLength n - 1)) ≡ andRest n (b ∷ s) (reading (drop (entryLength n) (b ∷ s)))
     at (Entry l p c h) z = ap (andRest (Entry l p c h) (b ∷ s)) (after l (z .0))
     at (Fault r a) z = refl
 

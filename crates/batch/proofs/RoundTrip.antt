@@ -75,8 +75,8 @@ round-trip is =
     ∙ ap (λ (js : List Item). record { items = js; check = Sound }) (append-nil is)
 
 -- a list has at least the zero
-pub list-some : (is : List Item) → 0 < length (listBytes is)
-list-some is = rw (length-append (entriesBytes is) (0 ∷ [])) (omega arith)
+pub list-nonempty : (is : List Item) → 0 < length (listBytes is)
+list-nonempty is = rw (length-append (entriesBytes is) (0 ∷ [])) (omega arith)
 
 -- a sendable entry is made of bytes
 pub entry-bytes : (i : Item) → Sendable i → Bytes (entryBytes i)

@@ -113,15 +113,15 @@ andRest (Entry l p c h) s r =
 andRest (Fault k a) s r = stopped (faultOf (Fault k a))
 
 -- s read from its byte k on: the zero ends it; else an entry is read, its bytes are passed over, then the rest is read
-unfoldable pub readFrom : List ℕ → ℕ → Reading
-readFrom [] k = stopped (Broken unclosedReason 0)
-readFrom (b ∷ s) (suc k) = readFrom s k
-readFrom (b ∷ s) zero =
+unfoldable pub readingFrom : List ℕ → ℕ → Reading
+readingFrom [] k = stopped (Broken unclosedReason 0)
+readingFrom (b ∷ s) (suc k) = readingFrom s k
+readingFrom (b ∷ s) zero =
     cond (closing (b ∷ s)) (stopped Sound)
-    (andRest (nextEntry (b ∷ s)) (b ∷ s) (readFrom s (entryLength (nextEntry (b ∷ s)) - 1)))
+    (andRest (nextEntry (b ∷ s)) (b ∷ s) (readingFrom s (entryLength (nextEntry (b ∷ s)) - 1)))
 
 abbrev pub reading : List ℕ → Reading
-reading s = readFrom s 0
+reading s = readingFrom s 0
 
 -- the ErrN of a batch with such a list
 abbrev pub listError : ListCheck → ℕ

@@ -13,17 +13,17 @@ use Rattle.checksum.specs.Check.{codeCheck}
 use Rattle.checksum.proofs.Checks.{check-harmless}
 use Rattle.batch.specs.Batch.{Item, reading, listError}
 use Rattle.node.specs.Node.{withLamps}
-use Rattle.handler.specs.Request.{State, withNode, memoryOf, withMemory, perform, hwpidMatches, executeEntry, loadReport, noReport, Outcome, plain, batchRequest, codeCheckRequest, execute, itemOf, CallResult, noResponse, refusalOf, handleRequest}
-use Rattle.handler.proofs.Performing.{memory-same, perform-cases}
-use Rattle.handler.proofs.Executing.{os-cases, execute-cases}
-use Rattle.handler.proofs.Handling.{call-refused, call-cases}
+use Rattle.handler.specs.Request.{State, withNode, memoryOf, withMemory, peripheralRequest, hwpidMatches, executeEntry, loadReport, noReport, Outcome, plain, batchRequest, codeCheckRequest, execute, frameItem, CallResult, noResponse, callRefusal, handleRequest}
+use Rattle.handler.proofs.Peripherals.{memory-same, perform-cases}
+use Rattle.handler.proofs.Outcomes.{os-cases, execute-cases}
+use Rattle.handler.proofs.Calls.{call-refused, call-cases}
 
 -- seen on a larger state, a harmless request is harmless
 harmless-within : {S T : Type 0} (put : S → T) (s : S) (t : T) (a : Reply S) → put s ≡ t → Harmless s a → Harmless t (mapState put a)
 harmless-within put s t a e h n = (ap put (h n .0) ∙ e, h n .1)
 
 -- a request to a peripheral that has an error changes nothing and has no data
-pub perform-harmless : (pnum pcmd : ℕ) (d : List ℕ) (st : State) → Harmless st (perform pnum pcmd d st)
+pub perform-harmless : (pnum pcmd : ℕ) (d : List ℕ) (st : State) → Harmless st (peripheralRequest pnum pcmd d st)
 perform-harmless pnum pcmd d st =
     perform-cases pnum pcmd d st (λ (a : Reply State). Harmless st a)
     (λ m. harmless-within (withMemory m st) (memoryOf m st) st _ (memory-same m st) (request-harmless m d (memoryOf m st) pcmd))
@@ -54,10 +54,10 @@ check-clean d st n =
     let h = check-harmless (st .external) d n in
     λ j. record { after = st; error = codeCheck (st .external) d .error; bytes = h .1 j; entries = []; report = loadReport (h .0 j) }
 
-perform-clean : (pnum pcmd : ℕ) (d : List ℕ) (st : State) → Clean st (plain (perform pnum pcmd d st))
+perform-clean : (pnum pcmd : ℕ) (d : List ℕ) (st : State) → Clean st (plain (peripheralRequest pnum pcmd d st))
 perform-clean pnum pcmd d st n =
     let h = perform-harmless pnum pcmd d st n in
-    λ j. record { after = h .0 j; error = perform pnum pcmd d st .error; bytes = h .1 j; entries = []; report = noReport }
+    λ j. record { after = h .0 j; error = peripheralRequest pnum pcmd d st .error; bytes = h .1 j; entries = []; report = noReport }
 
 -- a request with an error changes nothing, has no data, ran no entry and has nothing to report
 pub execute-harmless : (i : Item) (st : State) → (execute i st .error ≡ 0 → ⊥) → execute i st ≡ plain (refused st (execute i st .error))
@@ -67,11 +67,11 @@ execute-harmless i st =
     (perform-clean (i .pnum) (i .pcmd) (i .pdata) st)
 
 -- sent or not, a frame whose request has an error leaves the state as it was
-pub error-keeps : (f : List ℕ) (st : State) (o : List ℕ) → (execute (itemOf f) st .error ≡ 0 → ⊥) → handleRequest f st o .after ≡ st
+pub error-keeps : (f : List ℕ) (st : State) (o : List ℕ) → (execute (frameItem f) st .error ≡ 0 → ⊥) → handleRequest f st o .after ≡ st
 error-keeps f st o n =
-    let e : execute (itemOf f) st .after ≡ st = ap (λ (a : Outcome). a .after) (execute-harmless (itemOf f) st n) in
+    let e : execute (frameItem f) st .after ≡ st = ap (λ (a : Outcome). a .after) (execute-harmless (frameItem f) st n) in
     call-cases (λ (a : CallResult). a .after ≡ st) f st o (λ k. refl) (λ _. e) (λ _. e)
 
 -- a refused call hands everything back as it came
-pub refused-keeps : (f : List ℕ) (st : State) (o : List ℕ) → (refusalOf f st o ≡ 0 → ⊥) → handleRequest f st o ≡ noResponse st (refusalOf f st o) o
+pub refused-keeps : (f : List ℕ) (st : State) (o : List ℕ) → (callRefusal f st o ≡ 0 → ⊥) → handleRequest f st o ≡ noResponse st (callRefusal f st o) o
 refused-keeps f st o n = sym (call-refused f st o refl n)

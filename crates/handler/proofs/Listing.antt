@@ -12,7 +12,7 @@ use Rattle.batch.specs.declared.entry.NextEntry.the-variants.{Entry, Fault}
 use Rattle.batch.specs.Batch.{closing, nextEntry, item, reading, runItems}
 use Rattle.batch.proofs.Entries.{entry-sized}
 use Rattle.batch.proofs.Running.{items-closed, items-fault, items-more}
-use Rattle.handler.specs.Request.{State, StateRule, entryAfter}
+use Rattle.handler.specs.Request.{State, SoundState, entryAfter}
 use Rattle.handler.proofs.Soundness.{entry-sound}
 
 -- what the bytes of a list make of a state
@@ -22,10 +22,10 @@ ranAt s st = runItems entryAfter (reading s .items) st
 -- at a place of the list: what is left to run at this state gives what all of it gives at the old one
 pub record Running (list : List ℕ) (old : State) (at : ℕ) (st : State) : Type 0 where
   pub place-max : at ≤ length list
-  pub sound : StateRule st
+  pub sound : SoundState st
   pub rest : ranAt (drop at list) st ≡ ranAt list old
 
-pub run-starts : (list : List ℕ) (old : State) → StateRule old → Running list old 0 old
+pub run-starts : (list : List ℕ) (old : State) → SoundState old → Running list old 0 old
 run-starts list old h = record { place-max = omega arith; sound = h; rest = refl }
 
 module _ (list : List ℕ) (old : State) (at : ℕ) (st : State) (h : Running list old at st) where
@@ -52,7 +52,7 @@ module _ (list : List ℕ) (old : State) (at : ℕ) (st : State) (h : Running li
       let i : take ((at + l) - (at + 5)) (drop (at + 5) list) ≡ slice (drop at list) 5 (l - 5) = rw (d, drop-drop) refl in
       record {
         place-max = turn-sized e .1;
-        sound = subst StateRule (sym q) (entry-sound (item p c w (take ((at + l) - (at + 5)) (drop (at + 5) list))) st (h .sound));
+        sound = subst SoundState (sym q) (entry-sound (item p c w (take ((at + l) - (at + 5)) (drop (at + 5) list))) st (h .sound));
         rest =
             ap (λ (s : List ℕ). ranAt s next) (sym (drop-drop l at list) ∙ sym (to-end l (drop at list)))
             ∙ items-more entryAfter (drop at list) st (ap nextEntry (sym tail-is) ∙ e) (q ∙ ap (λ (s : List ℕ). entryAfter (item p c w s) st) i) refl

@@ -36,7 +36,7 @@ abbrev pub state : Node → List ℕ → List ℕ → State
 state n e x = record { node = n; eeprom = e; external = x }
 
 -- a sound node with memories of their sizes
-pub record StateRule (st : State) : Type 0 where
+pub record SoundState (st : State) : Type 0 where
   pub node-ok : nodeOk (st .node) ≡ true
   pub eeprom-size : length (st .eeprom) ≡ sizeOf Eeprom
   pub external-size : length (st .external) ≡ sizeOf External
@@ -63,19 +63,19 @@ withMemory Memory.Ram st bytes = withNode st (withRam (st .node) bytes)
 withMemory Memory.External st bytes = withExternal st bytes
 
 -- a request to one of the memories, and one to the lights
-abbrev pub onMemory : Memory → ℕ → List ℕ → State → Reply State
-onMemory m pcmd pdata st = mapState (withMemory m st) (memoryRequest m pcmd pdata (memoryOf m st))
+abbrev pub memoryRequestOnState : Memory → ℕ → List ℕ → State → Reply State
+memoryRequestOnState m pcmd pdata st = mapState (withMemory m st) (memoryRequest m pcmd pdata (memoryOf m st))
 
 abbrev pub onLights : ℕ → List ℕ → State → Reply State
 onLights pcmd pdata st =
     mapState (withNode st) (mapState (withLamps (st .node)) (lightsRequest (st .node .settings) pcmd pdata (st .node .lamps)))
 
 -- the memories and the lights, by PNUM
-unfoldable pub perform : ℕ → ℕ → List ℕ → State → Reply State
-perform pnum pcmd pdata st =
-    cond (eqb pnum (memoryPnum Eeprom)) (onMemory Eeprom pcmd pdata st)
-    (cond (eqb pnum (memoryPnum External)) (onMemory External pcmd pdata st)
-    (cond (eqb pnum (memoryPnum Ram)) (onMemory Ram pcmd pdata st)
+unfoldable pub peripheralRequest : ℕ → ℕ → List ℕ → State → Reply State
+peripheralRequest pnum pcmd pdata st =
+    cond (eqb pnum (memoryPnum Eeprom)) (memoryRequestOnState Eeprom pcmd pdata st)
+    (cond (eqb pnum (memoryPnum External)) (memoryRequestOnState External pcmd pdata st)
+    (cond (eqb pnum (memoryPnum Ram)) (memoryRequestOnState Ram pcmd pdata st)
     (cond (eqb pnum lightsPnum) (onLights pcmd pdata st)
     (refused st 3))))
 
@@ -86,7 +86,7 @@ hwpidMatches s hwpid = eqb hwpid (s .hwpid) || eqb hwpid anyHwpid
 -- an entry of a batch; PNUM 02 is not among those that it may name
 unfoldable pub executeEntry : Item → State → Reply State
 executeEntry i st =
-    cond (hwpidMatches (st .node .settings) (i .hwpid)) (perform (i .pnum) (i .pcmd) (i .pdata) st) (refused st 7)
+    cond (hwpidMatches (st .node .settings) (i .hwpid)) (peripheralRequest (i .pnum) (i .pcmd) (i .pdata) st) (refused st 7)
 
 abbrev pub entryAfter : Item → State → State
 entryAfter i st = executeEntry i st .after
@@ -144,12 +144,12 @@ osRequest pcmd pdata st =
 unfoldable pub execute : Item → State → Outcome
 execute i st =
     cond (hwpidMatches (st .node .settings) (i .hwpid))
-    (cond (eqb (i .pnum) osPnum) (osRequest (i .pcmd) (i .pdata) st) (plain (perform (i .pnum) (i .pcmd) (i .pdata) st)))
+    (cond (eqb (i .pnum) osPnum) (osRequest (i .pcmd) (i .pdata) st) (plain (peripheralRequest (i .pnum) (i .pcmd) (i .pdata) st)))
     (plain (refused st 7))
 
 -- the request of a frame
-abbrev pub itemOf : List ℕ → Item
-itemOf f = item (headerOf f .pnum) (headerOf f .pcmd) (headerOf f .hwpid) (pdataOf f)
+abbrev pub frameItem : List ℕ → Item
+frameItem f = item (headerOf f .pnum) (headerOf f .pcmd) (headerOf f .hwpid) (pdataOf f)
 
 -- What a call leaves: the state, the refusal, the response's length, the report, whether the request was for this node
 -- or for all, and the response buffer.
@@ -166,12 +166,12 @@ abbrev pub noResponse : State → ℕ → List ℕ → CallResult
 noResponse st refusal o = record { after = st; refusal = refusal; length = 0; report = noReport; addressed = false; response = o }
 
 -- a broadcast is carried out and never answered
-abbrev pub broadcast : Outcome → List ℕ → CallResult
-broadcast a o = record { after = a .after; refusal = 0; length = 0; report = a .report; addressed = true; response = o }
+abbrev pub broadcastResult : Outcome → List ℕ → CallResult
+broadcastResult a o = record { after = a .after; refusal = 0; length = 0; report = a .report; addressed = true; response = o }
 
 -- a response: header and data, later bytes as they were
-abbrev pub respond : Settings → Item → Outcome → List ℕ → CallResult
-respond s i a o =
+abbrev pub unicastResult : Settings → Item → Outcome → List ℕ → CallResult
+unicastResult s i a o =
     record {
       after = a .after;
       refusal = 0;
@@ -184,8 +184,8 @@ respond s i a o =
 -- a frame that was not refused: carried out in silence for all, answered for the node's address, else not mine
 unfoldable pub handleFrame : List ℕ → State → List ℕ → CallResult
 handleFrame f st o =
-    cond (eqb (headerOf f .nadr) broadcastNadr) (broadcast (execute (itemOf f) st) o)
-    (cond (eqb (headerOf f .nadr) (st .node .settings .address)) (respond (st .node .settings) (itemOf f) (execute (itemOf f) st) o)
+    cond (eqb (headerOf f .nadr) broadcastNadr) (broadcastResult (execute (frameItem f) st) o)
+    (cond (eqb (headerOf f .nadr) (st .node .settings .address)) (unicastResult (st .node .settings) (frameItem f) (execute (frameItem f) st) o)
     (noResponse st 0 o))
 
 -- refusals 1, 2, 3, 4 in this order, by the node and the lengths of what is lent; 0 for none
@@ -201,13 +201,13 @@ requestRefusal n frame eeprom external response =
     2)
     1
 
-abbrev pub refusalOf : List ℕ → State → List ℕ → ℕ
-refusalOf f st o = requestRefusal (st .node) (length f) (length (st .eeprom)) (length (st .external)) (length o)
+abbrev pub callRefusal : List ℕ → State → List ℕ → ℕ
+callRefusal f st o = requestRefusal (st .node) (length f) (length (st .eeprom)) (length (st .external)) (length o)
 
 -- the call
 unfoldable pub handleRequest : List ℕ → State → List ℕ → CallResult
 handleRequest f st o =
-    cond (eqb (refusalOf f st o) 0) (handleFrame f st o) (noResponse st (refusalOf f st o) o)
+    cond (eqb (callRefusal f st o) 0) (handleFrame f st o) (noResponse st (callRefusal f st o) o)
 
 -- ---- how the code shows it
 

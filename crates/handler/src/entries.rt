@@ -11,7 +11,7 @@ use lights::lamp::Lamp;
 use node::record::ReadOnly;
 ghost use mathlib.Core.Path.{_≡_};
 ghost use Rattle.batch.specs.Batch.{item, reading, runItems};
-ghost use Rattle.handler.specs.Request.{stateFromParts, StateRule, hwpidMatches, entryAfter};
+ghost use Rattle.handler.specs.Request.{stateFromParts, SoundState, hwpidMatches, entryAfter};
 
 // Whether a request's HWPID is the node's or the wildcard.
 pub fn hwpid_matches(settings: Settings, hwpid: u16) -> bool
@@ -35,7 +35,7 @@ fn run_entry(
     eeprom: &mut [u8],
     external: &mut [u8],
 ) -> [Lamp; LAMPS]
-    requires { ⌜ StateRule (stateFromParts fixed lamps (now ram) (now eeprom) (now external)) ⌝ }
+    requires { ⌜ SoundState (stateFromParts fixed lamps (now ram) (now eeprom) (now external)) ⌝ }
     ensures { λ r. ⌜ stateFromParts fixed r (now (ram .exit)) (now (eeprom .exit)) (now (external .exit))
         ≡ entryAfter (item pnum pcmd hwpid (now (pdata .entry))) (stateFromParts fixed lamps (now (ram .entry)) (now (eeprom .entry)) (now (external .entry))) ⌝ }
 {
@@ -66,7 +66,7 @@ pub fn run_list(
     eeprom: &mut [u8],
     external: &mut [u8],
 ) -> [Lamp; LAMPS]
-    requires { ⌜ StateRule (stateFromParts fixed lamps (now ram) (now eeprom) (now external)) ⌝ }
+    requires { ⌜ SoundState (stateFromParts fixed lamps (now ram) (now eeprom) (now external)) ⌝ }
     ensures { λ r. ⌜ stateFromParts fixed r (now (ram .exit)) (now (eeprom .exit)) (now (external .exit))
         ≡ runItems entryAfter (reading (now (list .entry)) .items) (stateFromParts fixed lamps (now (ram .entry)) (now (eeprom .entry)) (now (external .entry))) ⌝ }
 {

@@ -14,7 +14,7 @@ ghost use mathlib.Core.List.{List};
 ghost use Prim.Native.Nat.{ℕ, _≤_};
 ghost use lib.ListN.{length};
 ghost use Rattle.dpa.specs.Frame.{pdataMax};
-ghost use Rattle.handler.specs.Request.{noReport, stateFromParts, StateRule, outcomeSeen, outcomeInBuffer, batchRequest, osRequest};
+ghost use Rattle.handler.specs.Request.{noReport, stateFromParts, SoundState, outcomeSeen, outcomeInBuffer, batchRequest, osRequest};
 
 pub const BATCH: u8 = 5;
 
@@ -49,7 +49,7 @@ fn run_batch(
     eeprom: &mut [u8],
     external: &mut [u8],
 ) -> RequestReply
-    requires { ⌜ StateRule (stateFromParts fixed lamps (now ram) (now eeprom) (now external)) ⌝ }
+    requires { ⌜ SoundState (stateFromParts fixed lamps (now ram) (now eeprom) (now external)) ⌝ }
     ensures { λ r. ⌜ ((o : List ℕ) → outcomeSeen fixed r (now (ram .exit)) (now (eeprom .exit)) (now (external .exit)) o
         ≡ outcomeInBuffer (batchRequest (now (pdata .entry)) (stateFromParts fixed lamps (now (ram .entry)) (now (eeprom .entry)) (now (external .entry)))) o) ⌝ }
 {
@@ -74,7 +74,7 @@ pub fn os(
     external: &mut [u8],
     out: &mut [u8],
 ) -> RequestReply
-    requires { ⌜ StateRule (stateFromParts fixed lamps (now ram) (now eeprom) (now external)) × (pdataMax ≤ length (now out)) ⌝ }
+    requires { ⌜ SoundState (stateFromParts fixed lamps (now ram) (now eeprom) (now external)) × (pdataMax ≤ length (now out)) ⌝ }
     ensures { λ r. ⌜ outcomeSeen fixed r (now (ram .exit)) (now (eeprom .exit)) (now (external .exit)) (now (out .exit))
         ≡ outcomeInBuffer (osRequest pcmd (now (pdata .entry)) (stateFromParts fixed lamps (now (ram .entry)) (now (eeprom .entry)) (now (external .entry)))) (now (out .entry)) ⌝ }
 {

@@ -12,7 +12,7 @@ ghost use Prim.Native.Nat.{_≤_};
 ghost use lib.ListN.{length};
 ghost use Rattle.dpa.specs.Frame.{pdataMax};
 ghost use Rattle.dpa.specs.Reply.{replySeen, replyInBuffer};
-ghost use Rattle.handler.specs.Request.{stateFromParts, StateRule, perform};
+ghost use Rattle.handler.specs.Request.{stateFromParts, SoundState, peripheralRequest};
 
 // A request to a memory leaves the lamps alone.
 fn memory_reply(lamps: [Lamp; LAMPS], reply: Reply) -> LampsReply
@@ -37,9 +37,9 @@ pub fn peripheral(
     external: &mut [u8],
     out: &mut [u8],
 ) -> LampsReply
-    requires { ⌜ StateRule (stateFromParts fixed lamps (now ram) (now eeprom) (now external)) × (pdataMax ≤ length (now out)) ⌝ }
+    requires { ⌜ SoundState (stateFromParts fixed lamps (now ram) (now eeprom) (now external)) × (pdataMax ≤ length (now out)) ⌝ }
     ensures { λ r. ⌜ replySeen (stateFromParts fixed (r .lamps) (now (ram .exit)) (now (eeprom .exit)) (now (external .exit))) (r .error) (r .length) (now (out .exit))
-        ≡ replyInBuffer (perform pnum pcmd (now (pdata .entry)) (stateFromParts fixed lamps (now (ram .entry)) (now (eeprom .entry)) (now (external .entry)))) (now (out .entry)) ⌝ }
+        ≡ replyInBuffer (peripheralRequest pnum pcmd (now (pdata .entry)) (stateFromParts fixed lamps (now (ram .entry)) (now (eeprom .entry)) (now (external .entry)))) (now (out .entry)) ⌝ }
 {
     if pnum == pnum::EEPROM {
         let reply = memory::request::request(Memory::Eeprom, eeprom, pcmd, pdata, out);

@@ -29,7 +29,7 @@ ghost use Prim.Native.Nat.{ℕ, _≤_};
 ghost use lib.ListN.{length};
 ghost use Rattle.dpa.specs.Frame.{headerSize, pdataMax, longestResponse};
 ghost use Rattle.batch.specs.Batch.{item};
-ghost use Rattle.handler.specs.Request.{state, noReport, stateFromParts, StateRule, outcomeSeen, outcomeInBuffer, execute, callResult, callResultFromParts, broadcast, respond, handleFrame, requestRefusal, handleRequest};
+ghost use Rattle.handler.specs.Request.{state, noReport, stateFromParts, SoundState, outcomeSeen, outcomeInBuffer, execute, callResult, callResultFromParts, broadcastResult, unicastResult, handleFrame, requestRefusal, handleRequest};
 
 // A request to a peripheral has nothing to report.
 fn peripheral_reply(reply: LampsReply) -> RequestReply
@@ -55,7 +55,7 @@ fn execute(
     external: &mut [u8],
     out: &mut [u8],
 ) -> RequestReply
-    requires { ⌜ StateRule (stateFromParts fixed lamps (now ram) (now eeprom) (now external)) × (pdataMax ≤ length (now out)) ⌝ }
+    requires { ⌜ SoundState (stateFromParts fixed lamps (now ram) (now eeprom) (now external)) × (pdataMax ≤ length (now out)) ⌝ }
     ensures { λ r. ⌜ outcomeSeen fixed r (now (ram .exit)) (now (eeprom .exit)) (now (external .exit)) (now (out .exit))
         ≡ outcomeInBuffer (execute (item (header .pnum) (header .pcmd) (header .hwpid) (now (pdata .entry)))
         (stateFromParts fixed lamps (now (ram .entry)) (now (eeprom .entry)) (now (external .entry)))) (now (out .entry)) ⌝ }
@@ -91,9 +91,9 @@ fn handle_broadcast(
     eeprom: &mut [u8],
     external: &mut [u8],
 ) -> Handled
-    requires { ⌜ StateRule (stateFromParts fixed lamps (now ram) (now eeprom) (now external)) ⌝ }
+    requires { ⌜ SoundState (stateFromParts fixed lamps (now ram) (now eeprom) (now external)) ⌝ }
     ensures { λ r. ⌜ ((o : List ℕ) → callResultFromParts fixed r (now (ram .exit)) (now (eeprom .exit)) (now (external .exit)) o
-        ≡ broadcast (execute (item (header .pnum) (header .pcmd) (header .hwpid) (now (pdata .entry)))
+        ≡ broadcastResult (execute (item (header .pnum) (header .pcmd) (header .hwpid) (now (pdata .entry)))
         (stateFromParts fixed lamps (now (ram .entry)) (now (eeprom .entry)) (now (external .entry)))) o) ⌝ }
 {
     let mut scratch = [0u8; Frame::PDATA_MAX];
@@ -127,9 +127,9 @@ fn handle_unicast(
     external: &mut [u8],
     response: &mut [u8],
 ) -> Handled
-    requires { ⌜ StateRule (stateFromParts fixed lamps (now ram) (now eeprom) (now external)) × (longestResponse ≤ length (now response)) ⌝ }
+    requires { ⌜ SoundState (stateFromParts fixed lamps (now ram) (now eeprom) (now external)) × (longestResponse ≤ length (now response)) ⌝ }
     ensures { λ r. ⌜ callResultFromParts fixed r (now (ram .exit)) (now (eeprom .exit)) (now (external .exit)) (now (response .exit))
-        ≡ respond (fixed .settings) (item (header .pnum) (header .pcmd) (header .hwpid) (now (pdata .entry)))
+        ≡ unicastResult (fixed .settings) (item (header .pnum) (header .pcmd) (header .hwpid) (now (pdata .entry)))
         (execute (item (header .pnum) (header .pcmd) (header .hwpid) (now (pdata .entry)))
         (stateFromParts fixed lamps (now (ram .entry)) (now (eeprom .entry)) (now (external .entry)))) (now (response .entry)) ⌝ }
 {
@@ -168,7 +168,7 @@ fn handle_frame(
     external: &mut [u8],
     response: &mut [u8],
 ) -> RequestAnswer
-    requires { ⌜ StateRule (state node (now eeprom) (now external)) × (headerSize ≤ length (now frame)) × (longestResponse ≤ length (now response)) ⌝ }
+    requires { ⌜ SoundState (state node (now eeprom) (now external)) × (headerSize ≤ length (now frame)) × (longestResponse ≤ length (now response)) ⌝ }
     ensures { λ r. ⌜ callResult r (now (eeprom .exit)) (now (external .exit)) (now (response .exit))
         ≡ handleFrame (now (frame .entry)) (state node (now (eeprom .entry)) (now (external .entry))) (now (response .entry)) ⌝ }
 {

@@ -3,7 +3,7 @@ use mathlib.Core.Path.{ap, sym, _∙_}
 use Rattle.dpa.specs.Reply.{Reply, SeenReply}
 use Rattle.batch.specs.Batch.{item}
 use Rattle.handler.specs.Request.{State, stateFromParts}
-use Rattle.handler.proofs.Entering.{entry-mine, entry-other}
+use Rattle.handler.proofs.BatchEntries.{entry-match, entry-other}
 use Rattle.handler.proofs.entries.run_entry.Statement.{statement}
 use Rattle.handler.proofs.entries.run_entry.Tie as tie
 
@@ -17,7 +17,7 @@ returns c =
     let s = c .before .before .before .before .before .before .before .before .before .before .before .before .before .before .before .before .before .before .before in
     let a = s .args in
     ap (λ (l : SeenReply State). l .after) (c .before .before .before .before .before .before .before .before .peripheral .ensures)
-    ∙ sym (ap (λ (x : Reply State). x .after) (entry-mine (item (a .pnum) (a .pcmd) (a .hwpid) (a .pdata .now)) (given s) (sym (c .before .before .before .before .before .before .before .before .before .before .before .before .before .before .hwpid-matches .ensures) ∙ c .before .before .before .before .before .before .before .before .before .before .before .before .before .if1 .taken)))
+    ∙ sym (ap (λ (x : Reply State). x .after) (entry-match (item (a .pnum) (a .pcmd) (a .hwpid) (a .pdata .now)) (given s) (sym (c .before .before .before .before .before .before .before .before .before .before .before .before .before .before .hwpid-matches .ensures) ∙ c .before .before .before .before .before .before .before .before .before .before .before .before .before .if1 .taken)))
 
 returns-2 : tie.Need-returns-2
 returns-2 c =

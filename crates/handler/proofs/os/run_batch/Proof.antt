@@ -4,7 +4,7 @@ use mathlib.Core.List.{[]}
 use Rattle.dpa.specs.Reply.{reply}
 use Rattle.batch.specs.Batch.{listError}
 use Rattle.handler.specs.Request.{State, stateFromParts, Outcome, plain, outcomeInBuffer}
-use Rattle.handler.proofs.Executing.{batch-empty, batch-broken, batch-runs, outcome-as}
+use Rattle.handler.proofs.Outcomes.{batch-empty, batch-broken, batch-runs, outcome-as}
 use Rattle.handler.proofs.os.run_batch.Statement.{statement}
 use Rattle.handler.proofs.os.run_batch.Tie as tie
 

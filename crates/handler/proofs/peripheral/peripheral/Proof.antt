@@ -9,7 +9,7 @@ use Rattle.memory.specs.Request.{memoryRequest}
 use Rattle.lights.specs.Lights.{lightsRequest}
 use Rattle.node.proofs.Nodes.{node-settings, node-dimmed, node-ram}
 use Rattle.handler.specs.Request.{State, stateFromParts, withMemory}
-use Rattle.handler.proofs.Performing.{perform-memory, perform-lights, perform-unknown, reply-as}
+use Rattle.handler.proofs.Peripherals.{peripheral-memory, peripheral-lights, perform-unknown, reply-as}
 use Rattle.handler.proofs.peripheral.peripheral.Statement.{statement}
 use Rattle.handler.proofs.peripheral.peripheral.Tie as tie
 
@@ -24,7 +24,7 @@ returns c =
     let a = s .args in
     reply-as (c .memory-reply .ensures)
     ∙ reply-mapped (withMemory Eeprom (given s)) (memoryRequest Eeprom (a .pcmd) (a .pdata .now) (a .eeprom .now)) (a .out .now) (c .before .before .before .before .before .request .ensures)
-    ∙ ap (λ (x : Reply State). replyInBuffer x (a .out .now)) (sym (perform-memory (a .pnum) (a .pcmd) (a .pdata .now) (given s) Eeprom (c .before .before .before .before .before .before .before .before .if1 .taken)))
+    ∙ ap (λ (x : Reply State). replyInBuffer x (a .out .now)) (sym (peripheral-memory (a .pnum) (a .pcmd) (a .pdata .now) (given s) Eeprom (c .before .before .before .before .before .before .before .before .if1 .taken)))
 
 returns-2 : tie.Need-returns-2
 returns-2 c =
@@ -32,7 +32,7 @@ returns-2 c =
     let a = s .args in
     reply-as (c .memory-reply2 .ensures)
     ∙ reply-mapped (withMemory External (given s)) (memoryRequest External (a .pcmd) (a .pdata .now) (a .external .now)) (a .out .now) (c .before .before .before .before .before .request2 .ensures)
-    ∙ ap (λ (x : Reply State). replyInBuffer x (a .out .now)) (sym (perform-memory (a .pnum) (a .pcmd) (a .pdata .now) (given s) External (c .before .before .before .before .before .before .before .before .if2 .taken)))
+    ∙ ap (λ (x : Reply State). replyInBuffer x (a .out .now)) (sym (peripheral-memory (a .pnum) (a .pcmd) (a .pdata .now) (given s) External (c .before .before .before .before .before .before .before .before .if2 .taken)))
 
 request-requires-3 : tie.Need-request-requires-3
 request-requires-3 c κs = let p = c .before .before .before .before .before .before .before .before .before .before .pre in (node-ram _ (p .0 .node-ok), p .1)
@@ -43,7 +43,7 @@ returns-3 c =
     let a = s .args in
     reply-as (c .memory-reply3 .ensures)
     ∙ reply-mapped (withMemory Ram (given s)) (memoryRequest Ram (a .pcmd) (a .pdata .now) (a .ram .now)) (a .out .now) (c .before .before .before .before .before .request3 .ensures)
-    ∙ ap (λ (x : Reply State). replyInBuffer x (a .out .now)) (sym (perform-memory (a .pnum) (a .pcmd) (a .pdata .now) (given s) Ram (c .before .before .before .before .before .before .before .before .if3 .taken)))
+    ∙ ap (λ (x : Reply State). replyInBuffer x (a .out .now)) (sym (peripheral-memory (a .pnum) (a .pcmd) (a .pdata .now) (given s) Ram (c .before .before .before .before .before .before .before .before .if3 .taken)))
 
 request-requires-4 : tie.Need-request-requires-4
 request-requires-4 c κs =
@@ -55,7 +55,7 @@ returns-4 c =
     let s = c .before .before .before .before .before .before .before .before .before .before .before .before .before in
     let a = s .args in
     reply-mapped (λ (ls : List Lamp). stateFromParts (a .fixed) ls (a .ram .now) (a .eeprom .now) (a .external .now)) (lightsRequest (a .fixed .settings) (a .pcmd) (a .pdata .now) (a .lamps)) (a .out .now) (c .before .before .request4 .ensures)
-    ∙ ap (λ (x : Reply State). replyInBuffer x (a .out .now)) (sym (perform-lights (a .pnum) (a .pcmd) (a .pdata .now) (given s) (c .before .before .before .before .if4 .taken)))
+    ∙ ap (λ (x : Reply State). replyInBuffer x (a .out .now)) (sym (peripheral-lights (a .pnum) (a .pcmd) (a .pdata .now) (given s) (c .before .before .before .before .if4 .taken)))
 
 returns-5 : tie.Need-returns-5
 returns-5 c =

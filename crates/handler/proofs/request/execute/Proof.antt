@@ -3,8 +3,8 @@ use borrow.Author.Tests.{not-true, not-false}
 use mathlib.Core.Path.{_≡_, ap, sym, _∙_}
 use mathlib.Core.Bool.{true}
 use Rattle.batch.specs.Batch.{Item, item}
-use Rattle.handler.specs.Request.{State, stateFromParts, hwpidMatches, perform, Outcome, outcomeInBuffer}
-use Rattle.handler.proofs.Executing.{execute-other, execute-os, execute-peripheral, outcome-as, outcome-plain}
+use Rattle.handler.specs.Request.{State, stateFromParts, hwpidMatches, peripheralRequest, Outcome, outcomeInBuffer}
+use Rattle.handler.proofs.Outcomes.{execute-other, execute-os, execute-peripheral, outcome-as, outcome-plain}
 use Rattle.handler.proofs.request.execute.Statement.{statement}
 use Rattle.handler.proofs.request.execute.Tie as tie
 
@@ -41,7 +41,7 @@ returns-3 : tie.Need-returns-3
 returns-3 c =
     let s = c .before .before .before .before .before .before .before .before .before .before .before .before .before .before .before .before .before .before .before .before .before .before .before in
     outcome-as (c .peripheral-reply .ensures)
-    ∙ outcome-plain (perform (s .args .header .pnum) (s .args .header .pcmd) (s .args .pdata .now) (given s)) (s .args .out .now) (c .before .before .before .before .before .before .before .before .before .peripheral .ensures)
+    ∙ outcome-plain (peripheralRequest (s .args .header .pnum) (s .args .header .pcmd) (s .args .pdata .now) (given s)) (s .args .out .now) (c .before .before .before .before .before .before .before .before .before .peripheral .ensures)
     ∙ ap (λ (x : Outcome). outcomeInBuffer x (s .args .out .now))
     (sym (execute-peripheral (asked s) (given s) (mine (c .before .before .before .before .before .before .before .before .before .before .before .before .before .before .before .before)) (c .before .before .before .before .before .before .before .before .before .before .before .before .before .before .if2 .left)))
 

@@ -5,8 +5,8 @@ use Rattle.dpa.specs.Frame.{headerOf}
 use Rattle.batch.specs.Batch.{Item}
 use Rattle.node.specs.declared.record.ReadOnly.{ReadOnly}
 use Rattle.node.proofs.Nodes.{node-ram}
-use Rattle.handler.specs.Request.{State, state, stateFromParts, StateRule, itemOf, execute, broadcast, respond}
-use Rattle.handler.proofs.Handling.{frame-item, frame-broadcast, frame-unicast, frame-other, call-result-as}
+use Rattle.handler.specs.Request.{State, state, stateFromParts, SoundState, frameItem, execute, broadcastResult, unicastResult}
+use Rattle.handler.proofs.Calls.{frame-item, frame-broadcast, frame-unicast, frame-other, call-result-as}
 use Rattle.handler.proofs.request.handle_frame.Statement.{statement}
 use Rattle.handler.proofs.request.handle_frame.Tie as tie
 
@@ -25,7 +25,7 @@ nadr-is c = ap (λ (h : Frame). h .nadr) (c .read .ensures)
 handle-broadcast-requires : tie.Need-handle-broadcast-requires
 handle-broadcast-requires c κs =
     let s = c .before .before .before .before .before .before .before .before .before .before .before .before .before .before in
-    subst (λ (k : ReadOnly). StateRule (inParts s k)) (sym (c .before .before .before .before .before .before .before .read-only .ensures)) (s .pre .0)
+    subst (λ (k : ReadOnly). SoundState (inParts s k)) (sym (c .before .before .before .before .before .before .before .read-only .ensures)) (s .pre .0)
 
 returns : tie.Need-returns
 returns c =
@@ -33,8 +33,8 @@ returns c =
     let s = r .before .before .before .before .before in
     call-result-as (c .answer-handled .ensures)
     ∙ c .before .before .before .before .before .before .handle-broadcast .ensures (s .args .response .now)
-    ∙ ap (λ (i : Item). broadcast (execute i (inParts s (c .before .before .before .before .before .before .before .before .before .before .before .before .before .before .read-only .result))) (s .args .response .now)) (frame-item (s .args .frame .now) (r .read .ensures))
-    ∙ ap (λ (k : ReadOnly). broadcast (execute (itemOf (s .args .frame .now)) (inParts s k)) (s .args .response .now)) (c .before .before .before .before .before .before .before .before .before .before .before .before .before .before .read-only .ensures)
+    ∙ ap (λ (i : Item). broadcastResult (execute i (inParts s (c .before .before .before .before .before .before .before .before .before .before .before .before .before .before .read-only .result))) (s .args .response .now)) (frame-item (s .args .frame .now) (r .read .ensures))
+    ∙ ap (λ (k : ReadOnly). broadcastResult (execute (frameItem (s .args .frame .now)) (inParts s k)) (s .args .response .now)) (c .before .before .before .before .before .before .before .before .before .before .before .before .before .before .read-only .ensures)
     ∙ sym (frame-broadcast (s .args .frame .now) (given s) (s .args .response .now) (sym (nadr-is r) ∙ c .before .before .before .before .before .before .before .before .before .before .if1 .taken))
 
 slice-aggregate-handle-unicast : tie.Need-slice-aggregate-handle-unicast
@@ -43,7 +43,7 @@ slice-aggregate-handle-unicast c = let p = c .before .before .before .before .be
 handle-unicast-requires : tie.Need-handle-unicast-requires
 handle-unicast-requires c κs =
     let s = c .before .before .before .before .before .before .before .before .before .before .before .before .before .before .before .before .before .before in
-    (subst (λ (k : ReadOnly). StateRule (inParts s k)) (sym (c .before .before .before .before .before .before .before .before .before .before .before .read-only .ensures)) (s .pre .0), s .pre .2)
+    (subst (λ (k : ReadOnly). SoundState (inParts s k)) (sym (c .before .before .before .before .before .before .before .before .before .before .before .read-only .ensures)) (s .pre .0), s .pre .2)
 
 returns-2 : tie.Need-returns-2
 returns-2 c =
@@ -51,8 +51,8 @@ returns-2 c =
     let s = r .before .before .before .before .before in
     call-result-as (c .answer-handled2 .ensures)
     ∙ c .before .before .before .before .before .before .before .before .handle-unicast .ensures
-    ∙ ap (λ (i : Item). respond (c .before .before .before .before .before .before .before .before .before .before .before .before .before .before .before .before .before .before .before .before .read-only .result .settings) i (execute i (inParts s (c .before .before .before .before .before .before .before .before .before .before .before .before .before .before .before .before .before .before .before .before .read-only .result))) (s .args .response .now)) (frame-item (s .args .frame .now) (r .read .ensures))
-    ∙ ap (λ (k : ReadOnly). respond (k .settings) (itemOf (s .args .frame .now)) (execute (itemOf (s .args .frame .now)) (inParts s k)) (s .args .response .now)) (c .before .before .before .before .before .before .before .before .before .before .before .before .before .before .before .before .before .before .before .before .read-only .ensures)
+    ∙ ap (λ (i : Item). unicastResult (c .before .before .before .before .before .before .before .before .before .before .before .before .before .before .before .before .before .before .before .before .read-only .result .settings) i (execute i (inParts s (c .before .before .before .before .before .before .before .before .before .before .before .before .before .before .before .before .before .before .before .before .read-only .result))) (s .args .response .now)) (frame-item (s .args .frame .now) (r .read .ensures))
+    ∙ ap (λ (k : ReadOnly). unicastResult (k .settings) (frameItem (s .args .frame .now)) (execute (frameItem (s .args .frame .now)) (inParts s k)) (s .args .response .now)) (c .before .before .before .before .before .before .before .before .before .before .before .before .before .before .before .before .before .before .before .before .read-only .ensures)
     ∙ sym (frame-unicast (s .args .frame .now) (given s) (s .args .response .now) (λ z. c .before .before .before .before .before .before .before .before .before .before .before .before .before .before .before .before .if1 .left (nadr-is r ∙ z)) (sym (nadr-is r) ∙ c .before .before .before .before .before .before .before .before .before .before .before .before .before .if2 .taken))
 
 returns-3 : tie.Need-returns-3

@@ -2,7 +2,7 @@ use borrow.Author.Needs.{needs}
 use mathlib.Core.Path.{sym, _∙_}
 use lib.ListN.{length}
 use Rattle.handler.specs.Request.{state}
-use Rattle.handler.proofs.Handling.{call-refused, call-accepted, refusal-none, accepted-rule, call-result-as}
+use Rattle.handler.proofs.Calls.{call-refused, call-accepted, refusal-none, accepted-rule, call-result-as}
 use Rattle.handler.proofs.request.handle_request.Statement.{statement}
 use Rattle.handler.proofs.request.handle_request.Tie as tie
 

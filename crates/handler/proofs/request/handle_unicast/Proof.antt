@@ -4,7 +4,7 @@ use mathlib.Core.Path.{ap}
 use Rattle.batch.specs.Batch.{Item, item}
 use Rattle.handler.specs.Request.{State, stateFromParts, SeenOutcome, execute}
 use Rattle.handler.proofs.Sizes.{execute-fits}
-use Rattle.handler.proofs.Handling.{unicast-answer}
+use Rattle.handler.proofs.Calls.{unicast-answer}
 use Rattle.handler.proofs.request.handle_unicast.Statement.{statement}
 use Rattle.handler.proofs.request.handle_unicast.Tie as tie
 

@@ -3,12 +3,12 @@ use mathlib.Core.Path.{_≡_}
 use mathlib.Core.Bool.{true, false}
 use Rattle.dpa.specs.Reply.{refused}
 use Rattle.batch.specs.Batch.{Item}
-use Rattle.handler.specs.Request.{State, hwpidMatches, perform, executeEntry}
+use Rattle.handler.specs.Request.{State, hwpidMatches, peripheralRequest, executeEntry}
 
 module _ (i : Item) (st : State) where
-  pub entry-mine : hwpidMatches (st .node .settings) (i .hwpid) ≡ true → executeEntry i st ≡ perform (i .pnum) (i .pcmd) (i .pdata) st
+  pub entry-match : hwpidMatches (st .node .settings) (i .hwpid) ≡ true → executeEntry i st ≡ peripheralRequest (i .pnum) (i .pcmd) (i .pdata) st
   unfolding executeEntry
-  entry-mine e = rw e
+  entry-match e = rw e
 
   pub entry-other : hwpidMatches (st .node .settings) (i .hwpid) ≡ false → executeEntry i st ≡ refused st 7
   unfolding executeEntry

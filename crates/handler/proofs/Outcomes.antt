@@ -14,7 +14,7 @@ use Rattle.batch.specs.Batch.{Item, reading, listError}
 use Rattle.batch.specs.declared.list.ListCheck.the-variants.{Sound, Broken}
 use Rattle.node.specs.declared.record.ReadOnly.{ReadOnly}
 use Rattle.handler.specs.declared.os.RequestReply.{RequestReply}
-use Rattle.handler.specs.Request.{State, perform, hwpidMatches, loadReport, noReport, Outcome, plain, batchOutcome, batchRequest, codeCheckRequest, osRequest, execute, outcomeSeen, outcomeInBuffer}
+use Rattle.handler.specs.Request.{State, peripheralRequest, hwpidMatches, loadReport, noReport, Outcome, plain, batchOutcome, batchRequest, codeCheckRequest, osRequest, execute, outcomeSeen, outcomeInBuffer}
 
 module _ (d : List ℕ) (st : State) where
   pub batch-empty : length d ≡ 0 → batchRequest d st ≡ plain (refused st 5)
@@ -53,7 +53,7 @@ module _ (i : Item) (st : State) where
     unfolding execute
     execute-os p = rw (e, eq-eqb (i .pnum) 2 p)
 
-    pub execute-peripheral : (i .pnum ≡ 2 → ⊥) → execute i st ≡ plain (perform (i .pnum) (i .pcmd) (i .pdata) st)
+    pub execute-peripheral : (i .pnum ≡ 2 → ⊥) → execute i st ≡ plain (peripheralRequest (i .pnum) (i .pcmd) (i .pdata) st)
     unfolding execute
     execute-peripheral p = rw (e, ne-eqb (i .pnum) 2 p)
 
@@ -69,7 +69,7 @@ module _ (P : Outcome → Type 0) (st : State) (error : (e : ℕ) → P (plain (
       (λ _. by-cond P (eqb pcmd 0x0A) _ _ (λ _. check) (λ _. error 2))
 
   -- of every PNUM: an OS request, a request to a peripheral, an error
-  pub execute-cases : (i : Item) → P (osRequest (i .pcmd) (i .pdata) st) → P (plain (perform (i .pnum) (i .pcmd) (i .pdata) st)) → P (execute i st)
+  pub execute-cases : (i : Item) → P (osRequest (i .pcmd) (i .pdata) st) → P (plain (peripheralRequest (i .pnum) (i .pcmd) (i .pdata) st)) → P (execute i st)
   unfolding execute
   execute-cases i os peripheral =
       by-cond P (hwpidMatches (st .node .settings) (i .hwpid)) _ _

@@ -20,22 +20,22 @@ use Rattle.node.specs.declared.record.ReadOnly.{ReadOnly}
 use Rattle.handler.specs.declared.os.RequestReply.{RequestReply}
 use Rattle.handler.specs.declared.answer.RequestAnswer.{RequestAnswer}
 use Rattle.node.specs.Node.{nodeOk}
-use Rattle.handler.specs.Request.{State, state, StateRule, Outcome, SeenOutcome, outcomeSeen, outcomeInBuffer, itemOf, execute, CallResult, callResult, callResultFromParts, noResponse, broadcast, respond, handleFrame, requestRefusal, refusalOf, handleRequest}
+use Rattle.handler.specs.Request.{State, state, SoundState, Outcome, SeenOutcome, outcomeSeen, outcomeInBuffer, frameItem, execute, CallResult, callResult, callResultFromParts, noResponse, broadcastResult, unicastResult, handleFrame, requestRefusal, callRefusal, handleRequest}
 
 -- the request that the code takes out of a frame
-pub frame-item : (f : List ℕ) {h : Frame} → h ≡ headerOf f → item (h .pnum) (h .pcmd) (h .hwpid) (take (length f - 6) (drop 6 f)) ≡ itemOf f
+pub frame-item : (f : List ℕ) {h : Frame} → h ≡ headerOf f → item (h .pnum) (h .pcmd) (h .hwpid) (take (length f - 6) (drop 6 f)) ≡ frameItem f
 frame-item f e =
     ap (λ (h : Frame). item (h .pnum) (h .pcmd) (h .hwpid) (take (length f - 6) (drop 6 f))) e
     ∙ ap (item (headerOf f .pnum) (headerOf f .pcmd) (headerOf f .hwpid)) (to-end 6 f)
 
 module _ (f : List ℕ) (st : State) (o : List ℕ) where
-  pub frame-broadcast : headerOf f .nadr ≡ 255 → handleFrame f st o ≡ broadcast (execute (itemOf f) st) o
+  pub frame-broadcast : headerOf f .nadr ≡ 255 → handleFrame f st o ≡ broadcastResult (execute (frameItem f) st) o
   unfolding handleFrame
   frame-broadcast e = rw (eq-eqb (headerOf f .nadr) 255 e)
 
   module _ (n : headerOf f .nadr ≡ 255 → ⊥) where
     pub frame-unicast : headerOf f .nadr ≡ st .node .settings .address
-        → handleFrame f st o ≡ respond (st .node .settings) (itemOf f) (execute (itemOf f) st) o
+        → handleFrame f st o ≡ unicastResult (st .node .settings) (frameItem f) (execute (frameItem f) st) o
     unfolding handleFrame
     frame-unicast e = rw (ne-eqb (headerOf f .nadr) 255 n, eq-eqb (headerOf f .nadr) (st .node .settings .address) e)
 
@@ -43,26 +43,26 @@ module _ (f : List ℕ) (st : State) (o : List ℕ) where
     unfolding handleFrame
     frame-other e = rw (ne-eqb (headerOf f .nadr) 255 n, ne-eqb (headerOf f .nadr) (st .node .settings .address) e)
 
-  pub call-refused : {k : ℕ} → k ≡ refusalOf f st o → (k ≡ 0 → ⊥) → noResponse st k o ≡ handleRequest f st o
+  pub call-refused : {k : ℕ} → k ≡ callRefusal f st o → (k ≡ 0 → ⊥) → noResponse st k o ≡ handleRequest f st o
   unfolding handleRequest
   call-refused e n =
-      rw (ne-eqb (refusalOf f st o) 0 (λ z. n (e ∙ z))) (ap (λ (r : ℕ). noResponse st r o) e)
+      rw (ne-eqb (callRefusal f st o) 0 (λ z. n (e ∙ z))) (ap (λ (r : ℕ). noResponse st r o) e)
 
-  pub call-accepted : refusalOf f st o ≡ 0 → handleRequest f st o ≡ handleFrame f st o
+  pub call-accepted : callRefusal f st o ≡ 0 → handleRequest f st o ≡ handleFrame f st o
   unfolding handleRequest
-  call-accepted e = rw (eq-eqb (refusalOf f st o) 0 e)
+  call-accepted e = rw (eq-eqb (callRefusal f st o) 0 e)
 
 -- What holds of a call that does nothing, of a broadcast and of a response holds of every call.
 pub call-cases : (P : CallResult → Type 0) (f : List ℕ) (st : State) (o : List ℕ) → ((k : ℕ) → P (noResponse st k o))
-    → (refusalOf f st o ≡ 0 → P (broadcast (execute (itemOf f) st) o))
-    → (refusalOf f st o ≡ 0 → P (respond (st .node .settings) (itemOf f) (execute (itemOf f) st) o))
+    → (callRefusal f st o ≡ 0 → P (broadcastResult (execute (frameItem f) st) o))
+    → (callRefusal f st o ≡ 0 → P (unicastResult (st .node .settings) (frameItem f) (execute (frameItem f) st) o))
     → P (handleRequest f st o)
 unfolding handleRequest handleFrame
 call-cases P f st o nothing all own =
-    by-cond P (eqb (refusalOf f st o) 0) _ _
+    by-cond P (eqb (callRefusal f st o) 0) _ _
     (λ z. by-cond P (eqb (headerOf f .nadr) broadcastNadr) _ _ (λ _. all (eqb-true _ _ z))
     (λ _. by-cond P (eqb (headerOf f .nadr) (st .node .settings .address)) _ _ (λ _. own (eqb-true _ _ z)) (λ _. nothing 0)))
-    (λ _. nothing (refusalOf f st o))
+    (λ _. nothing (callRefusal f st o))
 
 -- a call answers "addressed" exactly where it is not refused and NADR is the broadcast's or the node's
 pub addressed-exact : (f : List ℕ) (st : State) (o : List ℕ)
@@ -73,7 +73,7 @@ addressed-exact f st o =
     let all = eqb (headerOf f .nadr) broadcastNadr in
     let own = eqb (headerOf f .nadr) (st .node .settings .address) in
     let Exact : CallResult → Type 0 = λ a. a .addressed ≡ (eqb (a .refusal) 0 && (all || own)) in
-    by-cond Exact (eqb (refusalOf f st o) 0) _ _
+    by-cond Exact (eqb (callRefusal f st o) 0) _ _
     (λ _. by-cond Exact all _ _ (λ e. rw e) (λ e. by-cond Exact own _ _ (λ q. rw (e, q)) (λ q. rw (e, q))))
     (λ e. rw e)
 
@@ -89,7 +89,7 @@ module _ (n : Node) (f e x r : ℕ) (z : requestRefusal n f e x r ≡ 0) where
       let g = first-taken (eqb x 16384) 0 4 0 (λ q. omega arith) (d .1) in
       (a .0, fits-sizes f (b .0) .0, ltb-false _ _ (c .0), eqb-true _ _ (d .0), eqb-true _ _ (g .0))
 
-pub accepted-rule : (n : Node) (e x : List ℕ) (f r : ℕ) → requestRefusal n f (length e) (length x) r ≡ 0 → StateRule (state n e x)
+pub accepted-rule : (n : Node) (e x : List ℕ) (f r : ℕ) → requestRefusal n f (length e) (length x) r ≡ 0 → SoundState (state n e x)
 accepted-rule n e x f r z =
     let k = refusal-none n f (length e) (length x) r z in
     record { node-ok = k .0; eeprom-size = k .3; external-size = k .4 }
@@ -102,7 +102,7 @@ call-result-as {r} {t} {e} {x} {o} q = ap (λ (u : RequestAnswer). callResult u 
 pub unicast-answer : (o m : List ℕ) → 8 ≤ length o → (k : ReadOnly) (i : Item) (a : Outcome) {c : RequestReply} {r e x w : List ℕ}
     → outcomeSeen k c r e x m ≡ outcomeInBuffer a (midOf 8 (length o - 8) o)
     → w ≡ responseHeader (k .settings) (i .pnum) (i .pcmd) (c .error) ++ drop 8 (putMid 8 (length o - 8) o m)
-    → callResultFromParts k (record { length = 8 + c .length; report = c .report; lamps = c .lamps }) r e x w ≡ respond (k .settings) i a o
+    → callResultFromParts k (record { length = 8 + c .length; report = c .report; lamps = c .lamps }) r e x w ≡ unicastResult (k .settings) i a o
 unicast-answer o m h k i a {c} {r} {e} {x} {w} q u =
     ap (callResultFromParts k (record { length = 8 + c .length; report = c .report; lamps = c .lamps }) r e x)
     (u ∙ ap (λ (l : List ℕ). responseHeader (k .settings) (i .pnum) (i .pcmd) (c .error) ++ l) (rear-back 8 o m h))

@@ -12,30 +12,30 @@ use Rattle.memory.specs.declared.block.Memory.the-variants.{Eeprom, Ram, Extern
 use Rattle.memory.specs.Block.{memoryPnum}
 use Rattle.lights.specs.declared.request.LampsReply.{LampsReply}
 use Rattle.node.specs.declared.record.ReadOnly.{ReadOnly}
-use Rattle.handler.specs.Request.{State, stateFromParts, memoryOf, withMemory, onMemory, onLights, perform}
+use Rattle.handler.specs.Request.{State, stateFromParts, memoryOf, withMemory, memoryRequestOnState, onLights, peripheralRequest}
 
 module _ (pnum pcmd : ℕ) (d : List ℕ) (st : State) where
   -- by the PNUM of a memory
-  pub perform-memory : (m : Memory) → pnum ≡ memoryPnum m → perform pnum pcmd d st ≡ onMemory m pcmd d st
-  unfolding perform
-  perform-memory Memory.Eeprom e = ap (λ (p : ℕ). perform p pcmd d st) e
-  perform-memory Memory.Ram e = ap (λ (p : ℕ). perform p pcmd d st) e
-  perform-memory Memory.External e = ap (λ (p : ℕ). perform p pcmd d st) e
+  pub peripheral-memory : (m : Memory) → pnum ≡ memoryPnum m → peripheralRequest pnum pcmd d st ≡ memoryRequestOnState m pcmd d st
+  unfolding peripheralRequest
+  peripheral-memory Memory.Eeprom e = ap (λ (p : ℕ). peripheralRequest p pcmd d st) e
+  peripheral-memory Memory.Ram e = ap (λ (p : ℕ). peripheralRequest p pcmd d st) e
+  peripheral-memory Memory.External e = ap (λ (p : ℕ). peripheralRequest p pcmd d st) e
 
   -- by the PNUM of the lights
-  pub perform-lights : pnum ≡ lightsPnum → perform pnum pcmd d st ≡ onLights pcmd d st
-  unfolding perform
-  perform-lights e = ap (λ (p : ℕ). perform p pcmd d st) e
+  pub peripheral-lights : pnum ≡ lightsPnum → peripheralRequest pnum pcmd d st ≡ onLights pcmd d st
+  unfolding peripheralRequest
+  peripheral-lights e = ap (λ (p : ℕ). peripheralRequest p pcmd d st) e
 
   -- by any other
-  pub perform-unknown : (pnum ≡ 3 → ⊥) → (pnum ≡ 4 → ⊥) → (pnum ≡ 5 → ⊥) → (pnum ≡ 0x71 → ⊥) → perform pnum pcmd d st ≡ refused st 3
-  unfolding perform
+  pub perform-unknown : (pnum ≡ 3 → ⊥) → (pnum ≡ 4 → ⊥) → (pnum ≡ 5 → ⊥) → (pnum ≡ 0x71 → ⊥) → peripheralRequest pnum pcmd d st ≡ refused st 3
+  unfolding peripheralRequest
   perform-unknown a b c e = simp (ne-eqb pnum 3 a, ne-eqb pnum 4 b, ne-eqb pnum 5 c, ne-eqb pnum 0x71 e)
 
   -- what holds of a request to each memory and to the lights, and of every error, holds of every PNUM
-  pub perform-cases : (P : Reply State → Type 0) → ((m : Memory) → P (onMemory m pcmd d st)) → P (onLights pcmd d st)
-      → ((e : ℕ) → P (refused st e)) → P (perform pnum pcmd d st)
-  unfolding perform
+  pub perform-cases : (P : Reply State → Type 0) → ((m : Memory) → P (memoryRequestOnState m pcmd d st)) → P (onLights pcmd d st)
+      → ((e : ℕ) → P (refused st e)) → P (peripheralRequest pnum pcmd d st)
+  unfolding peripheralRequest
   perform-cases P memory lights error =
       by-cond P (eqb pnum (memoryPnum Eeprom)) _ _ (λ _. memory Eeprom)
       (λ _. by-cond P (eqb pnum (memoryPnum External)) _ _ (λ _. memory External)
