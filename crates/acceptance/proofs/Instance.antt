@@ -21,9 +21,9 @@ use Rattle.book.specs.Step.{stepTimeOk, lampFault, byteFault, stepFault}
 use Rattle.book.specs.Machine.{wellFormed, machineLevel, machineSeconds, machineLamps, machineEffect, machineStep, machine}
 use Rattle.book.specs.Entry.{powerBytes, entryData, pnumOf, pcmdOf}
 use Rattle.book.specs.Join.{follows, entryLimit}
-use Rattle.scene.specs.Compile.{listLimit, batchesOf, compiled}
+use Rattle.scene.specs.Compile.{listLimit, batchesOf, sceneRequests}
 use Rattle.scene.specs.Call.{minOutput, requestsIn, compileFor}
-use Rattle.acceptance.specs.SceneTheorem.{Addressable, SceneRule, Given, DoneAsSteps, afterCalls}
+use Rattle.acceptance.specs.Condition3.{Addressable, SceneRule, Given, MatchesMachine, afterCalls}
 use Rattle.acceptance.proofs.Refusals.{compile-refusals}
 use Rattle.acceptance.proofs.Scenes.{condition-3}
 
@@ -86,7 +86,7 @@ accepted : (a h : ℕ) → Addressable a → compileFor book 1 a h out .refusal 
 accepted a h ad = compile-refusals book 1 a h out .none .1 (ad, faultless, omega (arith, length-replicate {A = ℕ} minOutput 0xCC))
 
 -- it compiles to two requests, of five entries and of one
-pub two-requests : length (compiled 7 0x2471 (sceneOf book 1)) ≡ 2
+pub two-requests : length (sceneRequests 7 0x2471 (sceneOf book 1)) ≡ 2
 unfolding sceneOf powerBytes entryData pnumOf pcmdOf follows entryBytes entriesBytes
 two-requests = refl
 
@@ -105,19 +105,19 @@ unfolding sceneOf stepTimeOk wellFormed machineLevel machineSeconds machineLamps
 machine-leaves = refl
 
 -- both lists of requests succeed call by call
-pub done-own : DoneAsSteps 0x05 7 buffers (compiled 7 0x2471 (sceneOf book 1)) (sceneOf book 1) before
+pub done-own : MatchesMachine 0x05 7 buffers (sceneRequests 7 0x2471 (sceneOf book 1)) (sceneOf book 1) before
 done-own = condition-3 .requests before buffers book 1 7 0x2471 given-own faultless
 
-pub done-all : DoneAsSteps 0x05 broadcastNadr buffers (compiled broadcastNadr anyHwpid (sceneOf book 1)) (sceneOf book 1) before
+pub done-all : MatchesMachine 0x05 broadcastNadr buffers (sceneRequests broadcastNadr anyHwpid (sceneOf book 1)) (sceneOf book 1) before
 done-all = condition-3 .requests before buffers book 1 broadcastNadr anyHwpid given-all faultless
 
 -- and so do those in the output buffer
-pub buffer-own : DoneAsSteps 0x05 7 buffers (requestsIn (compileFor book 1 7 0x2471 out .buffer)) (sceneOf book 1) before
+pub buffer-own : MatchesMachine 0x05 7 buffers (requestsIn (compileFor book 1 7 0x2471 out .buffer)) (sceneOf book 1) before
 buffer-own = condition-3 .buffer before buffers book 1 7 0x2471 out given-own (accepted 7 0x2471 (inl (omega arith, omega arith)))
 
-pub buffer-all : DoneAsSteps 0x05 broadcastNadr buffers (requestsIn (compileFor book 1 broadcastNadr anyHwpid out .buffer)) (sceneOf book 1) before
+pub buffer-all : MatchesMachine 0x05 broadcastNadr buffers (requestsIn (compileFor book 1 broadcastNadr anyHwpid out .buffer)) (sceneOf book 1) before
 buffer-all = condition-3 .buffer before buffers book 1 broadcastNadr anyHwpid out given-all (accepted broadcastNadr anyHwpid (inr refl))
 
 -- and the node ends with these lamps, timers and bytes
-pub calls-leave : afterCalls buffers (compiled 7 0x2471 (sceneOf book 1)) before ≡ afterwards
+pub calls-leave : afterCalls buffers (sceneRequests 7 0x2471 (sceneOf book 1)) before ≡ afterwards
 calls-leave = done-own .final ∙ machine-leaves

@@ -32,7 +32,7 @@ with-with Memory.External st first bytes = refl
 -- steps of kind k write memory m: what the step machine makes of one, and what a node makes of an entry
 pub record Writes (k : ℕ) (m : Memory) : Type 0 where
   pub place : (s : Step) → Good s → s .kind ≡ k → s .target < sizeOf m
-  pub singly : (s : Step) (st : State) → Good s → s .kind ≡ k → machineStep s st ≡ withMemory m st (set (memoryOf m st) (s .target) (s .value))
+  pub step : (s : Step) (st : State) → Good s → s .kind ≡ k → machineStep s st ≡ withMemory m st (set (memoryOf m st) (s .target) (s .value))
   pub entry : (d : List ℕ) (st : State) → peripheralRequest (pnumOf k) (pcmdOf k) d st ≡ memoryRequestOnState m (writeCommand m) d st
   pub address : addressBytes m ≡ 1
   pub block : (n : ℕ) → n ≤ 55 → n ≤ sizeOf m → n ≤ longestOf m
@@ -42,7 +42,7 @@ unfolding machineStep machineEffect pnumOf pcmdOf
 writes-ram =
     record {
       place = λ s g e. ram-good s g e .target-max;
-      singly = λ s st g e. rw (good-formed s .0 g, e);
+      step = λ s st g e. rw (good-formed s .0 g, e);
       entry = λ d st. peripheral-memory 5 1 d st Ram refl;
       address = refl;
       block = λ n h l. l;
@@ -53,38 +53,38 @@ unfolding machineStep machineEffect pnumOf pcmdOf
 writes-eeprom =
     record {
       place = λ s g e. eeprom-good s g (omega arith) .1 .target-max;
-      singly = λ s st g e. rw (good-formed s .0 g, e);
+      step = λ s st g e. rw (good-formed s .0 g, e);
       entry = λ d st. peripheral-memory 3 1 d st Eeprom refl;
       address = refl;
       block = λ n h l. h;
     }
 
 -- good steps of one kind, at places next to each other from i on
-abbrev pub ByteRun : ℕ → ℕ → List Step → Type 0
-ByteRun k i [] = Unit {0}
-ByteRun k i (s ∷ ss) = Good s × (s .kind ≡ k) × (s .target ≡ i) × ByteRun k (suc i) ss
+abbrev pub ByteGroup : ℕ → ℕ → List Step → Type 0
+ByteGroup k i [] = Unit {0}
+ByteGroup k i (s ∷ ss) = Good s × (s .kind ≡ k) × (s .target ≡ i) × ByteGroup k (suc i) ss
 
 module _ (k : ℕ) (m : Memory) (w : Writes k m) where
-  run-ends : (i : ℕ) (ss : List Step) → ByteRun k i ss → i ≤ sizeOf m → i + length (values ss) ≤ sizeOf m
-  run-ends i [] r h = omega arith
-  run-ends i (s ∷ ss) r h = omega (arith, run-ends (suc i) ss (r .3) (omega (arith, r .2, w .place s (r .0) (r .1))))
+  group-ends : (i : ℕ) (ss : List Step) → ByteGroup k i ss → i ≤ sizeOf m → i + length (values ss) ≤ sizeOf m
+  group-ends i [] r h = omega arith
+  group-ends i (s ∷ ss) r h = omega (arith, group-ends (suc i) ss (r .3) (omega (arith, r .2, w .place s (r .0) (r .1))))
 
   -- the step machine over such steps
-  pub machine-byte-run : (i : ℕ) (ss : List Step) (st : State) → ByteRun k i ss → machine ss st ≡ withMemory m st (sets (memoryOf m st) i (values ss))
-  machine-byte-run i [] st r = sym (memory-same m st)
-  machine-byte-run i (s ∷ ss) st r =
-      rw (w .singly s st (r .0) (r .1), r .2)
-      (rw (machine-byte-run (suc i) ss _ (r .3), bytes-with, with-with))
+  pub machine-byte-group : (i : ℕ) (ss : List Step) (st : State) → ByteGroup k i ss → machine ss st ≡ withMemory m st (sets (memoryOf m st) i (values ss))
+  machine-byte-group i [] st r = sym (memory-same m st)
+  machine-byte-group i (s ∷ ss) st r =
+      rw (w .step s st (r .0) (r .1), r .2)
+      (rw (machine-byte-group (suc i) ss _ (r .3), bytes-with, with-with))
 
   -- an entry of such steps
-  pub entry-byte-run : (i : ℕ) (s : Step) (ss : List Step) (st : State)
-      → length (memoryOf m st) ≡ sizeOf m → length (values (s ∷ ss)) ≤ 55 → ByteRun k i (s ∷ ss)
+  pub entry-byte-group : (i : ℕ) (s : Step) (ss : List Step) (st : State)
+      → length (memoryOf m st) ≡ sizeOf m → length (values (s ∷ ss)) ≤ 55 → ByteGroup k i (s ∷ ss)
       → peripheralRequest (pnumOf k) (pcmdOf k) (i ∷ values (s ∷ ss)) st ≡ reply (machine (s ∷ ss) st) 0 []
-  entry-byte-run i s ss st size length-max r =
+  entry-byte-group i s ss st size length-max r =
       let d = values (s ∷ ss) in
       let start : i < sizeOf m = omega (arith, r .2, w .place s (r .0) (r .1)) in
-      let end-inside : i + length d ≤ sizeOf m = run-ends i (s ∷ ss) r (omega arith) in
+      let end-inside : i + length d ≤ sizeOf m = group-ends i (s ∷ ss) r (omega arith) in
       let fits : BlockFits (sizeOf m) (longestOf m) i (length d) =
       record { length-max = w .block (length d) length-max (omega arith); start-inside = start; end-inside = end-inside } in
       w .entry (i ∷ d) st
-      ∙ rw (write-byte-address m (memoryOf m st) i d (w .address) (omega arith) fits, overwrite-sets (memoryOf m st) i d (omega arith), machine-byte-run i (s ∷ ss) st r)
+      ∙ rw (write-byte-address m (memoryOf m st) i d (w .address) (omega arith) fits, overwrite-sets (memoryOf m st) i d (omega arith), machine-byte-group i (s ∷ ss) st r)

@@ -14,14 +14,14 @@ use Rattle.dpa.specs.Settings.{lastAddress, nodeAddress}
 use Rattle.dpa.proofs.Bool.{and-left, and-right, by-cond, by-test}
 use Rattle.dpa.specs.Lists.{All}
 use Rattle.book.specs.declared.step.Step.{Step}
-use Rattle.book.specs.Book.{countOf, bookOk, sceneOf}
+use Rattle.book.specs.Book.{sceneCount, bookOk, sceneOf}
 use Rattle.book.specs.Step.{stepFault, goodStep, firstBadFrom}
 use Rattle.dpa.proofs.All.{all-weaken}
 use Rattle.book.proofs.Faults.{Good, no-bad}
-use Rattle.scene.specs.Compile.{compiled}
-use Rattle.scene.specs.Call.{CompileResult, output, minOutput, refusedAt, written, addressOk, compileSteps, compileScene, compileFor}
-use Rattle.scene.proofs.Outputs.{Faultless, written-whole, compile-refused}
-use Rattle.acceptance.specs.SceneTheorem.{Addressable, NoFault, SceneRule, FirstBad, Refusals}
+use Rattle.scene.specs.Compile.{sceneRequests}
+use Rattle.scene.specs.Call.{CompileResult, output, minOutput, refusedWith, outputInBuffer, addressOk, compileSteps, compileScene, compileFor}
+use Rattle.scene.proofs.Outputs.{Faultless, compile-written, compile-refused}
+use Rattle.acceptance.specs.Condition3.{Addressable, NoFault, SceneRule, FirstBad, Refusals}
 
 -- ---- the faults by their tests
 
@@ -110,10 +110,10 @@ module _ (b : List ℕ) (k a h : ℕ) (out : List ℕ) where
   IllFormed = Addressable a × (bookOk b ≡ false)
 
   abbrev Unknown : Type 0
-  Unknown = Addressable a × (bookOk b ≡ true) × (countOf b ≤ k)
+  Unknown = Addressable a × (bookOk b ≡ true) × (sceneCount b ≤ k)
 
   abbrev BadStep : ℕ → Type 0
-  BadStep j = Addressable a × (bookOk b ≡ true) × (k < countOf b) × FirstBad (sceneOf b k) j
+  BadStep j = Addressable a × (bookOk b ≡ true) × (k < sceneCount b) × FirstBad (sceneOf b k) j
 
   abbrev NoRoom : Type 0
   NoRoom = Addressable a × SceneRule b k × (length out < minOutput)
@@ -122,42 +122,42 @@ module _ (b : List ℕ) (k a h : ℕ) (out : List ℕ) where
   Accepted = Addressable a × SceneRule b k × (minOutput ≤ length out)
 
   -- what each fault is answered with
-  address-answer : ¬ Addressable a → compileFor b k a h out ≡ refusedAt 1 0 out
+  address-answer : ¬ Addressable a → compileFor b k a h out ≡ refusedWith 1 0 out
   unfolding compileFor compileScene
   address-answer n = by-test (addressOk a) (λ t. absurd (n (addressable a .1 t))) (λ t. rw t refl)
 
-  book-answer : IllFormed → compileFor b k a h out ≡ refusedAt 6 0 out
+  book-answer : IllFormed → compileFor b k a h out ≡ refusedWith 6 0 out
   unfolding compileFor compileScene
   book-answer f = rw (addressable a .0 (f .0), f .1)
 
-  number-answer : Unknown → compileFor b k a h out ≡ refusedAt 7 0 out
+  number-answer : Unknown → compileFor b k a h out ≡ refusedWith 7 0 out
   unfolding compileFor compileScene
-  number-answer f = rw (addressable a .0 (f .0), f .1, le-leb (countOf b) k (f .2))
+  number-answer f = rw (addressable a .0 (f .0), f .1, le-leb (sceneCount b) k (f .2))
 
-  step-answer : (j : ℕ) → BadStep j → compileFor b k a h out ≡ refusedAt 8 j out
+  step-answer : (j : ℕ) → BadStep j → compileFor b k a h out ≡ refusedWith 8 j out
   unfolding compileFor compileScene
-  step-answer j f = rw (addressable a .0 (f .0), f .1, lt-leb (countOf b) k (f .2), first-bad-step (sceneOf b k) j .1 (f .3))
+  step-answer j f = rw (addressable a .0 (f .0), f .1, lt-leb (sceneCount b) k (f .2), first-bad-step (sceneOf b k) j .1 (f .3))
 
-  room-answer : NoRoom → compileFor b k a h out ≡ refusedAt 9 0 out
+  room-answer : NoRoom → compileFor b k a h out ≡ refusedWith 9 0 out
   unfolding compileFor compileScene
   room-answer f =
       let w = rule-faultless b k (f .1) in
-      rw (addressable a .0 (f .0), w .book, lt-leb (countOf b) k (w .number), w .steps, lt-ltb (length out) minOutput (f .2))
+      rw (addressable a .0 (f .0), w .book, lt-leb (sceneCount b) k (w .number), w .steps, lt-ltb (length out) minOutput (f .2))
 
   -- without a fault the call writes the output
-  pub accepted-answer : Accepted → compileFor b k a h out ≡ written (output (compiled a h (sceneOf b k))) out
-  accepted-answer f = written-whole b k a h out (addressable a .0 (f .0)) (f .2) (rule-faultless b k (f .1))
+  pub accepted-answer : Accepted → compileFor b k a h out ≡ outputInBuffer (output (sceneRequests a h (sceneOf b k))) out
+  accepted-answer f = compile-written b k a h out (addressable a .0 (f .0)) (f .2) (rule-faultless b k (f .1))
 
   -- one of the cases applies: what holds of each answer holds of the call's
   module _ (P : CompileResult → Type 0)
-      (address : ¬ Addressable a → P (refusedAt 1 0 out))
-      (ill-formed : IllFormed → P (refusedAt 6 0 out))
-      (unknown : Unknown → P (refusedAt 7 0 out))
-      (bad-step : (j : ℕ) → BadStep j → P (refusedAt 8 j out))
-      (no-room : NoRoom → P (refusedAt 9 0 out))
-      (accepted : Accepted → P (written (output (compiled a h (sceneOf b k))) out)) where
-    steps-cases : Addressable a → bookOk b ≡ true → k < countOf b → (o : Option ℕ) → firstBadFrom 0 (sceneOf b k) ≡ o
-        → P (compileSteps o (compiled a h (sceneOf b k)) out)
+      (address : ¬ Addressable a → P (refusedWith 1 0 out))
+      (ill-formed : IllFormed → P (refusedWith 6 0 out))
+      (unknown : Unknown → P (refusedWith 7 0 out))
+      (bad-step : (j : ℕ) → BadStep j → P (refusedWith 8 j out))
+      (no-room : NoRoom → P (refusedWith 9 0 out))
+      (accepted : Accepted → P (outputInBuffer (output (sceneRequests a h (sceneOf b k))) out)) where
+    steps-cases : Addressable a → bookOk b ≡ true → k < sceneCount b → (o : Option ℕ) → firstBadFrom 0 (sceneOf b k) ≡ o
+        → P (compileSteps o (sceneRequests a h (sceneOf b k)) out)
     steps-cases ad ok below (some j) e = bad-step j (ad, ok, below, first-bad-step (sceneOf b k) j .0 e)
     steps-cases ad ok below none e =
         let r : SceneRule b k =
@@ -172,7 +172,7 @@ module _ (b : List ℕ) (k a h : ℕ) (out : List ℕ) where
         (λ t. let ad = addressable a .1 (not-false (addressOk a) t) in
         by-cond P (not (bookOk b)) _ _ (λ u. ill-formed (ad, not-true (bookOk b) u))
         (λ u. let ok = not-false (bookOk b) u in
-        by-cond P (leb (countOf b) k) _ _ (λ v. unknown (ad, ok, leb-true _ _ v))
+        by-cond P (leb (sceneCount b) k) _ _ (λ v. unknown (ad, ok, leb-true _ _ v))
         (λ v. steps-cases ad ok (leb-false _ _ v) (firstBadFrom 0 (sceneOf b k)) refl)))
 
   abbrev numberOf : CompileResult → ℕ

@@ -14,7 +14,7 @@ use Rattle.timing.specs.declared.slot.Network.the-variants.{Std}
 use Rattle.timing.specs.Slot.{sendOf}
 use Rattle.handler.specs.Request.{State, Outcome, execute}
 use Rattle.book.specs.Examples.{settings, freshState, book}
-use Rattle.scene.specs.Call.{minOutput, written, compileFor}
+use Rattle.scene.specs.Call.{minOutput, outputInBuffer, compileFor}
 
 -- a lights request and a batch at node 1 as it is started
 abbrev pub lights : ℕ → List ℕ → State → Outcome
@@ -81,7 +81,7 @@ pub record WorkedExamples : Type 0 where
   -- hops 2 and 3, PData 5 and 20, delay 20
   pub wait-340 : sendOf 2 5 20 3 20 Std false ≡ record { refusal = 0; milliseconds = 340 }
   -- scene 0 for address 1, HWPID left out, in any buffer with room
-  pub book-compiles : (out : List ℕ) → minOutput ≤ length out → compileFor book 0 1 anyHwpid out ≡ written bookOutput out
+  pub book-compiles : (out : List ℕ) → minOutput ≤ length out → compileFor book 0 1 anyHwpid out ≡ outputInBuffer bookOutput out
 
 -- ---- examples that are ours, not document 01's
 

@@ -15,42 +15,42 @@ use Rattle.scene.specs.Call.{CompileResult, compileFor}
 use Rattle.acceptance.specs.declared.run.SceneAnswer.{SceneAnswer}
 
 -- the response buffer of each call
-abbrev pub cleared : List ℕ
-cleared = replicate longestResponse 0
+abbrev pub zeroBuffer : List ℕ
+zeroBuffer = replicate longestResponse 0
 
-abbrev pub total : List ℕ → ℕ
-total [] = 0
-total (n ∷ ns) = n + total ns
+abbrev pub totalLength : List ℕ → ℕ
+totalLength [] = 0
+totalLength (n ∷ ns) = n + totalLength ns
 
 -- an output that is as long as its length bytes say
-pub record Holds (o : List ℕ) : Type 0 where
+pub record CompleteOutput (o : List ℕ) : Type 0 where
   pub counted : suc (getD o 0 0) ≤ length o
-  pub whole : total (take (getD o 0 0) (drop 1 o)) ≤ length (drop (suc (getD o 0 0)) o)
+  pub whole : totalLength (take (getD o 0 0) (drop 1 o)) ≤ length (drop (suc (getD o 0 0)) o)
 
 -- what running a scene leaves: the refusal, a bad step's number, node and memories, and the compiler's buffer
-pub record Ran : Type 0 where
+pub record SceneResult : Type 0 where
   pub refusal : ℕ
   pub step : ℕ
   pub after : State
   pub out : List ℕ
 
-abbrev pub ranAs : SceneAnswer → List ℕ → List ℕ → List ℕ → Ran
-ranAs r e x o = record { refusal = r .refusal; step = r .step; after = state (r .node) e x; out = o }
+abbrev pub sceneResult : SceneAnswer → List ℕ → List ℕ → List ℕ → SceneResult
+sceneResult r e x o = record { refusal = r .refusal; step = r .step; after = state (r .node) e x; out = o }
 
-abbrev pub notRun : ℕ → ℕ → State → List ℕ → Ran
-notRun refusal step st out = record { refusal = refusal; step = step; after = st; out = out }
+abbrev pub result : ℕ → ℕ → State → List ℕ → SceneResult
+result refusal step st out = record { refusal = refusal; step = step; after = st; out = out }
 
 -- refused by the compiler, or done as the step machine does the scene's steps
-unfoldable pub afterCompile : CompileResult → State → State → Ran
-afterCompile c st done = cond (eqb (c .refusal) 0) (notRun 0 0 done (c .buffer)) (notRun (c .refusal) (c .step) st (c .buffer))
+unfoldable pub afterCompile : CompileResult → State → State → SceneResult
+afterCompile c st done = cond (eqb (c .refusal) 0) (result 0 0 done (c .buffer)) (result (c .refusal) (c .step) st (c .buffer))
 
 -- the node and the memories are tested first: 1, 4
-unfoldable pub runScene : List ℕ → ℕ → State → List ℕ → Ran
+unfoldable pub runScene : List ℕ → ℕ → State → List ℕ → SceneResult
 runScene book k st out =
     cond (nodeOk (st .node))
     (cond (eqb (length (st .eeprom)) (sizeOf Eeprom))
     (cond (eqb (length (st .external)) (sizeOf External))
     (afterCompile (compileFor book k (st .node .settings .address) (st .node .settings .hwpid) out) st (machine (sceneOf book k) st))
-    (notRun 4 0 st out))
-    (notRun 4 0 st out))
-    (notRun 1 0 st out)
+    (result 4 0 st out))
+    (result 4 0 st out))
+    (result 1 0 st out)

@@ -1,9 +1,10 @@
+-- `compile::compile`: the address is tested, then the scene is compiled within the limits of a batch.
 use mathlib.Core.Path.{sym, ap, _∙_}
 use borrow.Author.Needs.{needs}
 use borrow.Author.Tests.{not-true, not-false}
 use Rattle.scene.specs.declared.compile.CompileAnswer.{CompileAnswer}
 use Rattle.scene.specs.Call.{compileResult, compileFor}
-use Rattle.scene.proofs.Lists.{limits}
+use Rattle.scene.proofs.Batches.{batch-limits}
 use Rattle.scene.proofs.compile.compile.Statement.{statement}
 use Rattle.scene.proofs.compile.compile.Tie as tie
 
@@ -14,7 +15,7 @@ returns c =
     (ap (λ (r : CompileAnswer). compileResult r (c .before .before .before .before .before .args .out .now)) (c .refused .ensures))
 
 compile-scene-requires : tie.Need-compile-scene-requires
-compile-scene-requires c κs = limits
+compile-scene-requires c κs = batch-limits
 
 returns-2 : tie.Need-returns-2
 unfolding compileFor
