@@ -13,11 +13,11 @@ use Rattle.handler.specs.Request.{State, StateRule, hwpidMatches, executeEntry,
 use Rattle.handler.proofs.Soundness.{entry-sound}
 use Rattle.handler.proofs.Executing.{batch-runs}
 use Rattle.book.specs.declared.step.Step.{Step}
-use Rattle.book.specs.Group.{joined}
+use Rattle.book.specs.Group.{concat}
 use Rattle.book.specs.Machine.{machine}
 use Rattle.book.specs.Entry.{joinedItem}
 use Rattle.scene.specs.Compile.{joinedItems}
-use Rattle.book.proofs.Places.{machine-append, machine-stays}
+use Rattle.book.proofs.MachineLaws.{machine-append, machine-stays}
 
 -- carried out without an error of its own or data, with nothing to report
 abbrev pub finished : State → List ℕ → Outcome
@@ -29,14 +29,14 @@ Performs h run st = (executeEntry (joinedItem h run) st .error ≡ 0) × (execut
 
 -- the entries of these steps, at any sound node that takes their profile
 abbrev pub AllPerform : ℕ → (List Step → Type 0) → Type 0
-AllPerform h Run =
-    (run : List Step) (st : State) → Run run → StateRule st → hwpidMatches (st .node .settings) h ≡ true → Performs h run st
+AllPerform h EntryGroup =
+    (run : List Step) (st : State) → EntryGroup run → StateRule st → hwpidMatches (st .node .settings) h ≡ true → Performs h run st
 
-module _ (h : ℕ) (Run : List Step → Type 0) (performs : AllPerform h Run) where
+module _ (h : ℕ) (EntryGroup : List Step → Type 0) (performs : AllPerform h EntryGroup) where
   -- in order, each from what the last one left
-  pub entries-perform : (runs : List (List Step)) (st : State) → All Run runs → StateRule st → hwpidMatches (st .node .settings) h ≡ true
+  pub entries-perform : (runs : List (List Step)) (st : State) → All EntryGroup runs → StateRule st → hwpidMatches (st .node .settings) h ≡ true
       → All (λ (e : ℕ). e ≡ 0) (errorsOf entryError entryAfter (joinedItems h runs) st)
-      × (runItems entryAfter (joinedItems h runs) st ≡ machine (joined runs) st)
+      × (runItems entryAfter (joinedItems h runs) st ≡ machine (concat runs) st)
   unfolding runItems errorsOf
   entries-perform [] st a k f = (tt, refl)
   entries-perform (r ∷ rs) st a k f =
@@ -44,12 +44,12 @@ module _ (h : ℕ) (Run : List Step → Type 0) (performs : AllPerform h Run) wh
       let next = entryAfter (joinedItem h r) st in
       let same : next .node .settings ≡ st .node .settings = ap (λ (t : State). t .node .settings) (first .1) ∙ machine-stays r st .settings in
       let rest = entries-perform rs next (a .1) (entry-sound (joinedItem h r) st k) (ap (λ (s : Settings). hwpidMatches s h) same ∙ f) in
-      ((first .0, rest .0), rest .1 ∙ ap (machine (joined rs)) (first .1) ∙ sym (machine-append r (joined rs) st))
+      ((first .0, rest .0), rest .1 ∙ ap (machine (concat rs)) (first .1) ∙ sym (machine-append r (concat rs) st))
 
   -- their list is read back and runs
-  pub batch-performs : (runs : List (List Step)) (st : State) → All Run runs → StateRule st → hwpidMatches (st .node .settings) h ≡ true
+  pub batch-performs : (runs : List (List Step)) (st : State) → All EntryGroup runs → StateRule st → hwpidMatches (st .node .settings) h ≡ true
       → batchRequest (listBytes (joinedItems h runs)) st
-      ≡ finished (machine (joined runs) st) (errorsOf entryError entryAfter (joinedItems h runs) st)
+      ≡ finished (machine (concat runs) st) (errorsOf entryError entryAfter (joinedItems h runs) st)
   batch-performs runs st a k f =
       let is = joinedItems h runs in
       let back = round-trip is in

@@ -28,7 +28,7 @@ use Rattle.handler.proofs.Performing.{perform-lights}
 use Rattle.book.specs.declared.step.Step.{Step}
 use Rattle.book.specs.Step.{stepTimeOk}
 use Rattle.book.specs.Machine.{machineLevel, machineSeconds, machineLamp, machineLamps, machineEffect, machineStep, machine}
-use Rattle.book.specs.Entry.{bitmapOf, fourBytes, powerBytes, powersBytes, pnumOf, pcmdOf}
+use Rattle.book.specs.Entry.{bitmapOf, bitmapBytes, powerBytes, powersBytes, pnumOf, pcmdOf}
 use Rattle.book.proofs.Faults.{Good, LampGood, lamp-good, good-formed}
 
 -- ---- binary digits
@@ -252,7 +252,7 @@ module _ (k : ℕ) (lamp : k < 3) where
   bitmap-mask (s ∷ ss) = rw (sub-zero (s .target), bitmap-mask ss)
 
   -- the entry's bitmap has a one-digit for each step
-  run-digits : (ss : List Step) (rest : List ℕ) → LampRun k 0 ss → bitmap (fourBytes (bitmapOf ss) ++ rest) ≡ bits 32 (maskFrom targetOf 0 ss)
+  run-digits : (ss : List Step) (rest : List ℕ) → LampRun k 0 ss → bitmap (bitmapBytes (bitmapOf ss) ++ rest) ≡ bits 32 (maskFrom targetOf 0 ss)
   run-digits ss rest r =
       let m = bitmapOf ss in
       let max : m < 2 ^ 32 = omega (arith, bitmap-mask ss, mask-max targetOf ss (run-ascends 0 ss r)) in
@@ -290,7 +290,7 @@ module _ (k : ℕ) (lamp : k < 3) where
 
   -- the request of such steps
   request-run : (s : Settings) (ss : List Step) (ls : List Lamp) → length ls ≡ 32 → LampRun k 0 ss
-      → changeLamps s (commandOf k) (fourBytes (bitmapOf ss) ++ powersBytes ss) ls
+      → changeLamps s (commandOf k) (bitmapBytes (bitmapOf ss) ++ powersBytes ss) ls
       ≡ reply (inTurn targetOf changeOf (commandOf k) (s .«lamp_count») 0 ss ls) 0 (levelsBefore s (s .«lamp_count») (bits 32 (maskFrom targetOf 0 ss)) ls)
   unfolding changeLamps
   request-run s ss ls full r =
@@ -305,8 +305,8 @@ module _ (k : ℕ) (lamp : k < 3) where
 
   -- an entry of such steps: no error, and the step machine's state
   pub entry-lamp-run : (ss : List Step) (st : State) → length (st .node .lamps) ≡ 32 → LampRun k 0 ss
-      → perform (pnumOf k) (pcmdOf k) (fourBytes (bitmapOf ss) ++ powersBytes ss) st
+      → perform (pnumOf k) (pcmdOf k) (bitmapBytes (bitmapOf ss) ++ powersBytes ss) st
       ≡ reply (machine ss st) 0 (levelsBefore (st .node .settings) (st .node .settings .«lamp_count») (bits 32 (maskFrom targetOf 0 ss)) (st .node .lamps))
   entry-lamp-run ss st full r =
-      entry-lights (fourBytes (bitmapOf ss) ++ powersBytes ss) st
+      entry-lights (bitmapBytes (bitmapOf ss) ++ powersBytes ss) st
       ∙ rw (request-run (st .node .settings) ss (st .node .lamps) full r, machine-lamp-run 0 ss st r)

@@ -14,7 +14,7 @@ use Rattle.dpa.specs.Settings.{lastAddress, nodeAddress}
 use Rattle.dpa.proofs.Bool.{and-left, and-right, by-cond, by-test}
 use Rattle.dpa.specs.Lists.{All}
 use Rattle.book.specs.declared.step.Step.{Step}
-use Rattle.book.specs.Book.{countOf, bookOk, sceneOf}
+use Rattle.book.specs.Book.{sceneCount, bookOk, sceneOf}
 use Rattle.book.specs.Step.{stepFault, goodStep, firstBadFrom}
 use Rattle.dpa.proofs.All.{all-weaken}
 use Rattle.book.proofs.Faults.{Good, no-bad}
@@ -110,10 +110,10 @@ module _ (b : List ℕ) (k a h : ℕ) (out : List ℕ) where
   IllFormed = Addressable a × (bookOk b ≡ false)
 
   abbrev Unknown : Type 0
-  Unknown = Addressable a × (bookOk b ≡ true) × (countOf b ≤ k)
+  Unknown = Addressable a × (bookOk b ≡ true) × (sceneCount b ≤ k)
 
   abbrev BadStep : ℕ → Type 0
-  BadStep j = Addressable a × (bookOk b ≡ true) × (k < countOf b) × FirstBad (sceneOf b k) j
+  BadStep j = Addressable a × (bookOk b ≡ true) × (k < sceneCount b) × FirstBad (sceneOf b k) j
 
   abbrev NoRoom : Type 0
   NoRoom = Addressable a × SceneRule b k × (length out < minOutput)
@@ -132,17 +132,17 @@ module _ (b : List ℕ) (k a h : ℕ) (out : List ℕ) where
 
   number-answer : Unknown → compileOf b k a h out ≡ refusedAt 7 0 out
   unfolding compileOf compileScene
-  number-answer f = rw (addressable a .0 (f .0), f .1, le-leb (countOf b) k (f .2))
+  number-answer f = rw (addressable a .0 (f .0), f .1, le-leb (sceneCount b) k (f .2))
 
   step-answer : (j : ℕ) → BadStep j → compileOf b k a h out ≡ refusedAt 8 j out
   unfolding compileOf compileScene
-  step-answer j f = rw (addressable a .0 (f .0), f .1, lt-leb (countOf b) k (f .2), first-bad-step (sceneOf b k) j .1 (f .3))
+  step-answer j f = rw (addressable a .0 (f .0), f .1, lt-leb (sceneCount b) k (f .2), first-bad-step (sceneOf b k) j .1 (f .3))
 
   room-answer : NoRoom → compileOf b k a h out ≡ refusedAt 9 0 out
   unfolding compileOf compileScene
   room-answer f =
       let w = rule-faultless b k (f .1) in
-      rw (addressable a .0 (f .0), w .book, lt-leb (countOf b) k (w .number), w .steps, lt-ltb (length out) minOutput (f .2))
+      rw (addressable a .0 (f .0), w .book, lt-leb (sceneCount b) k (w .number), w .steps, lt-ltb (length out) minOutput (f .2))
 
   -- without a fault the call writes the output
   pub accepted-answer : Accepted → compileOf b k a h out ≡ written (output (compiled a h (sceneOf b k))) out
@@ -156,7 +156,7 @@ module _ (b : List ℕ) (k a h : ℕ) (out : List ℕ) where
       (bad-step : (j : ℕ) → BadStep j → P (refusedAt 8 j out))
       (no-room : NoRoom → P (refusedAt 9 0 out))
       (accepted : Accepted → P (written (output (compiled a h (sceneOf b k))) out)) where
-    steps-cases : Addressable a → bookOk b ≡ true → k < countOf b → (o : Option ℕ) → firstBadFrom 0 (sceneOf b k) ≡ o
+    steps-cases : Addressable a → bookOk b ≡ true → k < sceneCount b → (o : Option ℕ) → firstBadFrom 0 (sceneOf b k) ≡ o
         → P (compileSteps o (compiled a h (sceneOf b k)) out)
     steps-cases ad ok below (some j) e = bad-step j (ad, ok, below, first-bad-step (sceneOf b k) j .0 e)
     steps-cases ad ok below none e =
@@ -172,7 +172,7 @@ module _ (b : List ℕ) (k a h : ℕ) (out : List ℕ) where
         (λ t. let ad = addressable a .1 (not-false (addressOk a) t) in
         by-cond P (not (bookOk b)) _ _ (λ u. ill-formed (ad, not-true (bookOk b) u))
         (λ u. let ok = not-false (bookOk b) u in
-        by-cond P (leb (countOf b) k) _ _ (λ v. unknown (ad, ok, leb-true _ _ v))
+        by-cond P (leb (sceneCount b) k) _ _ (λ v. unknown (ad, ok, leb-true _ _ v))
         (λ v. steps-cases ad ok (leb-false _ _ v) (firstBadFrom 0 (sceneOf b k)) refl)))
 
   abbrev numberOf : CompileResult → ℕ

@@ -21,7 +21,7 @@ use Rattle.book.specs.Machine.{machine}
 use Rattle.book.specs.Entry.{entryData, pnumOf, pcmdOf, joinedItem}
 use Rattle.book.specs.Join.{follows}
 use Rattle.book.proofs.Faults.{eeprom-good}
-use Rattle.book.proofs.Runs.{Linked, Run}
+use Rattle.book.proofs.EntryGroups.{Linked, EntryGroup}
 use Rattle.scene.specs.Compile.{Limits}
 use Rattle.acceptance.proofs.Lamps.{LampRun, entry-lamp-run}
 use Rattle.acceptance.proofs.Memories.{Writes, writes-ram, writes-eeprom, ByteRun, entry-byte-run}
@@ -48,7 +48,7 @@ byte-run k h p (s ∷ ss) e l =
 abbrev Leaves : State → Reply State → Type 0
 Leaves st a = (a .error ≡ 0) × (a .after ≡ st)
 
-module _ (most : ℕ) (limit : most ≤ pdataMax) (s : Step) (ss : List Step) (st : State) (r : Run most (s ∷ ss)) where
+module _ (most : ℕ) (limit : most ≤ pdataMax) (s : Step) (ss : List Step) (st : State) (r : EntryGroup most (s ∷ ss)) where
   abbrev done : Reply State
   done = perform (pnumOf (s .kind)) (pcmdOf (s .kind)) (entryData s ss) st
 
@@ -77,7 +77,7 @@ module _ (most : ℕ) (limit : most ≤ pdataMax) (s : Step) (ss : List Step) (s
 
 -- an entry that joining makes, for a profile that the node takes: no error, and the state of its steps done singly
 pub run-performs : {entryMost listMost : ℕ} {front : List ℕ} → Limits entryMost listMost front → (h : ℕ) (run : List Step) (st : State)
-    → Run entryMost run → StateRule st → hwpidMatches (st .node .settings) h ≡ true
+    → EntryGroup entryMost run → StateRule st → hwpidMatches (st .node .settings) h ≡ true
     → (executeEntry (joinedItem h run) st .error ≡ 0) × (executeEntry (joinedItem h run) st .after ≡ machine run st)
 run-performs limits h [] st r k f = absurd r
 run-performs {entryMost} limits h (s ∷ ss) st r k f =

@@ -8,7 +8,7 @@ use lib.Seq.{take-at, drop-at}
 use Rattle.dpa.proofs.Lists.{to-end}
 use Rattle.handler.specs.Request.{State, handleRequest}
 use Rattle.scene.specs.Call.{splitBy, requestsIn, lengths, output}
-use Rattle.book.specs.Group.{joined}
+use Rattle.book.specs.Group.{concat}
 use Rattle.scene.proofs.Outputs.{lengths-length}
 use Rattle.acceptance.specs.SceneTheorem.{afterCalls}
 use Rattle.acceptance.specs.RunScene.{cleared, total, Holds}
@@ -56,20 +56,20 @@ module _ (o : List ℕ) {n : ℕ} (e : n ≡ getD o 0 0) where
   unfolding requestsIn
   parts-requests = rw (lengths-part, requests-part)
 
-total-lengths : (rs : List (List ℕ)) → total (lengths rs) ≡ length (joined rs)
+total-lengths : (rs : List (List ℕ)) → total (lengths rs) ≡ length (concat rs)
 total-lengths [] = refl
-total-lengths (r ∷ rs) = omega (arith, length-append r (joined rs), total-lengths rs)
+total-lengths (r ∷ rs) = omega (arith, length-append r (concat rs), total-lengths rs)
 
 -- an output is as long as its length bytes say, whatever follows it
 pub output-holds : (rs : List (List ℕ)) (t : List ℕ) → Holds (output rs ++ t)
 output-holds rs t =
     record {
-      counted = omega (arith, length-append (lengths rs ++ joined rs) t, length-append (lengths rs) (joined rs), lengths-length rs);
+      counted = omega (arith, length-append (lengths rs ++ concat rs) t, length-append (lengths rs) (concat rs), lengths-length rs);
       whole =
           rw (
-            append-assoc (lengths rs) (joined rs) t,
-            take-at (lengths rs) (joined rs ++ t) (length rs) (lengths-length rs),
-            drop-at (lengths rs) (joined rs ++ t) (length rs) (lengths-length rs),
+            append-assoc (lengths rs) (concat rs) t,
+            take-at (lengths rs) (concat rs ++ t) (length rs) (lengths-length rs),
+            drop-at (lengths rs) (concat rs ++ t) (length rs) (lengths-length rs),
           )
-          (omega (arith, total-lengths rs, length-append (joined rs) t));
+          (omega (arith, total-lengths rs, length-append (concat rs) t));
     }

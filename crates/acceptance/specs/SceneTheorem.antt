@@ -22,7 +22,7 @@ use Rattle.dpa.specs.Pnum.{osPnum}
 use Rattle.dpa.specs.Settings.{lastAddress}
 use Rattle.handler.specs.Request.{State, StateRule, itemOf, noReport, execute, handleRequest}
 use Rattle.book.specs.declared.step.Step.{Step}
-use Rattle.book.specs.Book.{countOf, bookOk, sceneOf}
+use Rattle.book.specs.Book.{sceneCount, bookOk, sceneOf}
 use Rattle.book.specs.Step.{stepFault}
 use Rattle.book.specs.Machine.{machine}
 use Rattle.scene.specs.Compile.{compiled}
@@ -41,7 +41,7 @@ NoFault s = stepFault s ≡ 0
 -- A scene without a fault: a well-formed book, a number below its count, and no bad step.
 pub record SceneRule (book : List ℕ) (scene : ℕ) : Type 0 where
   pub well-formed : bookOk book ≡ true
-  pub known : scene < countOf book
+  pub known : scene < sceneCount book
   pub no-fault : All NoFault (sceneOf book scene)
 
 -- Step k, counted from 0, is bad, and none of the k steps before it is.
@@ -59,9 +59,9 @@ pub record FirstBad (steps : List Step) (k : ℕ) : Type 0 where
 pub record Refusals (book : List ℕ) (scene a : ℕ) (out : List ℕ) (r : CompileResult) : Type 0 where
   pub address : (r .refusal ≡ 1) ↔ (¬ Addressable a)
   pub ill-formed : (r .refusal ≡ 6) ↔ (Addressable a × (bookOk book ≡ false))
-  pub unknown : (r .refusal ≡ 7) ↔ (Addressable a × (bookOk book ≡ true) × (countOf book ≤ scene))
+  pub unknown : (r .refusal ≡ 7) ↔ (Addressable a × (bookOk book ≡ true) × (sceneCount book ≤ scene))
   pub bad-step : (k : ℕ) → ((r .refusal ≡ 8) × (r .step ≡ k))
-      ↔ (Addressable a × (bookOk book ≡ true) × (scene < countOf book) × FirstBad (sceneOf book scene) k)
+      ↔ (Addressable a × (bookOk book ≡ true) × (scene < sceneCount book) × FirstBad (sceneOf book scene) k)
   pub no-room : (r .refusal ≡ 9) ↔ (Addressable a × SceneRule book scene × (length out < minOutput))
   pub none : (r .refusal ≡ 0) ↔ (Addressable a × SceneRule book scene × (minOutput ≤ length out))
   pub other-step : ¬ (r .refusal ≡ 8) → r .step ≡ 0

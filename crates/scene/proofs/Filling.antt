@@ -12,13 +12,13 @@ use Rattle.dpa.proofs.Bool.{by-test, by-cond}
 use Rattle.batch.specs.Batch.{entryBytes, entriesBytes}
 use Rattle.dpa.specs.Lists.{All}
 use Rattle.book.specs.declared.step.Step.{Step}
-use Rattle.book.specs.Group.{joined, grow, group}
+use Rattle.book.specs.Group.{concat, grow, group}
 use Rattle.book.specs.Entry.{groupData, joinedItem}
 use Rattle.book.specs.Join.{entriesOf}
-use Rattle.book.specs.Run.{FirstEntry}
+use Rattle.book.specs.EntrySize.{FirstEntry}
 use Rattle.book.proofs.Faults.{Good}
-use Rattle.book.proofs.Groups.{grow-in, grow-out}
-use Rattle.book.proofs.Runs.{Run, runs, joining-keeps}
+use Rattle.book.proofs.Groups.{grow-fits, grow-not-fits}
+use Rattle.book.proofs.EntryGroups.{EntryGroup, entry-groups, joining-keeps}
 use Rattle.scene.specs.Compile.{Limits, joinedItems, listOf, fills, batchesOf}
 use Rattle.scene.specs.Call.{lengths}
 use Rattle.scene.specs.Fill.{fitsList, nextSize, separatorBytes, separatorLength}
@@ -50,20 +50,20 @@ module _ (listMost : ℕ) (head : List ℕ) (h : ℕ) where
   headed-length cur = omega (arith, length-append head (listOf h cur))
 
   -- the requests from an open list on: its own beginning, its entries, and what is left
-  pub grow-bytes : (cur rs : List (List Step)) → joined (map (headed head h) (grow (fills listMost h) cur rs))
+  pub grow-bytes : (cur rs : List (List Step)) → concat (map (headed head h) (grow (fills listMost h) cur rs))
       ≡ head ++ (entriesBytes (joinedItems h cur) ++ bytesLeft listMost head h (length (listOf h cur)) rs)
   unfolding nextSize separatorBytes entriesBytes
   grow-bytes cur [] = append-nil (headed head h cur)
   grow-bytes cur (r ∷ rs) =
       by-test (fills listMost h cur r)
       (λ e. let b = bytesLeft listMost head h (length (listOf h (cur ++ (r ∷ [])))) rs in
-      rw (grow-in (fills listMost h) cur r rs e, sym (fills-as cur r) ∙ e, ← (list-snoc h cur r))
+      rw (grow-fits (fills listMost h) cur r rs e, sym (fills-as cur r) ∙ e, ← (list-snoc h cur r))
       (grow-bytes (cur ++ (r ∷ [])) rs
       ∙ ap (λ (t : List ℕ). head ++ t)
       (ap (λ (t : List ℕ). t ++ b) (entries-snoc h cur r) ∙ append-assoc (entriesBytes (joinedItems h cur)) (entryBytes (joinedItem h r)) b)))
       (λ e. let b = bytesLeft listMost head h (length (listOf h (r ∷ []))) rs in
       let x = head ++ (entryBytes (joinedItem h r) ++ b) in
-      rw (grow-out (fills listMost h) cur r rs e, sym (fills-as cur r) ∙ e, ← (list-one h r))
+      rw (grow-not-fits (fills listMost h) cur r rs e, sym (fills-as cur r) ∙ e, ← (list-one h r))
       (ap (λ (t : List ℕ). headed head h cur ++ t)
       (grow-bytes (r ∷ []) rs ∙ ap (λ (t : List ℕ). head ++ (t ++ b)) (append-nil (entryBytes (joinedItem h r))))
       ∙ append-assoc head (listOf h cur) x
@@ -76,8 +76,8 @@ module _ (listMost : ℕ) (head : List ℕ) (h : ℕ) where
   grow-lengths cur [] = ap (λ (n : ℕ). n ∷ []) (headed-length cur)
   grow-lengths cur (r ∷ rs) =
       by-test (fills listMost h cur r)
-      (λ e. rw (grow-in (fills listMost h) cur r rs e, sym (fills-as cur r) ∙ e, ← (list-snoc h cur r)) (grow-lengths (cur ++ (r ∷ [])) rs))
-      (λ e. rw (grow-out (fills listMost h) cur r rs e, sym (fills-as cur r) ∙ e, headed-length cur, ← (list-one h r))
+      (λ e. rw (grow-fits (fills listMost h) cur r rs e, sym (fills-as cur r) ∙ e, ← (list-snoc h cur r)) (grow-lengths (cur ++ (r ∷ [])) rs))
+      (λ e. rw (grow-not-fits (fills listMost h) cur r rs e, sym (fills-as cur r) ∙ e, headed-length cur, ← (list-one h r))
       (ap (λ (t : List ℕ). (length (listOf h cur) + length head) ∷ t) (grow-lengths (r ∷ []) rs)))
 
 -- an entry that goes into the open list, and one that finds it full
@@ -100,23 +100,23 @@ module _ {entryMost listMost : ℕ} {front : List ℕ} (l : Limits entryMost lis
       by-cond (λ (n : ℕ). n ≤ listMost) (fitsList listMost size more) _ _ (λ e. leb-true _ _ e) (λ e. omega (arith, l .list))
 
   module _ (head : List ℕ) (h : ℕ) (ss : List Step) (good : All Good ss) (some : 0 < length ss) where
-    first-fills : (r : List Step) → Run entryMost r → fills listMost h [] r ≡ true
+    first-fills : (r : List Step) → EntryGroup entryMost r → fills listMost h [] r ≡ true
     first-fills [] q = absurd q
     first-fills (s ∷ ss) q = le-leb (length (listOf h ((s ∷ ss) ∷ []))) listMost (omega (arith, list-one h (s ∷ ss), q .2, l .list))
 
     -- the first entry goes into a list without entries
-    from-empty : (rs : List (List Step)) → joined rs ≡ ss → All (Run entryMost) rs → group (fills listMost h) rs ≡ grow (fills listMost h) [] rs
+    from-empty : (rs : List (List Step)) → concat rs ≡ ss → All (EntryGroup entryMost) rs → group (fills listMost h) rs ≡ grow (fills listMost h) [] rs
     from-empty [] e a = absurd (omega (arith, ap length e))
-    from-empty (r ∷ rs) e a = sym (grow-in (fills listMost h) [] r rs (first-fills r (a .0)))
+    from-empty (r ∷ rs) e a = sym (grow-fits (fills listMost h) [] r rs (first-fills r (a .0)))
 
     batches-grow : batchesOf entryMost listMost h ss ≡ grow (fills listMost h) [] (entriesOf entryMost ss)
-    batches-grow = from-empty (entriesOf entryMost ss) (joining-keeps entryMost ss) (runs entryMost (l .entry) ss good)
+    batches-grow = from-empty (entriesOf entryMost ss) (joining-keeps entryMost ss) (entry-groups entryMost (l .entry) ss good)
 
     -- a scene's requests, and their lengths
-    pub bytes-begin : joined (map (headed head h) (batchesOf entryMost listMost h ss)) ≡ head ++ bytesLeft listMost head h 1 (entriesOf entryMost ss)
+    pub bytes-begin : concat (map (headed head h) (batchesOf entryMost listMost h ss)) ≡ head ++ bytesLeft listMost head h 1 (entriesOf entryMost ss)
     unfolding entriesBytes
     bytes-begin =
-        ap (λ (bs : List (List (List Step))). joined (map (headed head h) bs)) batches-grow ∙ grow-bytes listMost head h [] (entriesOf entryMost ss)
+        ap (λ (bs : List (List (List Step))). concat (map (headed head h) bs)) batches-grow ∙ grow-bytes listMost head h [] (entriesOf entryMost ss)
 
     pub lengths-begin : lengths (map (headed head h) (batchesOf entryMost listMost h ss)) ≡ lengthsLeft listMost (length head) 1 (entriesOf entryMost ss)
     unfolding entriesBytes

@@ -11,13 +11,13 @@ use lib.Seq.{sets, sets-eq, drop-drop, getD-drop, length-take-le}
 use Rattle.dpa.proofs.Bool.{by-cond}
 use Rattle.dpa.specs.Lists.{All}
 use Rattle.book.specs.declared.step.Step.{Step}
-use Rattle.book.specs.Group.{joined, grow, group}
+use Rattle.book.specs.Group.{concat, grow, group}
 use Rattle.book.specs.Entry.{groupData}
 use Rattle.book.specs.Join.{joins, entriesOf}
-use Rattle.book.specs.Run.{FirstEntry}
+use Rattle.book.specs.EntrySize.{FirstEntry}
 use Rattle.book.proofs.Faults.{Good}
 use Rattle.book.proofs.Groups.{length-group}
-use Rattle.book.proofs.Runs.{Run, runs, joining-keeps}
+use Rattle.book.proofs.EntryGroups.{EntryGroup, entry-groups, joining-keeps}
 use Rattle.scene.specs.Fill.{spanBytes, KeepsEntries}
 use Rattle.scene.proofs.Filling.{entries-next}
 use Rattle.scene.proofs.Requests.{Left, left-more}
@@ -50,7 +50,7 @@ taken zero xs = (refl, refl)
 taken (suc k) [] = (refl, refl)
 taken {A} (suc k) (x ∷ xs) = let t = taken k xs in (ap (λ (l : List A). x ∷ l) (t .0), t .1)
 
-run-some : (most : ℕ) (r : List Step) → Run most r → (1 ≤ length r) × (length (groupData r) ≤ most)
+run-some : (most : ℕ) (r : List Step) → EntryGroup most r → (1 ≤ length r) × (length (groupData r) ≤ most)
 run-some most [] q = absurd q
 run-some most (s ∷ ss) q = (omega arith, q .2)
 
@@ -66,7 +66,7 @@ module _ (entryMost : ℕ) (six : 6 ≤ entryMost) (xs : List Step) (good : All 
   first-run r rs e =
       let c = group-cut (joins entryMost) xs r rs e in
       let t = taken (c .count) xs in
-      let all : All (Run entryMost) (r ∷ rs) = rw e at (runs entryMost six xs good) in
+      let all : All (EntryGroup entryMost) (r ∷ rs) = rw e at (entry-groups entryMost six xs good) in
       let q = run-some entryMost r (all .0) in
       let same : take (length r) xs ≡ r = ap (λ (l : List Step). take (length l) xs) (c .first) ∙ t .0 ∙ sym (c .first) in
       let rest : drop (length r) xs ≡ drop (c .count) xs = ap (λ (l : List Step). drop (length l) xs) (c .first) ∙ t .1 in
@@ -85,7 +85,7 @@ module _ (entryMost : ℕ) (six : 6 ≤ entryMost) (xs : List Step) (good : All 
 
   module _ (kept : List ℕ) (m : ℕ) (unused : List ℕ) (some : 0 < length xs) where
     next-from : (es : List (List Step)) → entriesOf entryMost xs ≡ es → drop m kept ≡ spanBytes es ++ unused → Next entryMost xs kept m
-    next-from [] e q = absurd (omega (arith, ap length (sym (joining-keeps entryMost xs) ∙ ap joined e)))
+    next-from [] e q = absurd (omega (arith, ap length (sym (joining-keeps entryMost xs) ∙ ap concat e)))
     next-from (r ∷ rs) e q =
         let f = first-run r rs e in
         let z : m + 0 ≡ m = add-zero m in

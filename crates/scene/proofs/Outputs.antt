@@ -17,9 +17,9 @@ use Rattle.dpa.proofs.Bool.{by-cond}
 use Rattle.dpa.proofs.Lists.{front}
 use Rattle.dpa.specs.Lists.{All}
 use Rattle.book.specs.declared.step.Step.{Step}
-use Rattle.book.specs.Group.{joined}
+use Rattle.book.specs.Group.{concat}
 use Rattle.book.specs.Join.{joins, entriesOf, entryLimit}
-use Rattle.book.specs.Book.{stepsMax, countOf, bookOk, sceneOf}
+use Rattle.book.specs.Book.{stepsMax, sceneCount, bookOk, sceneOf}
 use Rattle.book.specs.Step.{firstBadFrom}
 use Rattle.book.proofs.Faults.{Good, no-bad}
 use Rattle.book.proofs.Groups.{length-group}
@@ -37,30 +37,30 @@ pub lengths-length : (rs : List (List ℕ)) → length (lengths rs) ≡ length r
 lengths-length [] = refl
 lengths-length (r ∷ rs) = ap suc (lengths-length rs)
 
-cut-back : (rs : List (List ℕ)) (t : List ℕ) → splitBy (lengths rs) (joined rs ++ t) ≡ rs
+cut-back : (rs : List (List ℕ)) (t : List ℕ) → splitBy (lengths rs) (concat rs ++ t) ≡ rs
 cut-back [] t = refl
 cut-back (r ∷ rs) t =
-    rw (append-assoc r (joined rs) t, take-append-seam r (joined rs ++ t), drop-append-seam r (joined rs ++ t), cut-back rs t)
+    rw (append-assoc r (concat rs) t, take-append-seam r (concat rs ++ t), drop-append-seam r (concat rs ++ t), cut-back rs t)
 
 -- the output read back is the list of requests, whatever follows it
 pub requests-back : (rs : List (List ℕ)) (t : List ℕ) → requestsIn (output rs ++ t) ≡ rs
 unfolding requestsIn
 requests-back rs t =
     rw (
-      append-assoc (lengths rs) (joined rs) t,
-      take-at (lengths rs) (joined rs ++ t) (length rs) (lengths-length rs),
-      drop-at (lengths rs) (joined rs ++ t) (length rs) (lengths-length rs),
+      append-assoc (lengths rs) (concat rs) t,
+      take-at (lengths rs) (concat rs ++ t) (length rs) (lengths-length rs),
+      drop-at (lengths rs) (concat rs ++ t) (length rs) (lengths-length rs),
     )
     (cut-back rs t)
 
 -- ---- the output fits its buffer
 
-pub output-length : (rs : List (List ℕ)) → length (output rs) ≡ suc (length rs + length (joined rs))
-output-length rs = omega (arith, length-append (lengths rs) (joined rs), lengths-length rs)
+pub output-length : (rs : List (List ℕ)) → length (output rs) ≡ suc (length rs + length (concat rs))
+output-length rs = omega (arith, length-append (lengths rs) (concat rs), lengths-length rs)
 
-joined-length : (rs : List (List ℕ)) → All Frame-sized rs → length (joined rs) ≤ longestFrame * length rs
+joined-length : (rs : List (List ℕ)) → All Frame-sized rs → length (concat rs) ≤ longestFrame * length rs
 joined-length [] a = omega arith
-joined-length (r ∷ rs) a = omega (arith, a .0 .1, length-append r (joined rs), joined-length rs (a .1))
+joined-length (r ∷ rs) a = omega (arith, a .0 .1, length-append r (concat rs), joined-length rs (a .1))
 
 module _ (most : SizeLimits) (head : Frame) (front : List ℕ) where
   -- there are no more requests than steps
@@ -85,7 +85,7 @@ module _ (most : SizeLimits) (head : Frame) (front : List ℕ) where
 -- a book and a scene's number without faults
 pub record Faultless (b : List ℕ) (k : ℕ) : Type 0 where
   pub book : bookOk b ≡ true
-  pub number : k < countOf b
+  pub number : k < sceneCount b
   pub steps : firstBadFrom 0 (sceneOf b k) ≡ none
 
 -- every output fits its buffer
@@ -99,12 +99,12 @@ module _ (b : List ℕ) (k : ℕ) (requests : List Step → List (List ℕ)) (ou
   -- with room and without faults nothing is refused: the output is written
   pub scene-written : minOutput ≤ length out → Faultless b k → compileScene b k requests out ≡ written (output (requests (sceneOf b k))) out
   unfolding compileScene
-  scene-written room f = rw (f .book, lt-leb (countOf b) k (f .number), f .steps, le-ltb (length out) minOutput room)
+  scene-written room f = rw (f .book, lt-leb (sceneCount b) k (f .number), f .steps, le-ltb (length out) minOutput room)
 
   abbrev Whole : CompileResult → Type 0
   Whole r = r .refusal ≡ 0 → Faultless b k
 
-  steps-whole : bookOk b ≡ true → k < countOf b → (o : Option ℕ) → firstBadFrom 0 (sceneOf b k) ≡ o → Whole (compileSteps o (requests (sceneOf b k)) out)
+  steps-whole : bookOk b ≡ true → k < sceneCount b → (o : Option ℕ) → firstBadFrom 0 (sceneOf b k) ≡ o → Whole (compileSteps o (requests (sceneOf b k)) out)
   steps-whole ok below (some j) e = λ z. absurd (omega arith)
   steps-whole ok below none e = λ z. record { book = ok; number = below; steps = e }
 
@@ -113,7 +113,7 @@ module _ (b : List ℕ) (k : ℕ) (requests : List Step → List (List ℕ)) (ou
   unfolding compileScene
   scene-whole =
       by-cond Whole (not (bookOk b)) _ _ (λ _ z. absurd (omega arith))
-      (λ ok. by-cond Whole (leb (countOf b) k) _ _ (λ _ z. absurd (omega arith))
+      (λ ok. by-cond Whole (leb (sceneCount b) k) _ _ (λ _ z. absurd (omega arith))
       (λ below. steps-whole (not-false _ ok) (leb-false _ _ below) (firstBadFrom 0 (sceneOf b k)) refl))
 
   abbrev Unwritten : CompileResult → Type 0
@@ -128,7 +128,7 @@ module _ (b : List ℕ) (k : ℕ) (requests : List Step → List (List ℕ)) (ou
   unfolding compileScene
   scene-unwritten =
       by-cond Unwritten (not (bookOk b)) _ _ (λ _ _. (refl, refl))
-      (λ _. by-cond Unwritten (leb (countOf b) k) _ _ (λ _ _. (refl, refl)) (λ _. steps-unwritten (firstBadFrom 0 (sceneOf b k))))
+      (λ _. by-cond Unwritten (leb (sceneCount b) k) _ _ (λ _ _. (refl, refl)) (λ _. steps-unwritten (firstBadFrom 0 (sceneOf b k))))
 
 module _ (b : List ℕ) (k a h : ℕ) (out : List ℕ) where
   -- with address and room in range, a call without faults is not refused: it writes the output

@@ -10,13 +10,14 @@ use Rattle.batch.proofs.RoundTrip.{entry-length}
 use Rattle.dpa.specs.declared.frame.Frame.{Frame}
 use Rattle.book.specs.declared.step.Step.{Step}
 use Rattle.book.specs.Book.{stepsMax, stepsIn}
-use Rattle.book.specs.Group.{joined}
+use Rattle.book.specs.Group.{concat}
 use Rattle.book.specs.Entry.{joinedItem}
 use Rattle.book.specs.Join.{entriesOf}
-use Rattle.book.specs.Run.{FirstEntry, AllGood}
-use Rattle.book.proofs.Writing.{sets-append, put-two}
-use Rattle.book.proofs.Joining.{steps-length}
-use Rattle.book.proofs.Books.{good-steps}
+use Rattle.book.specs.EntrySize.{FirstEntry}
+use Rattle.book.specs.Writing.{AllStepsGood}
+use Rattle.book.proofs.Writing.{sets-append, two-writes}
+use Rattle.book.proofs.Positions.{steps-length}
+use Rattle.book.proofs.GoodSteps.{good-steps}
 use Rattle.scene.specs.declared.fill.SizeLimits.{SizeLimits}
 use Rattle.scene.specs.Compile.{Limits}
 use Rattle.scene.specs.Call.{lengths, output, minOutput}
@@ -129,7 +130,7 @@ module _ {entryMost listMost : ℕ} {front : List ℕ} (l : Limits entryMost lis
           → Open entryMost listMost (bytesLeft listMost head h) ss old at (done + k) size′ out″ w″
       bytes-more out″ w″ size′ fo fw =
           let n : w″ ≡ w′ + length entry = omega (arith, entry-length (joinedItem h (take k (drop done ss))), f .fits) in
-          let both = put-two out out′ out″ turn entry (turn ++ entry) w w′ w″ eo ew fo n refl in
+          let both = two-writes out out′ out″ turn entry (turn ++ entry) w w′ w″ eo ew fo n refl in
           open-more l (bytesLeft listMost head h) ss old at done size out w o k sz f (turn ++ entry) out″ w″ size′
           (bytes-next entryMost listMost ss done k sz f head h size ∙ sym (append-assoc turn entry bytesBehind)) (both .1) (both .0)
 
@@ -141,14 +142,14 @@ set-sets l c i (x ∷ xs) =
 
 pub output-written : (old out out′ : List ℕ) (rs : List (List ℕ)) (count w r : ℕ) → count ≡ length rs
     → out ≡ sets old 1 (lengths rs) → w ≡ 1 + length rs
-    → out′ ≡ sets (set out 0 count) w (joined rs) → r ≡ w + length (joined rs) → (r ≡ length (output rs)) × (out′ ≡ sets old 0 (output rs))
+    → out′ ≡ sets (set out 0 count) w (concat rs) → r ≡ w + length (concat rs) → (r ≡ length (output rs)) × (out′ ≡ sets old 0 (output rs))
 output-written old out out′ rs count w r ec eo ew fo fr =
     let v : w ≡ 1 + length (lengths rs) = omega (arith, lengths-length rs) in (
       omega (arith, output-length rs),
-      fo ∙ rw (eo, v, ec, set-sets old (length rs) 0 (lengths rs)) (sym (sets-append (set old 0 (length rs)) 1 (lengths rs) (joined rs))),
+      fo ∙ rw (eo, v, ec, set-sets old (length rs) 0 (lengths rs)) (sym (sets-append (set old 0 (length rs)) 1 (lengths rs) (concat rs))),
     )
 
 -- the output of good steps fits its buffer, within any limits
-pub short : (most : SizeLimits) (head : Frame) (front : List ℕ) → Limits (most .entry) (most .list) front → (n : ℕ) (a : List ℕ) → AllGood a n → n ≤ stepsMax
+pub short : (most : SizeLimits) (head : Frame) (front : List ℕ) → Limits (most .entry) (most .list) front → (n : ℕ) (a : List ℕ) → AllStepsGood a n → n ≤ stepsMax
     → length (output (requestsWith most head front (stepsIn n a))) ≤ minOutput
 short most head front l n a g m = output-fits most head front l (stepsIn n a) (omega (arith, steps-length n a)) (good-steps n a g)

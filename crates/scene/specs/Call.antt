@@ -9,9 +9,9 @@ use Rattle.dpa.specs.Frame.{broadcastNadr}
 use Rattle.dpa.specs.Lists.{overwriteFront}
 use Rattle.dpa.specs.Settings.{nodeAddress}
 use Rattle.book.specs.declared.step.Step.{Step}
-use Rattle.book.specs.Book.{countOf, bookOk, sceneOf}
+use Rattle.book.specs.Book.{sceneCount, bookOk, sceneOf}
 use Rattle.book.specs.Step.{firstBadFrom}
-use Rattle.book.specs.Group.{joined}
+use Rattle.book.specs.Group.{concat}
 use Rattle.scene.specs.declared.compile.CompileAnswer.{CompileAnswer}
 use Rattle.scene.specs.Compile.{compiled}
 
@@ -23,7 +23,7 @@ lengths (r ∷ rs) = length r ∷ lengths rs
 
 -- request count, one length byte each, the requests
 abbrev pub output : List (List ℕ) → List ℕ
-output rs = length rs ∷ (lengths rs ++ joined rs)
+output rs = length rs ∷ (lengths rs ++ concat rs)
 
 -- bytes cut into parts of these lengths
 abbrev pub splitBy : List ℕ → List ℕ → List (List ℕ)
@@ -73,7 +73,7 @@ compileSteps none requests out =
 unfoldable pub compileScene : List ℕ → ℕ → (List Step → List (List ℕ)) → List ℕ → CompileResult
 compileScene b k requests out =
     cond (not (bookOk b)) (refusedAt 6 0 out)
-    (cond (leb (countOf b) k) (refusedAt 7 0 out)
+    (cond (leb (sceneCount b) k) (refusedAt 7 0 out)
     (compileSteps (firstBadFrom 0 (sceneOf b k)) (requests (sceneOf b k)) out))
 
 -- a book, a scene's number, an address, a profile, and the output buffer

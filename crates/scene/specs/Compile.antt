@@ -12,7 +12,7 @@ use Rattle.book.specs.declared.step.Step.{Step}
 use Rattle.book.specs.Entry.{joinedItem}
 use Rattle.book.specs.Group.{group}
 use Rattle.book.specs.Join.{entryLimit, entriesOf}
-use Rattle.book.specs.Run.{oneStepMax}
+use Rattle.book.specs.EntrySize.{oneStepMax}
 
 -- ---- lists and filling, for any two limits
 

@@ -1,8 +1,8 @@
 // The compile call.
 use crate::fill::SizeLimits;
 use crate::request::write_output;
-use book::contents::book_ok;
-use book::contents::scene_location;
+use book::locations::book_ok;
+use book::locations::scene_location;
 use book::step::first_bad_step;
 use dpa::frame::Frame;
 use dpa::number::wide;

@@ -10,7 +10,7 @@ ghost use lib.Seq.{sets};
 ghost use Rattle.dpa.specs.declared.frame.Frame.{Frame};
 ghost use Rattle.dpa.specs.Frame.{pdataMax, longestFrame};
 ghost use Rattle.book.specs.Book.{stepsMax, stepLength, stepsIn};
-ghost use Rattle.book.specs.Run.{AllGood};
+ghost use Rattle.book.specs.Writing.{AllStepsGood};
 ghost use Rattle.scene.specs.Compile.{Limits};
 ghost use Rattle.scene.specs.Call.{lengths};
 ghost use Rattle.scene.specs.Fill.{requestsWith, nextSize, separatorLength, keptRoom, KeepsEntries};
@@ -70,7 +70,7 @@ pub fn write_lengths(
     out: &mut [u8],
     at: usize,
 ) -> usize
-    requires { ⌜ (stepLength * count ≤ length (now body)) × (count ≤ stepsMax) × AllGood (now body) count × Limits (most .entry) (most .list) (now front)
+    requires { ⌜ (stepLength * count ≤ length (now body)) × (count ≤ stepsMax) × AllStepsGood (now body) count × Limits (most .entry) (most .list) (now front)
         × (keptRoom ≤ length (now kept))
         × ((head : Frame) → at + length (requestsWith most head (now front) (stepsIn count (now body))) ≤ length (now out)) ⌝ }
     ensures { λ r. ⌜ ((head : Frame) → (r ≡ at + length (requestsWith most head (now (front .entry)) (stepsIn count (now (body .entry)))))

@@ -16,8 +16,8 @@ ghost use lib.ListN.{length};
 ghost use lib.Seq.{sets};
 ghost use Rattle.dpa.specs.Frame.{pdataMax, headerSize, headerBytes};
 ghost use Rattle.book.specs.Book.{stepsMax, stepLength, stepsIn};
-ghost use Rattle.book.specs.Group.{joined};
-ghost use Rattle.book.specs.Run.{AllGood};
+ghost use Rattle.book.specs.Group.{concat};
+ghost use Rattle.book.specs.Writing.{AllStepsGood};
 ghost use Rattle.scene.specs.Compile.{Limits};
 ghost use Rattle.scene.specs.Call.{output, minOutput};
 ghost use Rattle.scene.specs.Fill.{requestsWith, nextSize, separatorBytes, KeepsEntries};
@@ -90,11 +90,11 @@ fn write_requests(
     out: &mut [u8],
     at: usize,
 ) -> usize
-    requires { ⌜ (stepLength * count ≤ length (now body)) × (count ≤ stepsMax) × AllGood (now body) count × Limits (most .entry) (most .list) (now front)
+    requires { ⌜ (stepLength * count ≤ length (now body)) × (count ≤ stepsMax) × AllStepsGood (now body) count × Limits (most .entry) (most .list) (now front)
         × KeepsEntries (most .entry) (stepsIn count (now body)) (now kept)
-        × (at + length (joined (requestsWith most head (now front) (stepsIn count (now body)))) ≤ length (now out)) ⌝ }
-    ensures { λ r. ⌜ (r ≡ at + length (joined (requestsWith most head (now (front .entry)) (stepsIn count (now (body .entry))))))
-        × (now (out .exit) ≡ sets (now (out .entry)) at (joined (requestsWith most head (now (front .entry)) (stepsIn count (now (body .entry)))))) ⌝ }
+        × (at + length (concat (requestsWith most head (now front) (stepsIn count (now body)))) ≤ length (now out)) ⌝ }
+    ensures { λ r. ⌜ (r ≡ at + length (concat (requestsWith most head (now (front .entry)) (stepsIn count (now (body .entry))))))
+        × (now (out .exit) ≡ sets (now (out .entry)) at (concat (requestsWith most head (now (front .entry)) (stepsIn count (now (body .entry)))))) ⌝ }
 {
     if count == 0 {
         return at;
@@ -125,7 +125,7 @@ pub fn write_output(
     front: &[u8],
     out: &mut [u8],
 ) -> usize
-    requires { ⌜ (stepLength * count ≤ length (now body)) × (count ≤ stepsMax) × AllGood (now body) count × Limits (most .entry) (most .list) (now front)
+    requires { ⌜ (stepLength * count ≤ length (now body)) × (count ≤ stepsMax) × AllStepsGood (now body) count × Limits (most .entry) (most .list) (now front)
         × (minOutput ≤ length (now out)) ⌝ }
     ensures { λ r. ⌜ (r ≡ length (output (requestsWith most head (now (front .entry)) (stepsIn count (now (body .entry))))))
         × (now (out .exit) ≡ sets (now (out .entry)) 0 (output (requestsWith most head (now (front .entry)) (stepsIn count (now (body .entry)))))) ⌝ }

@@ -6,9 +6,9 @@ use lib.ListN.{length, drop, length-drop}
 use borrow.Author.Needs.{needs}
 use borrow.Author.Tests.{le-leb, lt-leb, not-true, not-false}
 use Rattle.dpa.proofs.Lists.{to-end}
-use Rattle.book.specs.declared.contents.SceneLocation.{SceneLocation}
-use Rattle.book.specs.Book.{stepsMax, stepLength, countOf, bookOk, sceneOf, stepsIn}
-use Rattle.book.proofs.Books.{book-facts, body-within, scene-is}
+use Rattle.book.specs.declared.locations.SceneLocation.{SceneLocation}
+use Rattle.book.specs.Book.{stepsMax, stepLength, sceneCount, bookOk, sceneOf, stepsIn}
+use Rattle.book.proofs.Books.{book-facts, body-within, scene-at}
 use Rattle.scene.specs.declared.compile.CompileAnswer.{CompileAnswer}
 use Rattle.scene.specs.Call.{compiledAs, compileScene}
 use Rattle.scene.proofs.compile.compile_scene.Statement.{statement}
@@ -17,7 +17,7 @@ use Rattle.scene.proofs.compile.compile_scene.Tie as tie
 book : (c : tie.Else1) → bookOk (c .before .before .before .before .before .args .book .now) ≡ true
 book c = sym (c .before .book-ok .ensures) ∙ not-false _ (c .if1 .left)
 
-below : (c : tie.Else2) → let a = c .before .before .before .before .before .before .before .before .args in a .scene < countOf (a .book .now)
+below : (c : tie.Else2) → let a = c .before .before .before .before .before .before .before .before .args in a .scene < sceneCount (a .book .now)
 below c = rw (c .before .wide .ensures .0) at (c .if2 .left)
 
 inside : (c : tie.After-scene-location) → let a = c .before .before .before .before .before .before .before .before .before .args in
@@ -69,8 +69,8 @@ returns-3 c =
     let b = s .args .book .now in
     let p = d .scene-location .ensures in
     let scene : sceneOf b (s .args .scene) ≡ stepsIn (d .scene-location .result .steps) (drop (d .scene-location .result .offset) b) =
-    scene-is b (s .args .scene) (below (d .before)) ∙ ap (λ (x : SceneLocation). stepsIn (x .steps) (drop (x .offset) b)) (sym (p .0)) in
-    rw (book (d .before .before .before .before), lt-leb (countOf b) (s .args .scene) (below (d .before)), scene)
+    scene-at b (s .args .scene) (below (d .before)) ∙ ap (λ (x : SceneLocation). stepsIn (x .steps) (drop (x .offset) b)) (sym (p .0)) in
+    rw (book (d .before .before .before .before), lt-leb (sceneCount b) (s .args .scene) (below (d .before)), scene)
     (rw (to-end (d .scene-location .result .offset) b) at (c .before .before .compile-steps .ensures))
 
 pub compile-scene-spec : {M : Type 1} → statement M

@@ -4,7 +4,7 @@ use lib.ListN.{length}
 use borrow.Author.Needs.{needs}
 use borrow.Author.Tests.{lt-ltb, le-ltb}
 use Rattle.book.specs.Book.{stepsIn}
-use Rattle.book.proofs.Books.{good-index}
+use Rattle.book.proofs.GoodSteps.{good-index}
 use Rattle.scene.specs.declared.compile.CompileAnswer.{CompileAnswer}
 use Rattle.scene.specs.Call.{output, minOutput, compiledAs}
 use Rattle.scene.specs.Fill.{requestsWith}

@@ -8,8 +8,8 @@ use Rattle.dpa.specs.Frame.{frame, headerBytes, headerSize, pdataMax}
 use Rattle.book.specs.declared.step.Step.{Step}
 use Rattle.book.specs.Book.{stepsIn}
 use Rattle.book.specs.Join.{entriesOf}
-use Rattle.book.proofs.Joining.{steps-length}
-use Rattle.book.proofs.Books.{good-steps}
+use Rattle.book.proofs.Positions.{steps-length}
+use Rattle.book.proofs.GoodSteps.{good-steps}
 use Rattle.scene.specs.Call.{lengths}
 use Rattle.scene.specs.Fill.{requestsWith, keptRoom}
 use Rattle.scene.proofs.Outputs.{lengths-length}

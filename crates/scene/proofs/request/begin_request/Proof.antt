@@ -4,7 +4,7 @@ use native.Mathlib.Omega.{arith}
 use borrow.Author.Needs.{needs}
 use Rattle.dpa.specs.Frame.{headerBytes}
 use Rattle.memory.proofs.Puts.{put-sets}
-use Rattle.book.proofs.Writing.{put-two}
+use Rattle.book.proofs.Writing.{two-writes}
 use Rattle.scene.proofs.request.begin_request.Statement.{statement}
 use Rattle.scene.proofs.request.begin_request.Tie as tie
 
@@ -13,7 +13,7 @@ returns c =
     let a = c .before .before .before .before .before .before .before .before .before .before .args in
     let w = c .before .before .before .before .before .before .write-header in
     let p = c .before .before .copy-in in
-    put-two (a .out .now) (w .last .1 .0) _ (headerBytes (a .head)) (a .front .now) (headerBytes (a .head) ++ a .front .now) (a .at) (w .result) _
+    two-writes (a .out .now) (w .last .1 .0) _ (headerBytes (a .head)) (a .front .now) (headerBytes (a .head) ++ a .front .now) (a .at) (w .result) _
     (w .ensures .1) (w .ensures .0)
     (p .ensures ∙ put-sets (w .last .1 .0) (w .result) (a .front .now) (omega (arith, c .before .before .before .before .before .before .before .before .before .before .pre, w .ensures .0, w .kept .1 .0)))
     refl refl

@@ -5,7 +5,7 @@ use native.Mathlib.Omega.{arith}
 use lib.ListN.{length, length-set}
 use borrow.Author.Needs.{needs}
 use Rattle.dpa.specs.Frame.{headerBytes}
-use Rattle.book.proofs.Writing.{put-two}
+use Rattle.book.proofs.Writing.{two-writes}
 use Rattle.scene.proofs.Filling.{turn-in, turn-out}
 use Rattle.scene.proofs.request.next_list.Statement.{statement}
 use Rattle.scene.proofs.request.next_list.Tie as tie
@@ -46,7 +46,7 @@ returns-2 c =
     let a = s .args in
     let t = turn-out (a .limit) (head s) 0 (a .size) (a .more) (c .before .before .before .before .if1 .left) in
     let w = c .before .before .begin-request .ensures in
-    let both = put-two (a .out .now) _ _ (0 ∷ []) (head s) (0 ∷ head s) (a .at) _ _ refl refl (w .1) (w .0) refl in
+    let both = two-writes (a .out .now) _ _ (0 ∷ []) (head s) (0 ∷ head s) (a .at) _ _ refl refl (w .1) (w .0) refl in
     rw (t .0, t .2) (both .0, omega arith, both .1)
 
 pub next-list-spec : {M : Type 1} → statement M

@@ -6,8 +6,8 @@ use lib.ListN.{length, length-set}
 use borrow.Author.Needs.{needs}
 use Rattle.dpa.specs.declared.frame.Frame.{Frame}
 use Rattle.book.specs.Book.{stepsIn}
-use Rattle.book.specs.Group.{joined}
-use Rattle.book.proofs.Joining.{steps-length}
+use Rattle.book.specs.Group.{concat}
+use Rattle.book.proofs.Positions.{steps-length}
 use Rattle.scene.specs.Fill.{requestsWith}
 use Rattle.scene.proofs.Outputs.{output-length, requests-few}
 use Rattle.scene.proofs.Requests.{short, output-written}
@@ -18,7 +18,7 @@ abbrev requests : (s : tie.Start) → Frame → List (List ℕ)
 requests s f = requestsWith (s .args .most) f (s .args .front .now) (stepsIn (s .args .count) (s .args .body .now))
 
 -- the output fits, for any header
-room : (s : tie.Start) (f : Frame) → suc (length (requests s f) + length (joined (requests s f))) ≤ length (s .args .out .now)
+room : (s : tie.Start) (f : Frame) → suc (length (requests s f) + length (concat (requests s f))) ≤ length (s .args .out .now)
 room s f =
     omega (
       arith,

@@ -9,16 +9,16 @@ use Rattle.dpa.specs.Frame.{headerBytes, pdataMax}
 use Rattle.batch.specs.Batch.{entryBytes}
 use Rattle.book.specs.declared.step.Step.{Step}
 use Rattle.book.specs.Book.{stepsIn}
-use Rattle.book.specs.Group.{joined}
+use Rattle.book.specs.Group.{concat}
 use Rattle.book.specs.Entry.{groupData, joinedItem}
 use Rattle.book.specs.Join.{entriesOf}
-use Rattle.book.specs.Run.{FirstEntry}
-use Rattle.book.proofs.Joining.{steps-length, steps-part}
-use Rattle.book.proofs.Writing.{put-two}
+use Rattle.book.specs.EntrySize.{FirstEntry}
+use Rattle.book.proofs.Positions.{steps-length, steps-slice}
+use Rattle.book.proofs.Writing.{two-writes}
 use Rattle.book.proofs.Faults.{Good}
 use Rattle.dpa.proofs.All.{all-drop}
-use Rattle.book.proofs.Books.{good-steps}
-use Rattle.book.proofs.Entries.{entry-ok}
+use Rattle.book.proofs.GoodSteps.{good-steps}
+use Rattle.book.proofs.EntryWritable.{entry-writable}
 use Rattle.scene.specs.Fill.{requestsWith, KeepsEntries}
 use Rattle.scene.proofs.Lists.{entry-limit}
 use Rattle.scene.proofs.Filling.{bytesLeft, bytes-begin}
@@ -46,7 +46,7 @@ abbrev all : (c : tie.Start Inv-loop μ-loop) → List ℕ
 all s = bytesLeft (s .args .most .list) (begins s) (s .args .head .hwpid) 1 (entriesOf (s .args .most .entry) (steps s))
 
 all-is : (c : tie.Else1 Inv-loop μ-loop) → let s = c .before .before .before .before .before in
-    joined (requestsWith (s .args .most) (s .args .head) (s .args .front .now) (steps s)) ≡ begins s ++ all s
+    concat (requestsWith (s .args .most) (s .args .head) (s .args .front .now) (steps s)) ≡ begins s ++ all s
 all-is c =
     let s = c .before .before .before .before .before in
     bytes-begin (s .pre .3) (begins s) (s .args .head .hwpid) (steps s) (good-steps (s .args .count) (s .args .body .now) (s .pre .2))
@@ -143,9 +143,9 @@ write-entry-at-requires c κs =
       omega (arith, slice, s .pre .1),
       data-of e,
       r .fits ∙ ap (λ (t : List Step). length (groupData t))
-          (steps-part (s .args .count) (l .done) (e .before .before .wide .result) (s .args .body .now) slice),
+          (steps-slice (s .args .count) (l .done) (e .before .before .wide .result) (s .args .body .now) slice),
       entry-room (s .pre .3) _ _ _ _ _ _ _ _ _ r _ _ (l .inv .0) _ _ (t .2) (t .0) (room (d .before .before)),
-      entry-ok (s .args .most .entry) (s .pre .3 .entry) _ _ _ _ _ (s .pre .2) slice r,
+      entry-writable (s .args .most .entry) (s .pre .3 .entry) _ _ _ _ _ (s .pre .2) slice r,
     )
 
 add-done : tie.Need-add-done Inv-loop μ-loop
@@ -170,7 +170,7 @@ loop-again c =
     let k = e .before .before .wide .result in (
       bytes-more (s .pre .3) _ _ _ _ _ _ _ _ _ (run e) _ _ (l .inv .0) _ _ (t .ensures .2) (t .ensures .0) _ _ _
           (w .1 ∙ ap (λ (x : List Step). sets (t .last .1 .1 .1 .1 .1 .0) (t .result .at) (entryBytes (joinedItem (s .args .head .hwpid) x)))
-          (sym (steps-part (s .args .count) (l .done) k (s .args .body .now) (part-of e))))
+          (sym (steps-slice (s .args .count) (l .done) k (s .args .body .now) (part-of e))))
           (w .0) (t .ensures .1),
       rw (← (e .before .before .wide .ensures .0), drop-drop k (l .done) (steps s)) at (here d .rest),
     )
@@ -201,7 +201,7 @@ returns-2 c =
     let s = c .before .before .before .before .before .before .before .before .before .before .before in
     let w = c .before .before .before .before .begin-request in
     let x = left-end (w .last .1 .1 .0) (w .result) (all s) _ _ _ (last c) _ _ refl refl in
-    put-two (s .args .out .now) (w .last .1 .1 .0) _ (begins s) (all s) _ (s .args .at) (w .result) _ (w .ensures .1) (w .ensures .0) (x .1) (x .0)
+    two-writes (s .args .out .now) (w .last .1 .1 .0) _ (begins s) (all s) _ (s .args .at) (w .result) _ (w .ensures .1) (w .ensures .0) (x .1) (x .0)
     (all-is (c .before .before .before .before .before .before))
 
 pub write-requests-spec : {M : Type 1} → statement M

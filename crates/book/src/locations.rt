@@ -7,8 +7,8 @@ use dpa::number::word_of;
 ghost use mathlib.Core.Path.{_≡_};
 ghost use Prim.Native.Nat.{_+_, _*_, _≤_, _<_};
 ghost use lib.ListN.{length};
-ghost use Rattle.book.specs.Book.{scenesMax, locationLength, countOf, sceneLocations, chained, bookOk};
-ghost use Rattle.book.specs.Run.{locationAt};
+ghost use Rattle.book.specs.Book.{scenesMax, locationLength, sceneCount, sceneLocations, chained, bookOk};
+ghost use Rattle.book.specs.Positions.{locationAt};
 
 pub const SCENES_MAX: usize = 16;
 
@@ -36,7 +36,7 @@ pub fn scene_location(book: &[u8], scene: usize) -> SceneLocation
 
 // Whether the bodies of the scenes follow one another up to the book's end.
 fn bodies_ok(book: &[u8], scenes: usize) -> bool
-    requires { ⌜ (1 + locationLength * scenes ≤ length (now book)) × (scenes ≤ scenesMax) × (scenes ≡ countOf (now book)) ⌝ }
+    requires { ⌜ (1 + locationLength * scenes ≤ length (now book)) × (scenes ≤ scenesMax) × (scenes ≡ sceneCount (now book)) ⌝ }
     ensures { λ r. ⌜ r ≡ chained (1 + locationLength * scenes) (sceneLocations (now (book .entry))) (length (now (book .entry))) ⌝ }
 {
     let mut start = 1 + LOCATION_LENGTH * scenes;

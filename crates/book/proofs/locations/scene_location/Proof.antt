@@ -1,6 +1,6 @@
 use borrow.Author.Needs.{needs}
-use Rattle.book.proofs.contents.scene_location.Statement.{statement}
-use Rattle.book.proofs.contents.scene_location.Tie as tie
+use Rattle.book.proofs.locations.scene_location.Statement.{statement}
+use Rattle.book.proofs.locations.scene_location.Tie as tie
 
 returns : tie.Need-returns
 returns c =

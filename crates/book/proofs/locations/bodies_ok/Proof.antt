@@ -2,11 +2,11 @@ use mathlib.Core.Path.{_≡_, refl, sym, ap, _∙_}
 use Prim.Native.Nat.{_+_, _*_, _-_, _<_, _≤_}
 use native.Mathlib.Omega.{arith}
 use lib.ListN.{length, drop}
-use Rattle.book.specs.declared.contents.SceneLocation.{SceneLocation}
-use Rattle.book.specs.Book.{scenesMax, stepsMax, locationLength, stepLength, countOf, chained, sceneLocations}
+use Rattle.book.specs.declared.locations.SceneLocation.{SceneLocation}
+use Rattle.book.specs.Book.{scenesMax, stepsMax, locationLength, stepLength, sceneCount, chained, sceneLocations}
 use Rattle.book.proofs.Books.{chain-more, chain-apart, chain-long, chain-end}
-use Rattle.book.proofs.contents.bodies_ok.Statement.{statement}
-use Rattle.book.proofs.contents.bodies_ok.Tie as tie
+use Rattle.book.proofs.locations.bodies_ok.Statement.{statement}
+use Rattle.book.proofs.locations.bodies_ok.Tie as tie
 
 abbrev Inv-loop : tie.InvT-loop
 Inv-loop book scenes start₀ i₀ start i =
@@ -24,7 +24,7 @@ returns c =
     let p = c .before .before .scene-location .ensures in
     let l = c .before .before .before .before .loop in
     let b = s .args .book .now in
-    let below : l .i < countOf b = omega (arith, s .pre .2, c .before .before .before .loop-test .taken) in
+    let below : l .i < sceneCount b = omega (arith, s .pre .2, c .before .before .before .loop-test .taken) in
     sym (l .inv .2 ∙ chain-apart b (l .i) (l .start) (length b) _ _ below (ap (λ (x : SceneLocation). x .offset) (p .0)) (ap (λ (x : SceneLocation). x .steps) (p .0)) (c .if1 .taken))
 
 returns-2 : tie.Need-returns-2 Inv-loop μ-loop
@@ -33,7 +33,7 @@ returns-2 c =
     let p = c .before .before .before .before .scene-location .ensures in
     let l = c .before .before .before .before .before .before .loop in
     let b = s .args .book .now in
-    let below : l .i < countOf b = omega (arith, s .pre .2, c .before .before .before .before .before .loop-test .taken) in
+    let below : l .i < sceneCount b = omega (arith, s .pre .2, c .before .before .before .before .before .loop-test .taken) in
     sym (l .inv .2 ∙ chain-long b (l .i) (l .start) (length b) _ _ below (ap (λ (x : SceneLocation). x .offset) (p .0)) (ap (λ (x : SceneLocation). x .steps) (p .0))
     (c .before .before .if1 .left) (c .if2 .taken))
 
