@@ -11,7 +11,7 @@ use lib.Dec.{eqb, leb}
 use lib.Seq.{take-suc, getD-drop, drop-drop}
 use borrow.Author.Tests.{le-leb, lt-leb, leb-true}
 use Rattle.dpa.proofs.Bool.{by-test, by-cond, and-right}
-use Rattle.dpa.proofs.Lists.{to-end}
+use Rattle.dpa.proofs.Lists.{slice-to-end}
 use Rattle.book.specs.declared.step.Step.{Step}
 use Rattle.book.specs.Book.{stepLength, stepsIn}
 use Rattle.book.specs.Step.{isLamp}
@@ -159,7 +159,7 @@ steps-drop (suc n) (suc d) a h =
 
 pub run-part : (entryMost n d : ℕ) (a : List ℕ) (k size : ℕ) → d ≤ n
     → FirstEntry entryMost (stepsIn (n - d) (take (length a - stepLength * d) (drop (stepLength * d) a))) k size → FirstEntry entryMost (drop d (stepsIn n a)) k size
-run-part entryMost n d a k size h f = rw (to-end (stepLength * d) a, steps-drop n d a h) at f
+run-part entryMost n d a k size h f = rw (slice-to-end (stepLength * d) a, steps-drop n d a h) at f
 
 -- the first k steps
 steps-take : (n k : ℕ) (a : List ℕ) → k ≤ n → take k (stepsIn n a) ≡ stepsIn k a

@@ -8,7 +8,7 @@ use lib.Dec.{eqb, leb, ltb}
 use lib.ListN.{length, take, drop, getD, set}
 use borrow.Author.Tests.{lt-ltb, le-ltb, lt-leb, eq-eqb, ne-eqb, ltb-false, eqb-false}
 use Rattle.dpa.specs.Reply.{Reply, refused, replySeen, replyInBuffer}
-use Rattle.dpa.proofs.Bool.{by-cond, first-taken, second-taken}
+use Rattle.dpa.proofs.Bool.{by-cond, then-taken, else-taken}
 use Rattle.dpa.proofs.Lists.{set-first}
 use Rattle.checksum.specs.declared.sums.Sums.{Sums}
 use Rattle.checksum.specs.Sums.{sums, start, checksum}
@@ -39,10 +39,10 @@ module _ (i : Image) (f : i .flags < 4) (n : ℕ) (en : n ≡ i .length) where
 pub image-fits : (i : Image) → imageError i ≡ 0 → i .address + i .length ≤ externalSize
 unfolding imageError
 image-fits i e =
-    let a = second-taken (leb 4 (i .flags)) 1 _ 0 (λ q. omega arith) e in
-    let b = second-taken (eqb (i .length) 0) 6 _ 0 (λ q. omega arith) (a .1) in
-    let d = first-taken (eqb (i .length % blockSize (i .flags)) 0) _ 6 0 (λ q. omega arith) (b .1) in
-    let g = second-taken (ltb externalSize (i .address + i .length)) 4 0 0 (λ q. omega arith) (d .1) in
+    let a = else-taken (leb 4 (i .flags)) 1 _ 0 (λ q. omega arith) e in
+    let b = else-taken (eqb (i .length) 0) 6 _ 0 (λ q. omega arith) (a .1) in
+    let d = then-taken (eqb (i .length % blockSize (i .flags)) 0) _ 6 0 (λ q. omega arith) (b .1) in
+    let g = else-taken (ltb externalSize (i .address + i .length)) 4 0 0 (λ q. omega arith) (d .1) in
     ltb-false _ _ (g .0)
 
 -- the word that was computed, held against the one that was sent

@@ -19,9 +19,9 @@ and-right false b e = cc
 pub both : {a b : Bool} → a ≡ true → b ≡ true → (a && b) ≡ true
 both p q = rw (p, q)
 
-pub not-both : (a b : Bool) → b ≡ false → (a && b) ≡ false
-not-both true b e = e
-not-both false b e = refl
+pub and-right-false : (a b : Bool) → b ≡ false → (a && b) ≡ false
+and-right-false true b e = e
+and-right-false false b e = refl
 
 pub beq-eq : (a b : Bool) → Bool·beq a b ≡ true → a ≡ b
 beq-eq true true e = refl
@@ -39,31 +39,31 @@ by-test true f g = f refl
 by-test false f g = g refl
 
 -- a choice that came out as no k is the other side
-pub second-taken : (b : Bool) (k m n : ℕ) → (k ≡ n → ⊥) → cond b k m ≡ n → (b ≡ false) × (m ≡ n)
-second-taken true k m n h e = absurd (h e)
-second-taken false k m n h e = (refl, e)
+pub else-taken : (b : Bool) (k m n : ℕ) → (k ≡ n → ⊥) → cond b k m ≡ n → (b ≡ false) × (m ≡ n)
+else-taken true k m n h e = absurd (h e)
+else-taken false k m n h e = (refl, e)
 
-pub first-taken : (b : Bool) (k m n : ℕ) → (m ≡ n → ⊥) → cond b k m ≡ n → (b ≡ true) × (k ≡ n)
-first-taken true k m n h e = (refl, e)
-first-taken false k m n h e = absurd (h e)
+pub then-taken : (b : Bool) (k m n : ℕ) → (m ≡ n → ⊥) → cond b k m ≡ n → (b ≡ true) × (k ≡ n)
+then-taken true k m n h e = (refl, e)
+then-taken false k m n h e = absurd (h e)
 
 -- `allBelow`
 
 -- one number more
-pub all-more : (i : ℕ) (f : ℕ → Bool) (a b : Bool) → a ≡ allBelow i f → b ≡ f i → (a && b) ≡ allBelow (i + 1) f
+pub all-below-next : (i : ℕ) (f : ℕ → Bool) (a b : Bool) → a ≡ allBelow i f → b ≡ f i → (a && b) ≡ allBelow (i + 1) f
 unfolding allBelow
-all-more i f a b p q = rw (add-one, p, q)
+all-below-next i f a b p q = rw (add-one, p, q)
 
-pub all-intro : (n : ℕ) (f : ℕ → Bool) → ((k : ℕ) → k < n → f k ≡ true) → allBelow n f ≡ true
+pub all-below-intro : (n : ℕ) (f : ℕ → Bool) → ((k : ℕ) → k < n → f k ≡ true) → allBelow n f ≡ true
 unfolding allBelow
-all-intro zero f h = refl
-all-intro (suc n) f h = both (all-intro n f (λ k l. h k (omega arith))) (h n (omega arith))
+all-below-intro zero f h = refl
+all-below-intro (suc n) f h = both (all-below-intro n f (λ k l. h k (omega arith))) (h n (omega arith))
 
 last-or : (n k : ℕ) (f : ℕ → Bool) (b : Bool) → eqb k n ≡ b → k < suc n → f n ≡ true → (k < n → f k ≡ true) → f k ≡ true
 last-or n k f true e l p h = rw (eqb-true k n e) p
 last-or n k f false e l p h = h (omega (arith, eqb-false k n e))
 
-pub all-elim : (n : ℕ) (f : ℕ → Bool) → allBelow n f ≡ true → (k : ℕ) → k < n → f k ≡ true
+pub all-below-elim : (n : ℕ) (f : ℕ → Bool) → allBelow n f ≡ true → (k : ℕ) → k < n → f k ≡ true
 unfolding allBelow
-all-elim zero f h k l = absurd (omega arith)
-all-elim (suc n) f h k l = last-or n k f (eqb k n) refl l (and-right (allBelow n f) _ h) (all-elim n f (and-left _ _ h) k)
+all-below-elim zero f h k l = absurd (omega arith)
+all-below-elim (suc n) f h k l = last-or n k f (eqb k n) refl l (and-right (allBelow n f) _ h) (all-below-elim n f (and-left _ _ h) k)

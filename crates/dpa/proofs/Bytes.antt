@@ -6,8 +6,8 @@ use lib.ListN.{take, drop}
 use lib.Seq.{getD-drop}
 use Rattle.dpa.specs.Lists.{Bytes}
 
-pub bytes-none : Bytes []
-bytes-none i = omega arith
+pub bytes-nil : Bytes []
+bytes-nil i = omega arith
 
 pub bytes-cons : (x : ℕ) (xs : List ℕ) → x < 256 → Bytes xs → Bytes (x ∷ xs)
 bytes-cons x xs h k zero = h
@@ -18,8 +18,8 @@ bytes-append [] ys h k = k
 bytes-append (x ∷ xs) ys h k = bytes-cons x (xs ++ ys) (h 0) (bytes-append xs ys (λ i. h (suc i)) k)
 
 pub bytes-take : (n : ℕ) (xs : List ℕ) → Bytes xs → Bytes (take n xs)
-bytes-take zero xs h = bytes-none
-bytes-take (suc n) [] h = bytes-none
+bytes-take zero xs h = bytes-nil
+bytes-take (suc n) [] h = bytes-nil
 bytes-take (suc n) (x ∷ xs) h = bytes-cons x (take n xs) (h 0) (bytes-take n xs (λ i. h (suc i)))
 
 pub bytes-drop : (n : ℕ) (xs : List ℕ) → Bytes xs → Bytes (drop n xs)

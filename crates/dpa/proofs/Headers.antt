@@ -13,7 +13,7 @@ use Rattle.dpa.specs.declared.settings.Settings.{Settings}
 use Rattle.dpa.specs.Lists.{Bytes}
 use Rattle.dpa.specs.Frame.{headerSize, longestFrame, frameFits, frame, headerBytes, headerOf, responseHeader}
 use Rattle.dpa.proofs.Bool.{and-left, and-right}
-use Rattle.dpa.proofs.Lists.{front}
+use Rattle.dpa.proofs.Lists.{sets-front}
 use Rattle.dpa.proofs.Numbers.{word-split, low-word, high-word}
 
 -- a request that fits has a whole header and is no longer than the longest
@@ -41,4 +41,4 @@ pub eight-stores : (b h : List ℕ) (s : Settings) (pnum pcmd error : ℕ)
     → 8 ≤ length b
     → sets b 0 (getD h 0 0 ∷ getD h 1 0 ∷ getD h 2 0 ∷ getD h 3 0 ∷ getD h 4 0 ∷ getD h 5 0 ∷ error ∷ s .«dpa_value» ∷ [])
     ≡ responseHeader s pnum pcmd error ++ drop 8 b
-eight-stores b h s pnum pcmd error p l = rw p (front (responseHeader s pnum pcmd error) b l)
+eight-stores b h s pnum pcmd error p l = rw p (sets-front (responseHeader s pnum pcmd error) b l)

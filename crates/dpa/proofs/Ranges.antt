@@ -8,7 +8,7 @@ use borrow.Author.Tests.{leb-true, le-leb, eqb-true, eqb-false, not-true}
 use Rattle.dpa.specs.declared.settings.Settings.{Settings}
 use Rattle.dpa.specs.Lists.{allBelow}
 use Rattle.dpa.specs.Settings.{stepOk, lastAddress, nodeAddress, settingsOk, SettingsRule}
-use Rattle.dpa.proofs.Bool.{and-left, and-right, both, beq-eq, all-elim}
+use Rattle.dpa.proofs.Bool.{and-left, and-right, both, beq-eq, all-below-elim}
 
 sameStep : ℕ → Bool
 sameStep s = Bool·beq (stepOk s) (not (eqb s 0) && eqb (100 % s) 0)
@@ -16,13 +16,13 @@ sameStep s = Bool·beq (stepOk s) (not (eqb s 0) && eqb (100 % s) 0)
 -- the dimming steps are the divisors of 100, by a test of every byte
 pub step-divides : (s : ℕ) → s < 256 → stepOk s ≡ (not (eqb s 0) && eqb (100 % s) 0)
 unfolding sameStep stepOk allBelow
-step-divides s l = beq-eq _ _ (all-elim 256 sameStep refl s l)
+step-divides s l = beq-eq _ _ (all-below-elim 256 sameStep refl s l)
 
-pub step-pos : (s : ℕ) → s < 256 → stepOk s ≡ true → 1 ≤ s
-step-pos s l e = omega (arith, eqb-false s 0 (not-true (eqb s 0) (and-left (not (eqb s 0)) (eqb (100 % s) 0) (sym (step-divides s l) ∙ e))))
+pub step-positive : (s : ℕ) → s < 256 → stepOk s ≡ true → 1 ≤ s
+step-positive s l e = omega (arith, eqb-false s 0 (not-true (eqb s 0) (and-left (not (eqb s 0)) (eqb (100 % s) 0) (sym (step-divides s l) ∙ e))))
 
-pub step-rem : (s : ℕ) → s < 256 → stepOk s ≡ true → 100 % s ≡ 0
-step-rem s l e = eqb-true _ _ (and-right (not (eqb s 0)) _ (sym (step-divides s l) ∙ e))
+pub step-remainder : (s : ℕ) → s < 256 → stepOk s ≡ true → 100 % s ≡ 0
+step-remainder s l e = eqb-true _ _ (and-right (not (eqb s 0)) _ (sym (step-divides s l) ∙ e))
 
 module _ (s : Settings) (e : settingsOk s ≡ true) where
   first-four : (nodeAddress (s .address) && leb 1 (s .«lamp_count») && leb (s .«lamp_count») 32) ≡ true

@@ -14,7 +14,7 @@ use Rattle.dpa.specs.declared.frame.Frame.{Frame}
 use Rattle.dpa.specs.Frame.{longestFrame, frame}
 use Rattle.dpa.specs.Pnum.{osPnum}
 use Rattle.dpa.proofs.Bool.{by-cond}
-use Rattle.dpa.proofs.Lists.{front}
+use Rattle.dpa.proofs.Lists.{sets-front}
 use Rattle.dpa.specs.Lists.{All}
 use Rattle.book.specs.declared.step.Step.{Step}
 use Rattle.book.specs.Group.{joined}
@@ -163,4 +163,4 @@ module _ (b : List ℕ) (k a h : ℕ) (out : List ℕ) where
 -- ---- what is written
 pub written-as : (o out out′ : List ℕ) (used : ℕ) → used ≡ length o → out′ ≡ sets out 0 o → length o ≤ length out
     → _≡_ {A = CompileResult} (record { refusal = 0; step = 0; length = used; buffer = out′ }) (written o out)
-written-as o out out′ used eu eo h = rw (eu, eo, front o out h)
+written-as o out out′ used eu eo h = rw (eu, eo, sets-front o out h)

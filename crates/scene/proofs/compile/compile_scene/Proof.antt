@@ -5,7 +5,7 @@ use native.Mathlib.Omega.{arith}
 use lib.ListN.{length, drop, length-drop}
 use borrow.Author.Needs.{needs}
 use borrow.Author.Tests.{le-leb, lt-leb, not-true, not-false}
-use Rattle.dpa.proofs.Lists.{to-end}
+use Rattle.dpa.proofs.Lists.{slice-to-end}
 use Rattle.book.specs.declared.contents.SceneLocation.{SceneLocation}
 use Rattle.book.specs.Book.{stepsMax, stepLength, countOf, bookOk, sceneOf, stepsIn}
 use Rattle.book.proofs.Books.{book-facts, body-within, scene-is}
@@ -58,7 +58,7 @@ compile-steps-requires c κs =
     let s = d .before .before .before .before .before .before .before .before .before in
     let b = s .args .book .now in
     let i = inside d in
-    rw (to-end (d .scene-location .result .offset) b)
+    rw (slice-to-end (d .scene-location .result .offset) b)
     (omega (arith, i .0, length-drop (d .scene-location .result .offset) b), i .1, s .pre)
 
 returns-3 : tie.Need-returns-3
@@ -71,7 +71,7 @@ returns-3 c =
     let scene : sceneOf b (s .args .scene) ≡ stepsIn (d .scene-location .result .steps) (drop (d .scene-location .result .offset) b) =
     scene-is b (s .args .scene) (below (d .before)) ∙ ap (λ (x : SceneLocation). stepsIn (x .steps) (drop (x .offset) b)) (sym (p .0)) in
     rw (book (d .before .before .before .before), lt-leb (countOf b) (s .args .scene) (below (d .before)), scene)
-    (rw (to-end (d .scene-location .result .offset) b) at (c .before .before .compile-steps .ensures))
+    (rw (slice-to-end (d .scene-location .result .offset) b) at (c .before .before .compile-steps .ensures))
 
 pub compile-scene-spec : {M : Type 1} → statement M
 compile-scene-spec =
