@@ -8,7 +8,7 @@ use native.Mathlib.Numerals.{sub-one}
 use lib.ListN.{length, drop, length-drop}
 use Rattle.dpa.specs.Lists.{slice}
 use Rattle.dpa.proofs.Bool.{by-cond}
-use Rattle.dpa.proofs.Lists.{to-end}
+use Rattle.dpa.proofs.Lists.{slice-to-end}
 use Rattle.batch.specs.declared.list.ListCheck.{ListCheck}
 use Rattle.batch.specs.declared.list.ListCheck.the-variants.{Sound, Broken}
 use Rattle.batch.specs.declared.entry.NextEntry.{NextEntry}
@@ -71,7 +71,7 @@ module _ (s : List ℕ) where
   pub list-more : {l p c h : ℕ} {x : ListCheck} → nextEntry s ≡ Entry l p c h
       → x ≡ (reading (slice s l (length s - l))) .check → shiftFault l x ≡ (reading s) .check
   list-more {l} e r =
-      ap (shiftFault l) (r ∙ ap (λ (t : List ℕ). (reading t) .check) (to-end l s))
+      ap (shiftFault l) (r ∙ ap (λ (t : List ℕ). (reading t) .check) (slice-to-end l s))
       ∙ sym (ap (λ (x : Reading). x .check) (reading-entry e))
 
 -- Induction on reading: what holds at the closing zero and at a fault, and of an entry with a rest of which it holds,

@@ -13,7 +13,7 @@ use Rattle.batch.specs.declared.entry.NextEntry.the-variants.{Entry}
 use Rattle.batch.specs.declared.list.ListCheck.{ListCheck}
 use Rattle.batch.specs.declared.list.ListCheck.the-variants.{Sound, Broken}
 use Rattle.batch.specs.Batch.{Item, item, entryBytes, entriesBytes, listBytes, Sendable, nextEntry, Reading, shiftFault, andRest, reading}
-use Rattle.dpa.proofs.Bytes.{bytes-none, bytes-cons, bytes-append, bytes-take, bytes-drop}
+use Rattle.dpa.proofs.Bytes.{bytes-nil, bytes-cons, bytes-append, bytes-take, bytes-drop}
 use Rattle.batch.proofs.Entries.{Means, zero-closes, closing-zero, next-is, next-facts}
 use Rattle.batch.proofs.Lists.{reading-closed, reading-entry, reading-fault, by-reading}
 use Rattle.batch.proofs.Faults.{not-sound}
@@ -91,7 +91,7 @@ entry-bytes i z (suc (suc (suc (suc (suc k))))) = z .pdata-bytes k
 -- a list of sendable entries is made of bytes
 pub list-bytes : (is : List Item) → All Sendable is → Bytes (listBytes is)
 unfolding entriesBytes
-list-bytes [] z = bytes-cons 0 [] (omega arith) bytes-none
+list-bytes [] z = bytes-cons 0 [] (omega arith) bytes-nil
 list-bytes (i ∷ is) z =
     rw (append-assoc (entryBytes i) (entriesBytes is) (0 ∷ []))
     (bytes-append (entryBytes i) (listBytes is) (entry-bytes i (z .0)) (list-bytes is (z .1)))

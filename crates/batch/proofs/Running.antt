@@ -6,7 +6,7 @@ use Prim.Native.Nat.{ℕ, suc, _-_}
 use lib.ListN.{length, drop}
 use Rattle.dpa.specs.Lists.{slice}
 use Rattle.dpa.proofs.Bool.{by-test}
-use Rattle.dpa.proofs.Lists.{to-end}
+use Rattle.dpa.proofs.Lists.{slice-to-end}
 use Rattle.batch.specs.declared.entry.NextEntry.the-variants.{Entry, Fault}
 use Rattle.batch.specs.Batch.{closing, nextEntry, Item, Reading, reading, item, runItems, errorsOf}
 use Rattle.batch.proofs.Lists.{reading-closed, reading-entry, reading-fault}
@@ -32,7 +32,7 @@ module _ {S : Type 0} (f : Item → S → S) (s : List ℕ) (st : S) where
   unfolding runItems
   items-more {l} {p} {c} {h} {m} {r} e d g =
       g
-      ∙ ap (λ (x : List ℕ). runItems f ((reading x) .items) m) (to-end l s)
+      ∙ ap (λ (x : List ℕ). runItems f ((reading x) .items) m) (slice-to-end l s)
       ∙ ap (runItems f ((reading (drop l s)) .items)) d
       ∙ sym (ap (λ (x : Reading). runItems f (x .items) st) (reading-entry s e))
 

@@ -11,9 +11,9 @@ use borrow.Author.Tests.{eq-eqb, ne-eqb, eqb-true, ltb-false}
 use Rattle.dpa.specs.declared.frame.Frame.{Frame}
 use Rattle.dpa.specs.Lists.{overwriteFront}
 use Rattle.dpa.specs.Frame.{broadcastNadr, headerOf, frameFits, responseHeader}
-use Rattle.dpa.proofs.Bool.{by-cond, first-taken, second-taken}
+use Rattle.dpa.proofs.Bool.{by-cond, then-taken, else-taken}
 use Rattle.dpa.proofs.Headers.{fits-sizes}
-use Rattle.dpa.proofs.Lists.{to-end, rear-lent, rear-back, header-written}
+use Rattle.dpa.proofs.Lists.{slice-to-end, tail-borrowed, tail-returned, overwrite-append}
 use Rattle.batch.specs.Batch.{Item, item}
 use Rattle.node.specs.declared.record.Node.{Node}
 use Rattle.node.specs.declared.record.ReadOnly.{ReadOnly}
@@ -26,7 +26,7 @@ use Rattle.handler.specs.Request.{State, state, SoundState, Outcome, See
 pub frame-item : (f : List ℕ) {h : Frame} → h ≡ headerOf f → item (h .pnum) (h .pcmd) (h .hwpid) (take (length f - 6) (drop 6 f)) ≡ frameItem f
 frame-item f e =
     ap (λ (h : Frame). item (h .pnum) (h .pcmd) (h .hwpid) (take (length f - 6) (drop 6 f))) e
-    ∙ ap (item (headerOf f .pnum) (headerOf f .pcmd) (headerOf f .hwpid)) (to-end 6 f)
+    ∙ ap (item (headerOf f .pnum) (headerOf f .pcmd) (headerOf f .hwpid)) (slice-to-end 6 f)
 
 module _ (f : List ℕ) (st : State) (o : List ℕ) where
   pub frame-broadcast : headerOf f .nadr ≡ 255 → handleFrame f st o ≡ broadcastResult (execute (frameItem f) st) o
@@ -82,11 +82,11 @@ module _ (n : Node) (f e x r : ℕ) (z : requestRefusal n f e x r ≡ 0) where
   pub refusal-none : (nodeOk n ≡ true) × (6 ≤ f) × (64 ≤ r) × (e ≡ 192) × (x ≡ 16384)
   unfolding requestRefusal
   refusal-none =
-      let a = first-taken (nodeOk n) _ 1 0 (λ q. omega arith) z in
-      let b = first-taken (frameFits f) _ 2 0 (λ q. omega arith) (a .1) in
-      let c = second-taken (ltb r 64) 3 _ 0 (λ q. omega arith) (b .1) in
-      let d = first-taken (eqb e 192) _ 4 0 (λ q. omega arith) (c .1) in
-      let g = first-taken (eqb x 16384) 0 4 0 (λ q. omega arith) (d .1) in
+      let a = then-taken (nodeOk n) _ 1 0 (λ q. omega arith) z in
+      let b = then-taken (frameFits f) _ 2 0 (λ q. omega arith) (a .1) in
+      let c = else-taken (ltb r 64) 3 _ 0 (λ q. omega arith) (b .1) in
+      let d = then-taken (eqb e 192) _ 4 0 (λ q. omega arith) (c .1) in
+      let g = then-taken (eqb x 16384) 0 4 0 (λ q. omega arith) (d .1) in
       (a .0, fits-sizes f (b .0) .0, ltb-false _ _ (c .0), eqb-true _ _ (d .0), eqb-true _ _ (g .0))
 
 pub accepted-rule : (n : Node) (e x : List ℕ) (f r : ℕ) → requestRefusal n f (length e) (length x) r ≡ 0 → SoundState (state n e x)
@@ -105,11 +105,11 @@ pub unicast-answer : (o m : List ℕ) → 8 ≤ length o → (k : ReadOnly) (i :
     → callResultFromParts k (record { length = 8 + c .length; report = c .report; lamps = c .lamps }) r e x w ≡ unicastResult (k .settings) i a o
 unicast-answer o m h k i a {c} {r} {e} {x} {w} q u =
     ap (callResultFromParts k (record { length = 8 + c .length; report = c .report; lamps = c .lamps }) r e x)
-    (u ∙ ap (λ (l : List ℕ). responseHeader (k .settings) (i .pnum) (i .pcmd) (c .error) ++ l) (rear-back 8 o m h))
+    (u ∙ ap (λ (l : List ℕ). responseHeader (k .settings) (i .pnum) (i .pcmd) (c .error) ++ l) (tail-returned 8 o m h))
     ∙ ap headed q
-    ∙ ap answered (rear-lent 8 o)
+    ∙ ap answered (tail-borrowed 8 o)
     ∙ ap (λ (l : List ℕ). record { after = a .after; refusal = 0; length = 8 + length (a .bytes); report = a .report; addressed = true; response = l })
-    (sym (header-written (responseHeader (k .settings) (i .pnum) (i .pcmd) (a .error)) (a .bytes) o))
+    (sym (overwrite-append (responseHeader (k .settings) (i .pnum) (i .pcmd) (a .error)) (a .bytes) o))
   where
     headed : SeenOutcome → CallResult
     headed l =

@@ -7,7 +7,7 @@ use native.Mathlib.Omega.{arith}
 use lib.ListN.{length, take, drop, length-drop}
 use lib.Seq.{drop-drop}
 use Rattle.dpa.specs.Lists.{slice}
-use Rattle.dpa.proofs.Lists.{to-end}
+use Rattle.dpa.proofs.Lists.{slice-to-end}
 use Rattle.batch.specs.declared.entry.NextEntry.the-variants.{Entry, Fault}
 use Rattle.batch.specs.Batch.{closing, nextEntry, item, reading, runItems}
 use Rattle.batch.proofs.Entries.{entry-sized}
@@ -33,7 +33,7 @@ module _ (list : List ℕ) (old : State) (at : ℕ) (st : State) (h : Running li
   tail = take (length list - at) (drop at list)
 
   tail-is : tail ≡ drop at list
-  tail-is = to-end at list
+  tail-is = slice-to-end at list
 
   -- an entry stands within the list
   pub turn-sized : {l p c w : ℕ} → nextEntry tail ≡ Entry l p c w → (5 ≤ l) × (at + l ≤ length list)
@@ -54,7 +54,7 @@ module _ (list : List ℕ) (old : State) (at : ℕ) (st : State) (h : Running li
         place-max = turn-sized e .1;
         sound = subst SoundState (sym q) (entry-sound (item p c w (take ((at + l) - (at + 5)) (drop (at + 5) list))) st (h .sound));
         rest =
-            ap (λ (s : List ℕ). ranAt s next) (sym (drop-drop l at list) ∙ sym (to-end l (drop at list)))
+            ap (λ (s : List ℕ). ranAt s next) (sym (drop-drop l at list) ∙ sym (slice-to-end l (drop at list)))
             ∙ items-more entryAfter (drop at list) st (ap nextEntry (sym tail-is) ∙ e) (q ∙ ap (λ (s : List ℕ). entryAfter (item p c w s) st) i) refl
             ∙ h .rest;
       }

@@ -10,7 +10,7 @@ use lib.Dec.{ltb}
 use Rattle.dpa.specs.Lists.{overwriteFront}
 use Rattle.dpa.specs.Reply.{reply, replySeen, replyInBuffer}
 use Rattle.dpa.specs.declared.settings.Settings.{Settings}
-use Rattle.dpa.proofs.Lists.{kept-next, kept-more, front-written}
+use Rattle.dpa.proofs.Lists.{same-tail-next, same-tail-set, front-written}
 use Rattle.lights.specs.Bits.{bits, count}
 use Rattle.lights.specs.Lamp.{off, LevelsInRange, actualLevel}
 use Rattle.lights.specs.Lights.{Reading, firstEntry, isValid, prepend, powerEntries, isGood, lampAfter, lampsAfter, levelsBefore, answered}
@@ -113,7 +113,7 @@ module _ {s : Settings} {c : Command} {mask : ℕ} {src : List ℕ} {ls : List L
           implemented = w .implemented;
           lamps-length = w .lamps-length;
           after-length = w .after-length;
-          after-kept = kept-next after ls i (w .after-kept);
+          after-kept = same-tail-next after ls i (w .after-kept);
           old-length = w .old-length;
           out-length = w .out-length;
           out-kept = w .out-kept;
@@ -160,7 +160,7 @@ module _ {s : Settings} {c : Command} {mask : ℕ} {src : List ℕ} {ls : List L
               after-kept = d;
               old-length = w .old-length;
               out-length = length-set out k v ∙ w .out-length;
-              out-kept = kept-more out old k v (w .out-kept);
+              out-kept = same-tail-set out old k v (w .out-kept);
               place-max = omega (arith, walk-inside);
               levels-max = omega (arith, w .levels-max);
               at-max = walk-room;
@@ -175,12 +175,12 @@ module _ {s : Settings} {c : Command} {mask : ℕ} {src : List ℕ} {ls : List L
         pub walk-done : (v : ℕ) (r : Lamp) → i < n → v ≡ actualLevel s (getD after i off .level) → r ≡ lampAfter c (getD after i off) (e .power) (e .seconds)
             → Walk s c mask src ls old n (set after i r) (set out k v) (m / 2) (at + size) (k + 1) (i + 1)
         walk-done v r h a b =
-            walk-more (set after i r) v (length-set after i r ∙ w .after-length) (kept-more after ls i r (w .after-kept))
+            walk-more (set after i r) v (length-set after i r ∙ w .after-length) (same-tail-set after ls i r (w .after-kept))
             (shown-lit n i v _ h (a ∙ ap (λ (l : Lamp). actualLevel s (l .level)) lamp-kept))
             (λ es. from-done c n i m e es after r walk-inside (w .after-length) z h b)
 
         -- a selected lamp that is not implemented
         pub walk-idle : n ≤ i → Walk s c mask src ls old n after (set out k 0) (m / 2) (at + size) (k + 1) (i + 1)
         walk-idle h =
-            walk-more after 0 (w .after-length) (kept-next after ls i (w .after-kept)) (shown-dark n i _ h)
+            walk-more after 0 (w .after-length) (same-tail-next after ls i (w .after-kept)) (shown-dark n i _ h)
             (λ es. from-idle c n i m e es after walk-inside (w .after-length) z h)

@@ -8,8 +8,8 @@ use lib.ListN.{length, take, drop, length-drop, drop-of-length-le}
 use lib.Seq.{take-length, drop-drop, length-take-le}
 use borrow.Author.Tests.{ltb-false, leb-false, le-ltb, lt-leb}
 use Rattle.dpa.specs.Lists.{slice}
-use Rattle.dpa.proofs.Bool.{second-taken}
-use Rattle.dpa.proofs.Lists.{to-end}
+use Rattle.dpa.proofs.Bool.{else-taken}
+use Rattle.dpa.proofs.Lists.{slice-to-end}
 use Rattle.memory.specs.declared.block.Memory.{Memory}
 use Rattle.memory.specs.declared.block.Memory.the-variants.{Eeprom}
 use Rattle.memory.specs.Block.{longestOf, blockFault, put}
@@ -61,4 +61,4 @@ past-end a s = drop-of-length-le (drop a s) {i = length s - a} (simp length-drop
 pub copied-in : (mem d l : List ℕ) (start : ℕ)
     → l ≡ take (length d) d ++ drop (length d) (take (length mem - start) (drop start mem))
     → take start mem ++ (l ++ drop (length mem - start) (drop start mem)) ≡ put mem start d
-copied-in mem d l start e = simp (e, take-length, to-end, past-end, append-nil, append-assoc, drop-drop)
+copied-in mem d l start e = simp (e, take-length, slice-to-end, past-end, append-nil, append-assoc, drop-drop)

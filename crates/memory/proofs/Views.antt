@@ -9,7 +9,7 @@ use lib.ListN.{length}
 use denote.Ref.{RefT, now}
 use borrow.Author.Tests.{eqb-true, eqb-false, eq-eqb, ne-eqb}
 use Rattle.dpa.specs.Lists.{slice}
-use Rattle.dpa.proofs.Bool.{first-taken, by-test}
+use Rattle.dpa.proofs.Bool.{then-taken, by-test}
 use Rattle.memory.specs.declared.block.Memory.{Memory}
 use Rattle.memory.specs.declared.block.Memory.the-variants.{Eeprom, External}
 use Rattle.memory.specs.Block.{memoryPnum, sizeOf, longestOf}
@@ -42,9 +42,9 @@ named p start n false h e = (block-ends External start n e, λ q. absurd (eqb-fa
 pub viewed : (e x : List ℕ) (p start n : ℕ) → viewStatus e x p start n ≡ 0 → Viewed e x p start n
 unfolding viewStatus
 viewed e x p start n h =
-    let a = first-taken (eqb (length e) (sizeOf Eeprom)) _ 4 0 (λ q. omega arith) h in
-    let b = first-taken (eqb (length x) (sizeOf External)) _ 4 0 (λ q. omega arith) (a .1) in
-    let d = first-taken (namesMemory p) _ 10 0 (λ q. omega arith) (b .1) in
+    let a = then-taken (eqb (length e) (sizeOf Eeprom)) _ 4 0 (λ q. omega arith) h in
+    let b = then-taken (eqb (length x) (sizeOf External)) _ 4 0 (λ q. omega arith) (a .1) in
+    let d = then-taken (namesMemory p) _ 10 0 (λ q. omega arith) (b .1) in
     let le : length e ≡ sizeOf Eeprom = eqb-true _ _ (a .0) in
     let lx : length x ≡ sizeOf External = eqb-true _ _ (b .0) in
     let k = named p start n (eqb p (memoryPnum Eeprom)) refl (d .1) in

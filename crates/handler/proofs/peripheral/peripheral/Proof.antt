@@ -7,7 +7,7 @@ use Rattle.dpa.proofs.Replies.{reply-mapped}
 use Rattle.memory.specs.declared.block.Memory.the-variants.{Eeprom, Ram, External}
 use Rattle.memory.specs.Request.{memoryRequest}
 use Rattle.lights.specs.Lights.{lightsRequest}
-use Rattle.node.proofs.Nodes.{node-settings, node-dimmed, node-ram}
+use Rattle.node.proofs.Nodes.{node-settings, node-levels-in-range, node-ram}
 use Rattle.handler.specs.Request.{State, stateFromParts, withMemory}
 use Rattle.handler.proofs.Peripherals.{peripheral-memory, peripheral-lights, perform-unknown, reply-as}
 use Rattle.handler.proofs.peripheral.peripheral.Statement.{statement}
@@ -48,7 +48,7 @@ returns-3 c =
 request-requires-4 : tie.Need-request-requires-4
 request-requires-4 c κs =
     let p = c .before .before .before .before .before .before .before .before .before .before .pre in
-    (node-settings _ (p .0 .node-ok), node-dimmed _ (p .0 .node-ok), p .1)
+    (node-settings _ (p .0 .node-ok), node-levels-in-range _ (p .0 .node-ok), p .1)
 
 returns-4 : tie.Need-returns-4
 returns-4 c =

@@ -61,7 +61,7 @@ compile-steps-requires c κs =
     let s = d .before .before .before .before .before .before .before .before .before in
     let b = s .args .book .now in
     let i = inside d in
-    rw (to-end (d .scene-location .result .offset) b)
+    rw (slice-to-end (d .scene-location .result .offset) b)
     (omega (arith, i .0, length-drop (d .scene-location .result .offset) b), i .1, s .pre)
 
 returns-3 : tie.Need-returns-3
