@@ -9,9 +9,9 @@ use Rattle.dpa.specs.declared.settings.Settings.{Settings}
 use Rattle.lights.specs.Bits.{count, bitmap}
 use Rattle.lights.specs.Lamp.{changed, actualLevel}
 use Rattle.lights.specs.declared.lamp.Lamp.{Lamp}
-use Rattle.lights.specs.declared.entry.LampChange.{LampChange}
-use Rattle.lights.specs.declared.entry.PowerEntry.{PowerEntry}
-use Rattle.lights.specs.declared.entry.PowerEntry.the-variants.{Valid, Invalid}
+use Rattle.lights.specs.declared.power.LampChange.{LampChange}
+use Rattle.lights.specs.declared.power.PowerEntry.{PowerEntry}
+use Rattle.lights.specs.declared.power.PowerEntry.the-variants.{Valid, Invalid}
 use Rattle.lights.specs.declared.apply.Command.{Command}
 use Rattle.lights.specs.declared.apply.Command.the-variants.{Set, Raise, Lower}
 
@@ -43,16 +43,16 @@ abbrev pub change : ℕ → ℕ → LampChange
 change p s = record { power = p; seconds = s }
 
 -- the entry of power p whose time byte comes next
-abbrev pub timedEntry : ℕ → List ℕ → PowerEntry
-timedEntry p [] = Invalid
-timedEntry p (t ∷ xs) = cond (timeOk t) (Valid (change p (secondsOf t)) 2) Invalid
+abbrev pub timedPowerEntry : ℕ → List ℕ → PowerEntry
+timedPowerEntry p [] = Invalid
+timedPowerEntry p (t ∷ xs) = cond (timeOk t) (Valid (change p (secondsOf t)) 2) Invalid
 
 -- the entry that bytes start with and how many of them it takes: a power byte and, if its bit 7 is set, a time byte
-abbrev pub firstEntry : List ℕ → PowerEntry
-firstEntry [] = Invalid
-firstEntry (b ∷ xs) =
+abbrev pub firstPowerEntry : List ℕ → PowerEntry
+firstPowerEntry [] = Invalid
+firstPowerEntry (b ∷ xs) =
     cond (powerOk (b % 128))
-    (cond (ltb b 128) (Valid (change (b % 128) 0) 1) (timedEntry (b % 128) xs))
+    (cond (ltb b 128) (Valid (change (b % 128) 0) 1) (timedPowerEntry (b % 128) xs))
     Invalid
 
 -- the ErrN of an entry
@@ -62,24 +62,24 @@ powerEntryError Invalid = 6
 
 -- ---- all entries, read before any lamp changes
 
-pub data Reading : Type 0 where
-  allValid : List LampChange → Reading
-  bad : Reading
+pub data PowerEntries : Type 0 where
+  allValid : List LampChange → PowerEntries
+  malformed : PowerEntries
 
-abbrev pub prepend : List LampChange → Reading → Reading
+abbrev pub prepend : List LampChange → PowerEntries → PowerEntries
 prepend es (allValid fs) = allValid (es ++ fs)
-prepend es bad = bad
+prepend es malformed = malformed
 
 -- an entry, then what is read behind it
-abbrev pub andThen : PowerEntry → (ℕ → Reading) → Reading
-andThen (Valid e size) rest = prepend (e ∷ []) (rest size)
-andThen Invalid rest = bad
+abbrev pub followedBy : PowerEntry → (ℕ → PowerEntries) → PowerEntries
+followedBy (Valid e size) rest = prepend (e ∷ []) (rest size)
+followedBy Invalid rest = malformed
 
 -- n valid entries and no byte behind them
-abbrev pub powerEntries : ℕ → List ℕ → Reading
+abbrev pub powerEntries : ℕ → List ℕ → PowerEntries
 powerEntries zero [] = allValid []
-powerEntries zero (x ∷ xs) = bad
-powerEntries (suc n) xs = andThen (firstEntry xs) (λ size. powerEntries n (drop size xs))
+powerEntries zero (x ∷ xs) = malformed
+powerEntries (suc n) xs = followedBy (firstPowerEntry xs) (λ size. powerEntries n (drop size xs))
 
 -- ---- a lamp after its entry
 
@@ -116,16 +116,16 @@ levelsBefore s n (suc b ∷ bs) (l ∷ ls) = cond (ltb 0 n) (actualLevel s (l .l
 
 -- ---- the request
 
-abbrev pub answered : Settings → Command → List ℕ → List Lamp → Reading → Reply (List Lamp)
-answered s c bs ls (allValid es) =
+abbrev pub levelsReply : Settings → Command → List ℕ → List Lamp → PowerEntries → Reply (List Lamp)
+levelsReply s c bs ls (allValid es) =
     reply (lampsAfter c (s .«lamp_count») bs es ls) 0 (levelsBefore s (s .«lamp_count») bs ls)
-answered s c bs ls bad = refused ls (powerEntryError Invalid)
+levelsReply s c bs ls malformed = refused ls (powerEntryError Invalid)
 
 -- PData of set, raise and lower: four bitmap bytes, then an entry for each one-bit
 unfoldable pub changeLamps : Settings → Command → List ℕ → List Lamp → Reply (List Lamp)
 changeLamps s c xs ls =
     cond (ltb (length xs) 4) (refused ls (powerEntryError Invalid))
-    (answered s c (bitmap xs) ls (powerEntries (count (bitmap xs)) (drop 4 xs)))
+    (levelsReply s c (bitmap xs) ls (powerEntries (count (bitmap xs)) (drop 4 xs)))
 
 -- 3E hex: the count of lamps
 unfoldable pub enumerateLamps : Settings → List ℕ → List Lamp → Reply (List Lamp)
@@ -145,9 +145,9 @@ abbrev pub isValid : PowerEntry → Bool
 isValid (Valid e size) = true
 isValid Invalid = false
 
-abbrev pub isGood : Reading → Bool
-isGood (allValid es) = true
-isGood bad = false
+abbrev pub areValid : PowerEntries → Bool
+areValid (allValid es) = true
+areValid malformed = false
 
 -- the command of a PCMD up to 02 hex
 unfoldable pub commandOf : ℕ → Command

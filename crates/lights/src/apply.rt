@@ -1,6 +1,6 @@
 // What entries do to lamps, and the levels that are answered, in one walk over the bitmap from its lowest bit.
-use crate::entry::KEEP;
-use crate::entry::change_at;
+use crate::power::KEEP;
+use crate::power::valid_power_entry_at;
 use crate::lamp::LAMPS;
 use crate::lamp::Lamp;
 use crate::lamp::actual_level;
@@ -14,7 +14,7 @@ ghost use Rattle.dpa.specs.Reply.{replySeen, replyInBuffer};
 ghost use Rattle.dpa.specs.Settings.{settingsOk};
 ghost use Rattle.lights.specs.Bits.{bits, count};
 ghost use Rattle.lights.specs.Lamp.{LevelsInRange};
-ghost use Rattle.lights.specs.Lights.{newLevel, lampAfter, powerEntries, isGood, answered};
+ghost use Rattle.lights.specs.Lights.{newLevel, lampAfter, powerEntries, areValid, levelsReply};
 
 pub enum Command {
     Set,
@@ -63,9 +63,9 @@ pub fn apply(
     out: &mut [u8],
 ) -> [Lamp; LAMPS]
     requires { ⌜ (settingsOk settings ≡ true) × LevelsInRange lamps × (32 ≤ length (now out)) × (4 ≤ length (now pdata))
-        × (isGood (powerEntries (count (bits 32 mask)) (drop 4 (now pdata))) ≡ true) ⌝ }
+        × (areValid (powerEntries (count (bits 32 mask)) (drop 4 (now pdata))) ≡ true) ⌝ }
     ensures { λ r. ⌜ replySeen r 0 (count (bits 32 mask)) (now (out .exit))
-        ≡ replyInBuffer (answered settings command (bits 32 mask) lamps (powerEntries (count (bits 32 mask)) (drop 4 (now (pdata .entry))))) (now (out .entry)) ⌝ }
+        ≡ replyInBuffer (levelsReply settings command (bits 32 mask) lamps (powerEntries (count (bits 32 mask)) (drop 4 (now (pdata .entry))))) (now (out .entry)) ⌝ }
 {
     let n = wide(settings.lamp_count);
     let mut after = lamps;
@@ -75,7 +75,7 @@ pub fn apply(
     let mut i: usize = 0;
     while m != 0 {
         if m % 2 == 1 {
-            let entry = change_at(pdata, at);
+            let entry = valid_power_entry_at(pdata, at);
             if i < n {
                 let lamp = after[i];
                 out[k] = actual_level(settings, lamp.level);

@@ -1,7 +1,7 @@
 // The lights peripheral.
 use crate::apply::Command;
 use crate::apply::apply;
-use crate::entry::entries_ok;
+use crate::power::power_entries_ok;
 use crate::lamp::LAMPS;
 use crate::lamp::Lamp;
 use dpa::error;
@@ -45,7 +45,7 @@ fn mask_of(src: &[u8]) -> u32
 }
 
 // How many lamps a bitmap selects.
-fn selected(mask: u32) -> usize
+fn selected_count(mask: u32) -> usize
     ensures { λ r. ⌜ (r ≡ count (bits 32 mask)) × (r ≤ 32) ⌝ }
 {
     u32::count_ones(mask) as usize
@@ -86,8 +86,8 @@ fn change_lamps(
         return refuse(error::DATA, lamps);
     }
     let mask = mask_of(pdata);
-    let length = selected(mask);
-    if !entries_ok(pdata, length) {
+    let length = selected_count(mask);
+    if !power_entries_ok(pdata, length) {
         return refuse(error::DATA, lamps);
     }
     let after = apply(settings, command, mask, pdata, lamps, out);

@@ -12,7 +12,7 @@ use Rattle.dpa.proofs.Bool.{second-taken}
 use Rattle.dpa.proofs.Lists.{to-end}
 use Rattle.memory.specs.declared.block.Memory.{Memory}
 use Rattle.memory.specs.declared.block.Memory.the-variants.{Eeprom}
-use Rattle.memory.specs.Block.{longestOf, blockFault, put}
+use Rattle.memory.specs.Block.{longestOf, blockFault, overwrite}
 
 -- a block that can be had
 pub record BlockFits (size longest start n : ℕ) : Type 0 where
@@ -22,17 +22,17 @@ pub record BlockFits (size longest start n : ℕ) : Type 0 where
 
 module _ (size longest start n tooLong outside : ℕ) where
   -- the rule finds no fault exactly in a block that can be had
-  pub block-fits : (tooLong ≡ 0 → ⊥) → (outside ≡ 0 → ⊥) → blockFault size longest start n tooLong outside ≡ 0 → BlockFits size longest start n
+  pub no-fault-fits : (tooLong ≡ 0 → ⊥) → (outside ≡ 0 → ⊥) → blockFault size longest start n tooLong outside ≡ 0 → BlockFits size longest start n
   unfolding blockFault
-  block-fits t o e =
+  no-fault-fits t o e =
       let a = second-taken (ltb longest n) tooLong _ 0 t e in
       let b = second-taken (leb size start) outside _ 0 o (a .1) in
       let d = second-taken (ltb size (start + n)) outside 0 0 o (b .1) in
       record { length-max = ltb-false _ _ (a .0); start-inside = leb-false _ _ (b .0); end-inside = ltb-false _ _ (d .0) }
 
-  pub fits-block : BlockFits size longest start n → blockFault size longest start n tooLong outside ≡ 0
+  pub fits-no-fault : BlockFits size longest start n → blockFault size longest start n tooLong outside ≡ 0
   unfolding blockFault
-  fits-block f = simp (le-ltb longest n (f .length-max), lt-leb size start (f .start-inside), le-ltb size (start + n) (f .end-inside))
+  fits-no-fault f = simp (le-ltb longest n (f .length-max), lt-leb size start (f .start-inside), le-ltb size (start + n) (f .end-inside))
 
 -- no longest block is over EEPROM's
 pub longest-max : (m : Memory) → longestOf m ≤ longestOf Eeprom
@@ -41,24 +41,24 @@ longest-max Memory.Ram = omega arith
 longest-max Memory.External = omega arith
 
 -- the count of a part from a start
-pub counted : (a n : ℕ) → a + n - a ≡ n
-counted a n = omega arith
+pub end-minus-start : (a n : ℕ) → a + n - a ≡ n
+end-minus-start a n = omega arith
 
 -- a part that lies in a memory has its length
-pub part-length : (mem : List ℕ) (start n : ℕ) → start + n ≤ length mem → length (slice mem start n) ≡ n
-part-length mem start n h = length-take-le n (drop start mem) (simp length-drop (omega arith))
+pub slice-length : (mem : List ℕ) (start n : ℕ) → start + n ≤ length mem → length (slice mem start n) ≡ n
+slice-length mem start n h = length-take-le n (drop start mem) (simp length-drop (omega arith))
 
 -- a copy of a part
-pub copied-out : (mem out : List ℕ) (start n : ℕ) → start + n ≤ length mem
+pub copy-out-result : (mem out : List ℕ) (start n : ℕ) → start + n ≤ length mem
     → take (length (slice mem start (start + n - start))) (slice mem start (start + n - start))
     ++ drop (length (slice mem start (start + n - start))) out ≡ slice mem start n ++ drop n out
-copied-out mem out start n h = rw (counted, take-length, part-length mem start n h)
+copy-out-result mem out start n h = rw (end-minus-start, take-length, slice-length mem start n h)
 
 past-end : (a : ℕ) (s : List ℕ) → drop (length s - a) (drop a s) ≡ []
 past-end a s = drop-of-length-le (drop a s) {i = length s - a} (simp length-drop (omega arith))
 
 -- a copy into a part, once the part is back
-pub copied-in : (mem d l : List ℕ) (start : ℕ)
+pub copy-in-result : (mem d l : List ℕ) (start : ℕ)
     → l ≡ take (length d) d ++ drop (length d) (take (length mem - start) (drop start mem))
-    → take start mem ++ (l ++ drop (length mem - start) (drop start mem)) ≡ put mem start d
-copied-in mem d l start e = simp (e, take-length, to-end, past-end, append-nil, append-assoc, drop-drop)
+    → take start mem ++ (l ++ drop (length mem - start) (drop start mem)) ≡ overwrite mem start d
+copy-in-result mem d l start e = simp (e, take-length, to-end, past-end, append-nil, append-assoc, drop-drop)

@@ -14,10 +14,10 @@ use Rattle.dpa.proofs.Bool.{by-cond, first-taken, second-taken}
 use Rattle.dpa.proofs.Lists.{to-end}
 use Rattle.memory.specs.declared.block.Memory.{Memory}
 use Rattle.memory.specs.declared.block.Memory.the-variants.{Eeprom}
-use Rattle.memory.specs.Block.{sizeOf, longestOf, addressBytes, readCommand, writeCommand, put}
+use Rattle.memory.specs.Block.{sizeOf, longestOf, addressBytes, readCommand, writeCommand, overwrite}
 use Rattle.memory.specs.Request.{addressOf, startOf, lengthOf, dataOf, blockError, readError, writeError, readRequest, writeRequest, memoryRequest}
-use Rattle.memory.proofs.Blocks.{BlockFits, block-fits, fits-block, longest-max, part-length}
-use Rattle.memory.proofs.Overwrite.{put-length}
+use Rattle.memory.proofs.Blocks.{BlockFits, no-fault-fits, fits-no-fault, longest-max, slice-length}
+use Rattle.memory.proofs.Overwrite.{overwrite-length}
 
 module _ (m : Memory) (p : List ℕ) where
   abbrev pub ReadFits : Type 0
@@ -30,24 +30,24 @@ module _ (m : Memory) (p : List ℕ) where
   unfolding readError
   read-fits e =
       let a = first-taken (eqb (length p) (addressBytes m + 1)) _ 5 0 (λ q. omega arith) e in
-      (eqb-true _ _ (a .0), block-fits (sizeOf m) (longestOf m) (startOf m p) (lengthOf m p) 5 4 (λ q. omega arith) (λ q. omega arith) (a .1))
+      (eqb-true _ _ (a .0), no-fault-fits (sizeOf m) (longestOf m) (startOf m p) (lengthOf m p) 5 4 (λ q. omega arith) (λ q. omega arith) (a .1))
 
   pub write-fits : writeError m p ≡ 0 → WriteFits
   unfolding writeError
   write-fits e =
       let a = second-taken (leb (length p) (addressBytes m)) 5 _ 0 (λ q. omega arith) e in
-      (leb-false _ _ (a .0), block-fits (sizeOf m) (longestOf m) (startOf m p) (length p - addressBytes m) 5 4 (λ q. omega arith) (λ q. omega arith) (a .1))
+      (leb-false _ _ (a .0), no-fault-fits (sizeOf m) (longestOf m) (startOf m p) (length p - addressBytes m) 5 4 (λ q. omega arith) (λ q. omega arith) (a .1))
 
   -- what the tests of the code have found is the error
-  pub read-checked : (w r a n : ℕ) → w ≡ addressBytes m → length p ≡ w + 1 → a ≡ addressOf w p → n ≡ getD p w 0
+  pub read-error-by-tests : (w r a n : ℕ) → w ≡ addressBytes m → length p ≡ w + 1 → a ≡ addressOf w p → n ≡ getD p w 0
       → r ≡ blockError m a n → r ≡ readError m p
   unfolding readError
-  read-checked w r a n ew l ea en er = simp (← ew, eq-eqb (length p) (w + 1) l, ← ea, ← en) er
+  read-error-by-tests w r a n ew l ea en er = simp (← ew, eq-eqb (length p) (w + 1) l, ← ea, ← en) er
 
-  pub write-checked : (w r a : ℕ) → w ≡ addressBytes m → w < length p → a ≡ addressOf w p
+  pub write-error-by-tests : (w r a : ℕ) → w ≡ addressBytes m → w < length p → a ≡ addressOf w p
       → r ≡ blockError m a (length p - w) → r ≡ writeError m p
   unfolding writeError
-  write-checked w r a ew l ea er = simp (← ew, lt-leb (length p) w l, ← ea) er
+  write-error-by-tests w r a ew l ea er = simp (← ew, lt-leb (length p) w l, ← ea) er
 
   module _ (mem : List ℕ) where
     -- an error: nothing written
@@ -60,27 +60,27 @@ module _ (m : Memory) (p : List ℕ) where
     write-refused out e q h = simp (← q, ne-eqb e 0 h)
 
     module _ (w a n : ℕ) (size : length mem ≡ sizeOf m) (z : readError m p ≡ 0) (ew : w ≡ addressBytes m) (ea : a ≡ addressOf w p) (en : n ≡ getD p w 0) where
-      pub read-place : (a + n ≤ length mem) × (n ≤ longestOf Eeprom)
-      read-place =
+      pub read-inside : (a + n ≤ length mem) × (n ≤ longestOf Eeprom)
+      read-inside =
           let f = read-fits z .1 in
           let s : a ≡ startOf m p = ea ∙ ap (λ (k : ℕ). addressOf k p) ew in
           let l : n ≡ lengthOf m p = en ∙ ap (λ (k : ℕ). getD p k 0) ew in
           (omega (arith, f .end-inside), omega (arith, f .length-max, longest-max m))
 
-      pub read-served : (out last : List ℕ) → last ≡ slice mem a n ++ drop n out → replySeen mem 0 n last ≡ replyInBuffer (readRequest m p mem) out
+      pub read-reply : (out last : List ℕ) → last ≡ slice mem a n ++ drop n out → replySeen mem 0 n last ≡ replyInBuffer (readRequest m p mem) out
       unfolding readRequest
-      read-served out last el = rw (z, ← ew, ← ea, ← en, part-length mem a n (read-place .0), el)
+      read-reply out last el = rw (z, ← ew, ← ea, ← en, slice-length mem a n (read-inside .0), el)
 
     module _ (w a : ℕ) (z : writeError m p ≡ 0) (ew : w ≡ addressBytes m) (ea : a ≡ addressOf w p) where
-      pub write-place : length mem ≡ sizeOf m → a + (length p - w) ≤ length mem
-      write-place size =
+      pub write-inside : length mem ≡ sizeOf m → a + (length p - w) ≤ length mem
+      write-inside size =
           let f = write-fits z .1 in
           let s : a ≡ startOf m p = ea ∙ ap (λ (k : ℕ). addressOf k p) ew in
           omega (arith, f .end-inside)
 
-      pub write-served : (out last : List ℕ) → last ≡ put mem a (take (length p - w) (drop w p)) → replySeen last 0 0 out ≡ replyInBuffer (writeRequest m p mem) out
+      pub write-reply : (out last : List ℕ) → last ≡ overwrite mem a (take (length p - w) (drop w p)) → replySeen last 0 0 out ≡ replyInBuffer (writeRequest m p mem) out
       unfolding writeRequest
-      write-served out last el = rw (z, ← ew, ← ea, el, to-end w p)
+      write-reply out last el = rw (z, ← ew, ← ea, el, to-end w p)
 
 -- a read and a write have different PCMDs
 pub commands-differ : (m : Memory) → eqb (writeCommand m) (readCommand m) ≡ false
@@ -96,24 +96,24 @@ module _ (m : Memory) (p mem : List ℕ) where
       simp (
         eq-eqb (readCommand m) (readCommand m) refl,
         eq-eqb _ _ (f .0),
-        fits-block (sizeOf m) (longestOf m) (startOf m p) (lengthOf m p) 5 4 (f .1),
+        fits-no-fault (sizeOf m) (longestOf m) (startOf m p) (lengthOf m p) 5 4 (f .1),
       )
 
-  pub write-accepted : WriteFits m p → memoryRequest m (writeCommand m) p mem ≡ reply (put mem (startOf m p) (dataOf m p)) 0 []
+  pub write-accepted : WriteFits m p → memoryRequest m (writeCommand m) p mem ≡ reply (overwrite mem (startOf m p) (dataOf m p)) 0 []
   unfolding memoryRequest writeRequest writeError
   write-accepted f =
       simp (
         commands-differ m,
         eq-eqb (writeCommand m) (writeCommand m) refl,
         lt-leb _ _ (f .0),
-        fits-block (sizeOf m) (longestOf m) (startOf m p) (length p - addressBytes m) 5 4 (f .1),
+        fits-no-fault (sizeOf m) (longestOf m) (startOf m p) (length p - addressBytes m) 5 4 (f .1),
       )
 
   module _ (pcmd : ℕ) where
     -- what holds of a read, of a write and of every error holds of a request
     pub request-cases : (P : Reply (List ℕ) → Type 0)
         → (readError m p ≡ 0 → P (reply mem 0 (slice mem (startOf m p) (lengthOf m p))))
-        → (writeError m p ≡ 0 → P (reply (put mem (startOf m p) (dataOf m p)) 0 []))
+        → (writeError m p ≡ 0 → P (reply (overwrite mem (startOf m p) (dataOf m p)) 0 []))
         → ((e : ℕ) → P (refused mem e))
         → P (memoryRequest m pcmd p mem)
     unfolding memoryRequest readRequest writeRequest
@@ -133,7 +133,7 @@ module _ (m : Memory) (p mem : List ℕ) where
     request-length size =
         request-cases (λ (x : Reply (List ℕ)). length (x .after) ≡ length mem)
         (λ z. refl)
-        (λ z. put-length mem (startOf m p) (dataOf m p) (rw length-drop (omega (arith, write-fits m p z .1 .end-inside))))
+        (λ z. overwrite-length mem (startOf m p) (dataOf m p) (rw length-drop (omega (arith, write-fits m p z .1 .end-inside))))
         (λ e. refl)
 
     -- an answer is no longer than the memory's longest block
@@ -151,7 +151,7 @@ module _ (m : Memory) (p mem : List ℕ) where
 -- a write at an address of one byte
 pub write-byte-address : (m : Memory) (mem : List ℕ) (a : ℕ) (d : List ℕ) → addressBytes m ≡ 1 → 0 < length d
     → BlockFits (sizeOf m) (longestOf m) a (length d)
-    → memoryRequest m (writeCommand m) (a ∷ d) mem ≡ reply (put mem a d) 0 []
+    → memoryRequest m (writeCommand m) (a ∷ d) mem ≡ reply (overwrite mem a d) 0 []
 unfolding addressOf
 write-byte-address m mem a d one some f =
     let s : startOf m (a ∷ d) ≡ a = ap (λ (w : ℕ). addressOf w (a ∷ d)) one in

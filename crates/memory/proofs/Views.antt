@@ -13,8 +13,8 @@ use Rattle.dpa.proofs.Bool.{first-taken, by-test}
 use Rattle.memory.specs.declared.block.Memory.{Memory}
 use Rattle.memory.specs.declared.block.Memory.the-variants.{Eeprom, External}
 use Rattle.memory.specs.Block.{memoryPnum, sizeOf, longestOf}
-use Rattle.memory.specs.View.{namesMemory, blockRefusal, viewStatus, viewPart, placeIn, viewPlace}
-use Rattle.memory.proofs.Blocks.{block-fits, part-length}
+use Rattle.memory.specs.View.{namesMemory, blockRefusal, viewStatus, viewBytes, placeIn, viewPlace}
+use Rattle.memory.proofs.Blocks.{no-fault-fits, slice-length}
 
 -- memories of their sizes: 10 unless the PNUM names one, then its block rule
 pub status-sized : (e x : List ℕ) (p start n : ℕ) → length e ≡ sizeOf Eeprom → length x ≡ sizeOf External
@@ -24,13 +24,13 @@ unfolding viewStatus
 status-sized e x p start n le lx = rw (eq-eqb (length e) (sizeOf Eeprom) le, eq-eqb (length x) (sizeOf External) lx)
 
 -- what a view that is not refused has shown
-pub record Viewed (e x : List ℕ) (p start n : ℕ) : Type 0 where
+pub record ViewFits (e x : List ℕ) (p start n : ℕ) : Type 0 where
   pub fits : start + n ≤ sizeOf External
   pub eeprom : p ≡ memoryPnum Eeprom → start + n ≤ length e
   pub external : (p ≡ memoryPnum Eeprom → ⊥) → start + n ≤ length x
 
 block-ends : (m : Memory) (start n : ℕ) → blockRefusal m start n ≡ 0 → start + n ≤ sizeOf m
-block-ends m start n e = block-fits (sizeOf m) (longestOf m) start n 15 16 (λ q. omega arith) (λ q. omega arith) e .end-inside
+block-ends m start n e = no-fault-fits (sizeOf m) (longestOf m) start n 15 16 (λ q. omega arith) (λ q. omega arith) e .end-inside
 
 named : (p start n : ℕ) (b : Bool) → eqb p (memoryPnum Eeprom) ≡ b
     → cond b (blockRefusal Eeprom start n) (blockRefusal External start n) ≡ 0
@@ -39,9 +39,9 @@ named p start n true h e = let r = block-ends Eeprom start n e in (omega arith, 
 named p start n false h e = (block-ends External start n e, λ q. absurd (eqb-false p (memoryPnum Eeprom) h q))
 
 -- a view that is not refused lies in its memory
-pub viewed : (e x : List ℕ) (p start n : ℕ) → viewStatus e x p start n ≡ 0 → Viewed e x p start n
+pub view-fits : (e x : List ℕ) (p start n : ℕ) → viewStatus e x p start n ≡ 0 → ViewFits e x p start n
 unfolding viewStatus
-viewed e x p start n h =
+view-fits e x p start n h =
     let a = first-taken (eqb (length e) (sizeOf Eeprom)) _ 4 0 (λ q. omega arith) h in
     let b = first-taken (eqb (length x) (sizeOf External)) _ 4 0 (λ q. omega arith) (a .1) in
     let d = first-taken (namesMemory p) _ 10 0 (λ q. omega arith) (b .1) in
@@ -52,27 +52,27 @@ viewed e x p start n h =
 
 module _ (e x : List ℕ) (p start n : ℕ) where
   -- a view that is refused is empty
-  pub view-refused : (viewStatus e x p start n ≡ 0 → ⊥) → viewPart e x p start n ≡ []
-  unfolding viewPart
+  pub view-refused : (viewStatus e x p start n ≡ 0 → ⊥) → viewBytes e x p start n ≡ []
+  unfolding viewBytes
   view-refused h = simp (ne-eqb (viewStatus e x p start n) 0 h)
 
   -- one that is not, with EEPROM's PNUM, is a part of EEPROM
-  pub view-eeprom : viewStatus e x p start n ≡ 0 → p ≡ memoryPnum Eeprom → viewPart e x p start n ≡ slice e start n
-  unfolding viewPart
+  pub view-eeprom : viewStatus e x p start n ≡ 0 → p ≡ memoryPnum Eeprom → viewBytes e x p start n ≡ slice e start n
+  unfolding viewBytes
   view-eeprom z q = simp (z, eq-eqb p (memoryPnum Eeprom) q)
 
   -- with any other, a part of external memory
-  pub view-external : viewStatus e x p start n ≡ 0 → (p ≡ memoryPnum Eeprom → ⊥) → viewPart e x p start n ≡ slice x start n
-  unfolding viewPart
+  pub view-external : viewStatus e x p start n ≡ 0 → (p ≡ memoryPnum Eeprom → ⊥) → viewBytes e x p start n ≡ slice x start n
+  unfolding viewBytes
   view-external z q = simp (z, ne-eqb p (memoryPnum Eeprom) q)
 
   -- it has the length that was asked for
-  pub view-length : viewStatus e x p start n ≡ 0 → length (viewPart e x p start n) ≡ n
+  pub view-length : viewStatus e x p start n ≡ 0 → length (viewBytes e x p start n) ≡ n
   view-length z =
-      let v = viewed e x p start n z in
+      let v = view-fits e x p start n z in
       by-test (eqb p (memoryPnum Eeprom))
-      (λ b. let q : p ≡ memoryPnum Eeprom = eqb-true p (memoryPnum Eeprom) b in rw (view-eeprom z q) (part-length e start n (v .eeprom q)))
-      (λ b. let q : p ≡ memoryPnum Eeprom → ⊥ = eqb-false p (memoryPnum Eeprom) b in rw (view-external z q) (part-length x start n (v .external q)))
+      (λ b. let q : p ≡ memoryPnum Eeprom = eqb-true p (memoryPnum Eeprom) b in rw (view-eeprom z q) (slice-length e start n (v .eeprom q)))
+      (λ b. let q : p ≡ memoryPnum Eeprom → ⊥ = eqb-false p (memoryPnum Eeprom) b in rw (view-external z q) (slice-length x start n (v .external q)))
 
 module _ (e x : RefT (List ℕ)) (p start n : ℕ) where
   -- the empty part of a refused view lies at EEPROM's start

@@ -49,5 +49,5 @@ blockFault size longest start n tooLong outside =
     0))
 
 -- the memory with bytes d from a start; every other byte as it was
-abbrev pub put : List ℕ → ℕ → List ℕ → List ℕ
-put mem start d = take start mem ++ d ++ drop (start + length d) mem
+abbrev pub overwrite : List ℕ → ℕ → List ℕ → List ℕ
+overwrite mem start d = take start mem ++ d ++ drop (start + length d) mem

@@ -8,7 +8,7 @@ use Rattle.dpa.specs.Number.{wordAt}
 use Rattle.dpa.specs.Lists.{slice}
 use Rattle.dpa.specs.Reply.{Reply, reply, refused}
 use Rattle.memory.specs.declared.block.Memory.{Memory}
-use Rattle.memory.specs.Block.{sizeOf, longestOf, addressBytes, readCommand, writeCommand, blockFault, put}
+use Rattle.memory.specs.Block.{sizeOf, longestOf, addressBytes, readCommand, writeCommand, blockFault, overwrite}
 
 -- the address in front of PData, of one byte or of two, low byte first
 unfoldable pub addressOf : ℕ → List ℕ → ℕ
@@ -42,16 +42,16 @@ writeError m pdata =
     (blockError m (startOf m pdata) (length pdata - addressBytes m))
 
 -- an answer, unless there is an error
-abbrev pub unless : {S : Type 0} → ℕ → S → Reply S → Reply S
-unless error s answer = cond (eqb error 0) answer (refused s error)
+abbrev pub replyOrRefused : {S : Type 0} → ℕ → S → Reply S → Reply S
+replyOrRefused error s answer = cond (eqb error 0) answer (refused s error)
 
 unfoldable pub readRequest : Memory → List ℕ → List ℕ → Reply (List ℕ)
 readRequest m pdata mem =
-    unless (readError m pdata) mem (reply mem 0 (slice mem (startOf m pdata) (lengthOf m pdata)))
+    replyOrRefused (readError m pdata) mem (reply mem 0 (slice mem (startOf m pdata) (lengthOf m pdata)))
 
 unfoldable pub writeRequest : Memory → List ℕ → List ℕ → Reply (List ℕ)
 writeRequest m pdata mem =
-    unless (writeError m pdata) mem (reply (put mem (startOf m pdata) (dataOf m pdata)) 0 [])
+    replyOrRefused (writeError m pdata) mem (reply (overwrite mem (startOf m pdata) (dataOf m pdata)) 0 [])
 
 -- a PCMD that is neither: 2
 unfoldable pub memoryRequest : Memory → ℕ → List ℕ → List ℕ → Reply (List ℕ)

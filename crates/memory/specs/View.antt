@@ -29,8 +29,8 @@ viewStatus eeprom external pnum start n =
     4
 
 -- the part that the view names, or an empty part where it is refused
-unfoldable pub viewPart : List ℕ → List ℕ → ℕ → ℕ → ℕ → List ℕ
-viewPart eeprom external pnum start n =
+unfoldable pub viewBytes : List ℕ → List ℕ → ℕ → ℕ → ℕ → List ℕ
+viewBytes eeprom external pnum start n =
     cond (eqb (viewStatus eeprom external pnum start n) 0)
     (cond (eqb pnum (memoryPnum Memory.Eeprom)) (slice eeprom start n) (slice external start n))
     []

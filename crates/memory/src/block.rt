@@ -4,7 +4,7 @@ ghost use mathlib.Core.List.{_++_};
 ghost use Prim.Native.Nat.{_+_, _≤_};
 ghost use lib.ListN.{length, drop};
 ghost use Rattle.dpa.specs.Lists.{slice};
-ghost use Rattle.memory.specs.Block.{sizeOf, longestOf, addressBytes, readCommand, writeCommand, blockFault, put};
+ghost use Rattle.memory.specs.Block.{sizeOf, longestOf, addressBytes, readCommand, writeCommand, blockFault, overwrite};
 
 pub enum Memory {
     Eeprom,
@@ -95,7 +95,7 @@ pub fn copy_out(mem: &[u8], start: usize, count: usize, out: &mut [u8])
 // The bytes of src to mem from a start; every other byte of mem stays.
 pub fn copy_in(mem: &mut [u8], start: usize, src: &[u8])
     requires { ⌜ start + length (now src) ≤ length (now mem) ⌝ }
-    ensures { λ _. ⌜ now (mem .exit) ≡ put (now (mem .entry)) start (now (src .entry)) ⌝ }
+    ensures { λ _. ⌜ now (mem .exit) ≡ overwrite (now (mem .entry)) start (now (src .entry)) ⌝ }
 {
     bytes::copy(src, &mut mem[start..]);
 }

@@ -4,7 +4,7 @@ use crate::block::block_fault;
 use crate::block::size_of;
 ghost use mathlib.Core.Path.{_≡_};
 ghost use denote.Ref.{ptr};
-ghost use Rattle.memory.specs.View.{namesMemory, blockRefusal, viewStatus, viewPart, viewPlace};
+ghost use Rattle.memory.specs.View.{namesMemory, blockRefusal, viewStatus, viewBytes, viewPlace};
 
 // The block rule with the numbers of the view.
 fn block_refusal(memory: Memory, start: usize, count: usize) -> u8
@@ -56,7 +56,7 @@ pub fn view<'a>(
     start: usize,
     count: usize,
 ) -> &'a [u8]
-    ensures { λ r. ⌜ (now r ≡ viewPart (now (eeprom .entry)) (now (external .entry)) pnum start count)
+    ensures { λ r. ⌜ (now r ≡ viewBytes (now (eeprom .entry)) (now (external .entry)) pnum start count)
         × (ptr r ≡ viewPlace (eeprom .entry) (external .entry) pnum start count) ⌝ }
 {
     if view_status(eeprom, external, pnum, start, count) != dpa::refusal::NONE {

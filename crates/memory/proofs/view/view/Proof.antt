@@ -1,8 +1,8 @@
 use native.Mathlib.Omega.{arith}
 use mathlib.Core.Path.{_≡_, sym, _∙_}
 use Rattle.memory.specs.View.{viewStatus}
-use Rattle.memory.proofs.Blocks.{counted}
-use Rattle.memory.proofs.Views.{Viewed, viewed, view-refused, view-eeprom, view-external, place-refused, place-eeprom, place-external}
+use Rattle.memory.proofs.Blocks.{end-minus-start}
+use Rattle.memory.proofs.Views.{ViewFits, view-fits, view-refused, view-eeprom, view-external, place-refused, place-eeprom, place-external}
 use borrow.Author.Needs.{needs}
 use Rattle.memory.proofs.view.view.Statement.{statement}
 use Rattle.memory.proofs.view.view.Tie as tie
@@ -11,11 +11,11 @@ use Rattle.memory.proofs.view.view.Tie as tie
 refused : (c : tie.Then1) → let a = c .before .before .before .before .args in viewStatus (a .eeprom .now) (a .external .now) (a .pnum) (a .start) (a .count) ≡ 0 → ⊥
 refused c q = c .if1 .taken (c .before .view-status .ensures ∙ q)
 
-zero : (c : tie.Else1) → let a = c .before .before .before .before .args in viewStatus (a .eeprom .now) (a .external .now) (a .pnum) (a .start) (a .count) ≡ 0
-zero c = sym (c .before .view-status .ensures) ∙ c .if1 .left
+no-error : (c : tie.Else1) → let a = c .before .before .before .before .args in viewStatus (a .eeprom .now) (a .external .now) (a .pnum) (a .start) (a .count) ≡ 0
+no-error c = sym (c .before .view-status .ensures) ∙ c .if1 .left
 
-known : (c : tie.Else1) → let a = c .before .before .before .before .args in Viewed (a .eeprom .now) (a .external .now) (a .pnum) (a .start) (a .count)
-known c = viewed _ _ _ _ _ (zero c)
+known : (c : tie.Else1) → let a = c .before .before .before .before .args in ViewFits (a .eeprom .now) (a .external .now) (a .pnum) (a .start) (a .count)
+known c = view-fits _ _ _ _ _ (no-error c)
 
 returns : tie.Need-returns
 returns c = (sym (view-refused _ _ _ _ _ (refused (c .before))), sym (place-refused _ _ _ _ _ (refused (c .before))))
@@ -29,7 +29,7 @@ part-result-end-2 c = known (c .before) .eeprom (c .if2 .taken)
 returns-2 : tie.Need-returns-2
 returns-2 c =
     let t = c .before in
-    (rw counted (sym (view-eeprom _ _ _ _ _ (zero (t .before)) (t .if2 .taken))), sym (place-eeprom _ _ _ _ _ (zero (t .before)) (t .if2 .taken)))
+    (rw end-minus-start (sym (view-eeprom _ _ _ _ _ (no-error (t .before)) (t .if2 .taken))), sym (place-eeprom _ _ _ _ _ (no-error (t .before)) (t .if2 .taken)))
 
 sub-result-3 : tie.Need-sub-result-3
 sub-result-3 c = search needs
@@ -40,7 +40,7 @@ part-result-end-3 c = known (c .before) .external (c .if2 .left)
 returns-3 : tie.Need-returns-3
 returns-3 c =
     let l = c .before in
-    (rw counted (sym (view-external _ _ _ _ _ (zero (l .before)) (l .if2 .left))), sym (place-external _ _ _ _ _ (zero (l .before)) (l .if2 .left)))
+    (rw end-minus-start (sym (view-external _ _ _ _ _ (no-error (l .before)) (l .if2 .left))), sym (place-external _ _ _ _ _ (no-error (l .before)) (l .if2 .left)))
 
 pub view-spec : {M : Type 1} → statement M
 view-spec =

@@ -3,8 +3,8 @@ ghost use mathlib.Core.Path.{_≡_};
 ghost use mathlib.Core.Bool.{true};
 ghost use Prim.Native.Nat.{_≤_};
 ghost use lib.ListN.{length, drop};
-ghost use Rattle.lights.specs.Lights.{powerOk, timeOk, secondsOf, change, firstEntry, isValid, powerEntries, isGood};
-ghost use Rattle.lights.specs.declared.entry.PowerEntry.the-variants.{Valid};
+ghost use Rattle.lights.specs.Lights.{powerOk, timeOk, secondsOf, change, firstPowerEntry, isValid, powerEntries, areValid};
+ghost use Rattle.lights.specs.declared.power.PowerEntry.the-variants.{Valid};
 
 // The power that keeps a lamp as it is.
 pub const KEEP: u8 = 127;
@@ -22,7 +22,7 @@ pub enum PowerEntry {
 }
 
 // What a valid entry asks of its lamp, and how many bytes it takes.
-pub struct SizedChange {
+pub struct ValidPowerEntry {
     pub power: u8,
     pub seconds: u16,
     pub size: usize,
@@ -53,8 +53,8 @@ fn seconds_of(time: u8) -> u16
 }
 
 // The entry that starts at a place of the bytes.
-fn entry_at(src: &[u8], at: usize) -> PowerEntry
-    ensures { λ r. ⌜ r ≡ firstEntry (drop at (now (src .entry))) ⌝ }
+fn power_entry_at(src: &[u8], at: usize) -> PowerEntry
+    ensures { λ r. ⌜ r ≡ firstPowerEntry (drop at (now (src .entry))) ⌝ }
 {
     if src.len() <= at {
         return PowerEntry::Invalid;
@@ -80,14 +80,14 @@ fn entry_at(src: &[u8], at: usize) -> PowerEntry
 }
 
 // Whether n valid entries stand behind the four bitmap bytes, and no byte behind them.
-pub fn entries_ok(src: &[u8], n: usize) -> bool
+pub fn power_entries_ok(src: &[u8], n: usize) -> bool
     requires { ⌜ 4 ≤ length (now src) ⌝ }
-    ensures { λ r. ⌜ r ≡ isGood (powerEntries n (drop 4 (now (src .entry)))) ⌝ }
+    ensures { λ r. ⌜ r ≡ areValid (powerEntries n (drop 4 (now (src .entry)))) ⌝ }
 {
     let mut at: usize = 4;
     let mut k: usize = 0;
     while k < n {
-        let PowerEntry::Valid(change, size) = entry_at(src, at) else {
+        let PowerEntry::Valid(change, size) = power_entry_at(src, at) else {
             return false;
         };
         at = at + size;
@@ -97,14 +97,14 @@ pub fn entries_ok(src: &[u8], n: usize) -> bool
 }
 
 // The entry that starts at a place, once it is known to be valid.
-pub fn change_at(src: &[u8], at: usize) -> SizedChange
-    requires { ⌜ isValid (firstEntry (drop at (now src))) ≡ true ⌝ }
-    ensures { λ r. ⌜ firstEntry (drop at (now (src .entry))) ≡ Valid (change (r .power) (r .seconds)) (r .size) ⌝ }
+pub fn valid_power_entry_at(src: &[u8], at: usize) -> ValidPowerEntry
+    requires { ⌜ isValid (firstPowerEntry (drop at (now src))) ≡ true ⌝ }
+    ensures { λ r. ⌜ firstPowerEntry (drop at (now (src .entry))) ≡ Valid (change (r .power) (r .seconds)) (r .size) ⌝ }
 {
     let byte = src[at];
     let power = byte % 128;
     if byte < 128 {
-        return SizedChange {
+        return ValidPowerEntry {
             power,
             seconds: 0,
             size: 1,
@@ -113,7 +113,7 @@ pub fn change_at(src: &[u8], at: usize) -> SizedChange
     let next = at + 1;
     let time = src[next];
     let seconds = seconds_of(time);
-    SizedChange {
+    ValidPowerEntry {
         power,
         seconds,
         size: 2,
