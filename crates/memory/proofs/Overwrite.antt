@@ -1,4 +1,4 @@
--- Laws of written blocks, place by place and byte by byte.
+-- Laws of an overwritten block: its length, and each of its bytes.
 use mathlib.Core.Path.{_≡_, sym, ap, _∙_}
 use mathlib.Core.List.{List, [], _∷_, _++_, append-assoc}
 use Prim.Native.Nat.{ℕ, _+_, _≤_, _<_}
@@ -8,15 +8,15 @@ use lib.ListN.{length, take, drop, getD, set, length-append, length-set, List·g
 use lib.Seq.{sets, sets-eq, length-sets, length-take-le, getD-append-add, getD-take, getD-drop}
 use Rattle.memory.specs.Block.{overwrite}
 
--- a block that lies in the memory is stored byte by byte
+-- a block inside the memory is written byte by byte
 pub overwrite-sets : (mem : List ℕ) (start : ℕ) (d : List ℕ) → start + length d ≤ length mem → overwrite mem start d ≡ sets mem start d
 overwrite-sets mem start d h = sym (sets-eq d mem start h)
 
--- one byte
+-- a block of one byte
 pub overwrite-one : (mem : List ℕ) (start v : ℕ) → start < length mem → overwrite mem start (v ∷ []) ≡ set mem start v
 overwrite-one mem start v h = overwrite-sets mem start (v ∷ []) (omega arith)
 
--- the first byte, then the others
+-- the first byte is written, then the others
 pub overwrite-more : (mem : List ℕ) (start v : ℕ) (d : List ℕ) → start + length (v ∷ d) ≤ length mem
     → overwrite mem start (v ∷ d) ≡ overwrite (set mem start v) (start + 1) d
 overwrite-more mem start v d h =
@@ -31,7 +31,7 @@ module _ (mem : List ℕ) (start : ℕ) (d : List ℕ) (h : start + length d ≤
   front-length : length (take start mem) ≡ start
   front-length = length-take-le start mem (omega arith)
 
-  -- inside the block stands the data
+  -- inside the block the memory has the data
   pub overwrite-inside : (i : ℕ) → i < length d → getD (overwrite mem start d) (start + i) 0 ≡ getD d i 0
   overwrite-inside i l =
       rw append-assoc
@@ -39,12 +39,13 @@ module _ (mem : List ℕ) (start : ℕ) (d : List ℕ) (h : start + length d ≤
       ∙ getD-append-add (take start mem) (d ++ drop (start + length d) mem) i 0
       ∙ List·getD-append d (drop (start + length d) mem) 0 i l)
 
-  -- in front of the block and behind it every byte stays
+  -- before the block every byte is unchanged
   pub overwrite-before : (i : ℕ) → i < start → getD (overwrite mem start d) i 0 ≡ getD mem i 0
   overwrite-before i l =
       let k : i < length (take start mem) = rw front-length l in
       rw append-assoc (List·getD-append (take start mem) (d ++ drop (start + length d) mem) 0 i k ∙ getD-take start mem i 0 l)
 
+  -- and so it is after the block
   pub overwrite-after : (i : ℕ) → getD (overwrite mem start d) (start + length d + i) 0 ≡ getD mem (start + length d + i) 0
   overwrite-after i =
       let k : length (take start mem ++ d) ≡ start + length d = rw (length-append, front-length) in

@@ -20,46 +20,53 @@ use Rattle.memory.proofs.Blocks.{BlockFits, no-fault-fits, fits-no-faul
 use Rattle.memory.proofs.Overwrite.{overwrite-length}
 
 module _ (m : Memory) (p : List ℕ) where
+  -- an accepted read: PData has its length, and the block fits
   abbrev pub ReadFits : Type 0
   ReadFits = (length p ≡ addressBytes m + 1) × BlockFits (sizeOf m) (longestOf m) (startOf m p) (lengthOf m p)
 
+  -- an accepted write
   abbrev pub WriteFits : Type 0
   WriteFits = (addressBytes m < length p) × BlockFits (sizeOf m) (longestOf m) (startOf m p) (length p - addressBytes m)
 
+  -- a read without an error is accepted
   pub read-fits : readError m p ≡ 0 → ReadFits
   unfolding readError
   read-fits e =
       let a = first-taken (eqb (length p) (addressBytes m + 1)) _ 5 0 (λ q. omega arith) e in
       (eqb-true _ _ (a .0), no-fault-fits (sizeOf m) (longestOf m) (startOf m p) (lengthOf m p) 5 4 (λ q. omega arith) (λ q. omega arith) (a .1))
 
+  -- a write without an error is accepted
   pub write-fits : writeError m p ≡ 0 → WriteFits
   unfolding writeError
   write-fits e =
       let a = second-taken (leb (length p) (addressBytes m)) 5 _ 0 (λ q. omega arith) e in
       (leb-false _ _ (a .0), no-fault-fits (sizeOf m) (longestOf m) (startOf m p) (length p - addressBytes m) 5 4 (λ q. omega arith) (λ q. omega arith) (a .1))
 
-  -- what the tests of the code have found is the error
+  -- the error in the form of the code's tests
   pub read-error-by-tests : (w r a n : ℕ) → w ≡ addressBytes m → length p ≡ w + 1 → a ≡ addressOf w p → n ≡ getD p w 0
       → r ≡ blockError m a n → r ≡ readError m p
   unfolding readError
   read-error-by-tests w r a n ew l ea en er = simp (← ew, eq-eqb (length p) (w + 1) l, ← ea, ← en) er
 
+  -- and that of a write
   pub write-error-by-tests : (w r a : ℕ) → w ≡ addressBytes m → w < length p → a ≡ addressOf w p
       → r ≡ blockError m a (length p - w) → r ≡ writeError m p
   unfolding writeError
   write-error-by-tests w r a ew l ea er = simp (← ew, lt-leb (length p) w l, ← ea) er
 
   module _ (mem : List ℕ) where
-    -- an error: nothing written
+    -- a refused read writes nothing
     pub read-refused : (out : List ℕ) (e : ℕ) → e ≡ readError m p → (e ≡ 0 → ⊥) → replySeen mem e 0 out ≡ replyInBuffer (readRequest m p mem) out
     unfolding readRequest
     read-refused out e q h = simp (← q, ne-eqb e 0 h)
 
+    -- nor does a refused write
     pub write-refused : (out : List ℕ) (e : ℕ) → e ≡ writeError m p → (e ≡ 0 → ⊥) → replySeen mem e 0 out ≡ replyInBuffer (writeRequest m p mem) out
     unfolding writeRequest
     write-refused out e q h = simp (← q, ne-eqb e 0 h)
 
     module _ (w a n : ℕ) (size : length mem ≡ sizeOf m) (z : readError m p ≡ 0) (ew : w ≡ addressBytes m) (ea : a ≡ addressOf w p) (en : n ≡ getD p w 0) where
+      -- the block read lies inside the memory and is no longer than EEPROM's longest
       pub read-inside : (a + n ≤ length mem) × (n ≤ longestOf Eeprom)
       read-inside =
           let f = read-fits z .1 in
@@ -67,17 +74,20 @@ module _ (m : Memory) (p : List ℕ) where
           let l : n ≡ lengthOf m p = en ∙ ap (λ (k : ℕ). getD p k 0) ew in
           (omega (arith, f .end-inside), omega (arith, f .length-max, longest-max m))
 
+      -- the copied block is the reply
       pub read-reply : (out last : List ℕ) → last ≡ slice mem a n ++ drop n out → replySeen mem 0 n last ≡ replyInBuffer (readRequest m p mem) out
       unfolding readRequest
       read-reply out last el = rw (z, ← ew, ← ea, ← en, slice-length mem a n (read-inside .0), el)
 
     module _ (w a : ℕ) (z : writeError m p ≡ 0) (ew : w ≡ addressBytes m) (ea : a ≡ addressOf w p) where
+      -- the block written lies inside the memory
       pub write-inside : length mem ≡ sizeOf m → a + (length p - w) ≤ length mem
       write-inside size =
           let f = write-fits z .1 in
           let s : a ≡ startOf m p = ea ∙ ap (λ (k : ℕ). addressOf k p) ew in
           omega (arith, f .end-inside)
 
+      -- the overwritten memory is the reply
       pub write-reply : (out last : List ℕ) → last ≡ overwrite mem a (take (length p - w) (drop w p)) → replySeen last 0 0 out ≡ replyInBuffer (writeRequest m p mem) out
       unfolding writeRequest
       write-reply out last el = rw (z, ← ew, ← ea, el, to-end w p)
@@ -89,7 +99,7 @@ commands-differ Memory.Ram = refl
 commands-differ Memory.External = refl
 
 module _ (m : Memory) (p mem : List ℕ) where
-  -- what a request without a fault does
+  -- the reply to an accepted read
   pub read-accepted : ReadFits m p → memoryRequest m (readCommand m) p mem ≡ reply mem 0 (slice mem (startOf m p) (lengthOf m p))
   unfolding memoryRequest readRequest readError
   read-accepted f =
@@ -99,6 +109,7 @@ module _ (m : Memory) (p mem : List ℕ) where
         fits-no-fault (sizeOf m) (longestOf m) (startOf m p) (lengthOf m p) 5 4 (f .1),
       )
 
+  -- the reply to an accepted write
   pub write-accepted : WriteFits m p → memoryRequest m (writeCommand m) p mem ≡ reply (overwrite mem (startOf m p) (dataOf m p)) 0 []
   unfolding memoryRequest writeRequest writeError
   write-accepted f =
@@ -110,7 +121,7 @@ module _ (m : Memory) (p mem : List ℕ) where
       )
 
   module _ (pcmd : ℕ) where
-    -- what holds of a read, of a write and of every error holds of a request
+    -- a request is an accepted read, an accepted write or an error
     pub request-cases : (P : Reply (List ℕ) → Type 0)
         → (readError m p ≡ 0 → P (reply mem 0 (slice mem (startOf m p) (lengthOf m p))))
         → (writeError m p ≡ 0 → P (reply (overwrite mem (startOf m p) (dataOf m p)) 0 []))
@@ -124,11 +135,11 @@ module _ (m : Memory) (p mem : List ℕ) where
         (λ r. by-cond P (eqb (writeError m p) 0) _ _ (λ z. writes (eqb-true _ _ z)) (λ z. errors _))
         (λ r. errors 2))
 
-    -- a request with an error leaves the memory and answers no data
+    -- a request with an error leaves the memory and returns no data
     pub request-harmless : Harmless mem (memoryRequest m pcmd p mem)
     request-harmless = request-cases (λ (x : Reply (List ℕ)). Harmless mem x) (λ z h. absurd (h refl)) (λ z h. absurd (h refl)) (λ e h. (refl, refl))
 
-    -- a memory keeps its length
+    -- a request keeps the memory's length
     pub request-length : length mem ≡ sizeOf m → length (memoryRequest m pcmd p mem .after) ≡ length mem
     request-length size =
         request-cases (λ (x : Reply (List ℕ)). length (x .after) ≡ length mem)
@@ -136,7 +147,7 @@ module _ (m : Memory) (p mem : List ℕ) where
         (λ z. overwrite-length mem (startOf m p) (dataOf m p) (rw length-drop (omega (arith, write-fits m p z .1 .end-inside))))
         (λ e. refl)
 
-    -- an answer is no longer than the memory's longest block
+    -- response data is no longer than the memory's longest block
     pub request-longest : length (memoryRequest m pcmd p mem .bytes) ≤ longestOf m
     request-longest =
         request-cases (λ (x : Reply (List ℕ)). length (x .bytes) ≤ longestOf m)
@@ -144,11 +155,11 @@ module _ (m : Memory) (p mem : List ℕ) where
         (λ z. omega arith)
         (λ e. omega arith)
 
-    -- so that it fits a response
+    -- so it fits in a response
     pub request-max : length (memoryRequest m pcmd p mem .bytes) ≤ pdataMax
     request-max = omega (arith, request-longest, longest-max m)
 
--- a write at an address of one byte
+-- an accepted write with a one-byte address
 pub write-byte-address : (m : Memory) (mem : List ℕ) (a : ℕ) (d : List ℕ) → addressBytes m ≡ 1 → 0 < length d
     → BlockFits (sizeOf m) (longestOf m) a (length d)
     → memoryRequest m (writeCommand m) (a ∷ d) mem ≡ reply (overwrite mem a d) 0 []

@@ -1,3 +1,4 @@
+-- `block::copy_in` meets its contract: the memory once the lent slice is back.
 use Rattle.memory.proofs.Blocks.{copy-in-result}
 use borrow.Author.Needs.{needs}
 use Rattle.memory.proofs.block.copy_in.Statement.{statement}

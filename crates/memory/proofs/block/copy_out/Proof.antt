@@ -1,3 +1,4 @@
+-- `block::copy_out` meets its contract: the slice, then the rest of out.
 use mathlib.Core.Path.{_∙_}
 use Rattle.memory.proofs.Blocks.{copy-out-result}
 use borrow.Author.Needs.{needs}

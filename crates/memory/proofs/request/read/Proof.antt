@@ -1,3 +1,4 @@
+-- `request::read` meets its contract: an accepted block lies inside the memory.
 use mathlib.Core.Path.{_≡_, sym, _∙_}
 use native.Mathlib.Omega.{arith}
 use Rattle.memory.specs.Request.{readError}
@@ -6,8 +7,11 @@ use borrow.Author.Needs.{needs}
 use Rattle.memory.proofs.request.read.Statement.{statement}
 use Rattle.memory.proofs.request.read.Tie as tie
 
--- past the test there is no error
-no-error : (c : tie.Else1) → let a = c .before .before .before .before .before .args in readError (a .memory) (a .pdata .now) ≡ 0
+abbrev start : tie.Else1 → tie.Start
+start c = c .before .before .before .before .before
+
+-- after the test there is no error
+no-error : (c : tie.Else1) → let a = start c .args in readError (a .memory) (a .pdata .now) ≡ 0
 no-error c = sym (c .before .read-error .ensures) ∙ c .if1 .left
 
 returns : tie.Need-returns
@@ -23,15 +27,22 @@ shared-slice-read-wide c = omega (arith, read-fits _ _ (no-error (c .before .bef
 
 copy-out-requires : tie.Need-copy-out-requires
 copy-out-requires c κs =
-    let a = c .before .before .before .before .before .before .before .before .before .before .args in
-    let k = read-inside (a .memory) (a .pdata .now) (a .mem .now) _ _ _ (c .before .before .before .before .before .before .before .before .before .before .pre .0) (no-error (c .before .before .before .before .before)) (c .before .before .before .before .address-bytes .ensures .0) (c .before .before .before .address .ensures) (c .before .wide .ensures .0) in
+    let w = c .before in
+    let b = w .before .before .before in
+    let s = start (b .before) in
+    let k = read-inside (s .args .memory) (s .args .pdata .now) (s .args .mem .now) _ _ _ (s .pre .0)
+    (no-error (b .before)) (b .address-bytes .ensures .0) (w .before .before .address .ensures) (w .wide .ensures .0) in
     (k .0, omega (arith, k .1))
 
 returns-2 : tie.Need-returns-2
 returns-2 c =
-    let a = c .before .before .before .before .before .before .before .before .before .before .before .before .before .args in
-    read-reply (a .memory) (a .pdata .now) (a .mem .now) _ _ _ (c .before .before .before .before .before .before .before .before .before .before .before .before .before .pre .0) (no-error (c .before .before .before .before .before .before .before .before)) (c .before .before .before .before .before .before .before .address-bytes .ensures .0) (c .before .before .before .before .before .before .address .ensures) (c .before .before .before .before .wide .ensures .0)
-    (a .out .now) _ (c .before .before .copy-out .ensures)
+    let o = c .before .before in
+    let w = o .before .before in
+    let b = w .before .before .before in
+    let s = start (b .before) in
+    read-reply (s .args .memory) (s .args .pdata .now) (s .args .mem .now) _ _ _ (s .pre .0)
+    (no-error (b .before)) (b .address-bytes .ensures .0) (w .before .before .address .ensures) (w .wide .ensures .0)
+    (s .args .out .now) _ (o .copy-out .ensures)
 
 pub read-spec : {M : Type 1} → statement M
 read-spec =

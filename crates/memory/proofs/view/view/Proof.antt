@@ -1,3 +1,4 @@
+-- `view::view` meets its contract: the bytes of the slice, and where it starts.
 use native.Mathlib.Omega.{arith}
 use mathlib.Core.Path.{_≡_, sym, _∙_}
 use Rattle.memory.specs.View.{viewStatus}
@@ -7,24 +8,24 @@ use borrow.Author.Needs.{needs}
 use Rattle.memory.proofs.view.view.Statement.{statement}
 use Rattle.memory.proofs.view.view.Tie as tie
 
--- the first test finds the refused views, and past it the view is not
+-- the first test returns for exactly the refused views
 refused : (c : tie.Then1) → let a = c .before .before .before .before .args in viewStatus (a .eeprom .now) (a .external .now) (a .pnum) (a .start) (a .count) ≡ 0 → ⊥
 refused c q = c .if1 .taken (c .before .view-status .ensures ∙ q)
 
 no-error : (c : tie.Else1) → let a = c .before .before .before .before .args in viewStatus (a .eeprom .now) (a .external .now) (a .pnum) (a .start) (a .count) ≡ 0
 no-error c = sym (c .before .view-status .ensures) ∙ c .if1 .left
 
-known : (c : tie.Else1) → let a = c .before .before .before .before .args in ViewFits (a .eeprom .now) (a .external .now) (a .pnum) (a .start) (a .count)
-known c = view-fits _ _ _ _ _ (no-error c)
+inside : (c : tie.Else1) → let a = c .before .before .before .before .args in ViewFits (a .eeprom .now) (a .external .now) (a .pnum) (a .start) (a .count)
+inside c = view-fits _ _ _ _ _ (no-error c)
 
 returns : tie.Need-returns
 returns c = (sym (view-refused _ _ _ _ _ (refused (c .before))), sym (place-refused _ _ _ _ _ (refused (c .before))))
 
 add-end : tie.Need-add-end
-add-end c = omega (arith, known c .fits)
+add-end c = omega (arith, inside c .end-max)
 
 part-result-end-2 : tie.Need-part-result-end-2
-part-result-end-2 c = known (c .before) .eeprom (c .if2 .taken)
+part-result-end-2 c = inside (c .before) .eeprom (c .if2 .taken)
 
 returns-2 : tie.Need-returns-2
 returns-2 c =
@@ -35,7 +36,7 @@ sub-result-3 : tie.Need-sub-result-3
 sub-result-3 c = search needs
 
 part-result-end-3 : tie.Need-part-result-end-3
-part-result-end-3 c = known (c .before) .external (c .if2 .left)
+part-result-end-3 c = inside (c .before) .external (c .if2 .left)
 
 returns-3 : tie.Need-returns-3
 returns-3 c =
