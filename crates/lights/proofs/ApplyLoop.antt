@@ -141,7 +141,7 @@ module _ {s : Settings} {c : Command} {mask : ℕ} {src : List ℕ} {ls : List L
         pub apply-pdata-room : at + size ≤ length src
         apply-pdata-room = omega (arith, w .at-max, first-room src at e size q)
 
-        entries-next : entriesFrom src i m at ≡ prepend (e ∷ []) (entriesFrom src (i + 1) (m / 2) (at + size))
+        entries-next : entriesFrom src i m at ≡ prepend e (entriesFrom src (i + 1) (m / 2) (at + size))
         entries-next = entries-first ∙ rw (q, drop-drop)
 
         next-valid : areValid (entriesFrom src (i + 1) (m / 2) (at + size)) ≡ true

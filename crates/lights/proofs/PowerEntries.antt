@@ -90,11 +90,11 @@ not-valid-malformed (allValid es) g = let z : _≡_ {A = ℕ} 0 1 = cc in absurd
 not-valid-malformed malformed g = refl
 
 -- an entry in front
-pub valid-prepend : (e : LampChange) (r : PowerEntries) → areValid (prepend (e ∷ []) r) ≡ areValid r
+pub valid-prepend : (e : LampChange) (r : PowerEntries) → areValid (prepend e r) ≡ areValid r
 valid-prepend e (allValid es) = refl
 valid-prepend e malformed = refl
 
-pub changes-prepend : (e : LampChange) (r : PowerEntries) → areValid r ≡ true → changesOf (prepend (e ∷ []) r) ≡ e ∷ changesOf r
+pub changes-prepend : (e : LampChange) (r : PowerEntries) → areValid r ≡ true → changesOf (prepend e r) ≡ e ∷ changesOf r
 changes-prepend e (allValid es) g = refl
 changes-prepend e malformed g = let z : _≡_ {A = ℕ} 0 1 = cc in absurd (omega arith)
 
@@ -169,7 +169,7 @@ power-entries-each Q q (suc n) xs es w h = go (λ size fs. power-entries-each Q 
     each e fs a r zero = a
     each e fs a r (suc i) = r .1 i
 
-    rest : Later → (e : LampChange) (size : ℕ) (r : PowerEntries) → firstPowerEntry xs ≡ Valid e size → powerEntries n (drop size xs) ≡ r → prepend (e ∷ []) r ≡ allValid es → Each (suc n) es
+    rest : Later → (e : LampChange) (size : ℕ) (r : PowerEntries) → firstPowerEntry xs ≡ Valid e size → powerEntries n (drop size xs) ≡ r → prepend e r ≡ allValid es → Each (suc n) es
     rest ih e size malformed f g p = let z : _≡_ {A = ℕ} 0 1 = cc in absurd (omega arith)
     rest ih e size (allValid fs) f g p =
         let k : es ≡ e ∷ fs = cc in

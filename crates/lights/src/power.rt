@@ -1,27 +1,35 @@
-// The entries of a request: a power byte each and, if its bit 7 is set, a time byte.
+// The power entries of a request: a power byte each, followed by a time byte if bit 7 is set.
+use crate::lamp::MAX_LEVEL;
 ghost use mathlib.Core.Path.{_≡_};
 ghost use mathlib.Core.Bool.{true};
 ghost use Prim.Native.Nat.{_≤_};
 ghost use lib.ListN.{length, drop};
+ghost use Rattle.lights.specs.Bits.{bitmapSize};
 ghost use Rattle.lights.specs.Lights.{powerOk, timeOk, secondsOf, change, firstPowerEntry, isValid, powerEntries, areValid};
 ghost use Rattle.lights.specs.declared.power.PowerEntry.the-variants.{Valid};
 
-// The power that keeps a lamp as it is.
+// The size of the bitmap at the front of PData; the power entries follow it.
+pub const BITMAP_SIZE: usize = 4;
+
+// The power that leaves a lamp unchanged.
 pub const KEEP: u8 = 127;
 
-// What an entry asks of its lamp. Without a time byte the seconds are 0.
+// In a power byte: a time byte follows. In a time byte: the low bits are seconds, not minutes.
+const BIT_7: u8 = 0x80;
+
+// What a power entry changes. Without a time byte the seconds are 0.
 pub struct LampChange {
     pub power: u8,
     pub seconds: u16,
 }
 
-// An entry and how many bytes it takes, or none that is valid.
+// A parsed power entry with its size in bytes, or Invalid.
 pub enum PowerEntry {
     Valid(LampChange, usize),
     Invalid,
 }
 
-// What a valid entry asks of its lamp, and how many bytes it takes.
+// A valid power entry and its size in bytes.
 pub struct ValidPowerEntry {
     pub power: u8,
     pub seconds: u16,
@@ -31,7 +39,7 @@ pub struct ValidPowerEntry {
 fn power_ok(power: u8) -> bool
     ensures { λ r. ⌜ r ≡ powerOk power ⌝ }
 {
-    if power <= 100 {
+    if power <= MAX_LEVEL {
         return true;
     }
     power == KEEP
@@ -40,19 +48,20 @@ fn power_ok(power: u8) -> bool
 fn time_ok(time: u8) -> bool
     ensures { λ r. ⌜ r ≡ timeOk time ⌝ }
 {
-    time % 128 != 0
+    time % BIT_7 != 0
 }
 
+// Seconds of a time byte: minutes if bit 7 is clear, else seconds.
 fn seconds_of(time: u8) -> u16
     ensures { λ r. ⌜ r ≡ secondsOf time ⌝ }
 {
-    if time < 128 {
+    if time < BIT_7 {
         return 60 * (time as u16);
     }
-    (time % 128) as u16
+    (time % BIT_7) as u16
 }
 
-// The entry that starts at a place of the bytes.
+// Parses the power entry at an index.
 fn power_entry_at(src: &[u8], at: usize) -> PowerEntry
     ensures { λ r. ⌜ r ≡ firstPowerEntry (drop at (now (src .entry))) ⌝ }
 {
@@ -60,11 +69,11 @@ fn power_entry_at(src: &[u8], at: usize) -> PowerEntry
         return PowerEntry::Invalid;
     }
     let byte = src[at];
-    let power = byte % 128;
+    let power = byte % BIT_7;
     if !power_ok(power) {
         return PowerEntry::Invalid;
     }
-    if byte < 128 {
+    if byte < BIT_7 {
         return PowerEntry::Valid(LampChange { power, seconds: 0 }, 1);
     }
     let next = at + 1;
@@ -79,12 +88,12 @@ fn power_entry_at(src: &[u8], at: usize) -> PowerEntry
     PowerEntry::Valid(LampChange { power, seconds }, 2)
 }
 
-// Whether n valid entries stand behind the four bitmap bytes, and no byte behind them.
+// Whether the bitmap is followed by exactly n valid power entries and nothing else.
 pub fn power_entries_ok(src: &[u8], n: usize) -> bool
-    requires { ⌜ 4 ≤ length (now src) ⌝ }
-    ensures { λ r. ⌜ r ≡ areValid (powerEntries n (drop 4 (now (src .entry)))) ⌝ }
+    requires { ⌜ bitmapSize ≤ length (now src) ⌝ }
+    ensures { λ r. ⌜ r ≡ areValid (powerEntries n (drop bitmapSize (now (src .entry)))) ⌝ }
 {
-    let mut at: usize = 4;
+    let mut at: usize = BITMAP_SIZE;
     let mut k: usize = 0;
     while k < n {
         let PowerEntry::Valid(change, size) = power_entry_at(src, at) else {
@@ -96,14 +105,14 @@ pub fn power_entries_ok(src: &[u8], n: usize) -> bool
     at == src.len()
 }
 
-// The entry that starts at a place, once it is known to be valid.
+// The power entry at an index where a valid one is known to start.
 pub fn valid_power_entry_at(src: &[u8], at: usize) -> ValidPowerEntry
     requires { ⌜ isValid (firstPowerEntry (drop at (now src))) ≡ true ⌝ }
     ensures { λ r. ⌜ firstPowerEntry (drop at (now (src .entry))) ≡ Valid (change (r .power) (r .seconds)) (r .size) ⌝ }
 {
     let byte = src[at];
-    let power = byte % 128;
-    if byte < 128 {
+    let power = byte % BIT_7;
+    if byte < BIT_7 {
         return ValidPowerEntry {
             power,
             seconds: 0,
