@@ -23,11 +23,12 @@ pub status-sized : (e x : List ℕ) (p start n : ℕ) → length e ≡ sizeOf Ee
 unfolding viewStatus
 status-sized e x p start n le lx = rw (eq-eqb (length e) (sizeOf Eeprom) le, eq-eqb (length x) (sizeOf External) lx)
 
--- an accepted view lies inside its memory
+-- the facts of an accepted view: both memories have their size, and the slice lies inside the one it is taken from
 pub record ViewFits (e x : List ℕ) (p start n : ℕ) : Type 0 where
+  pub eeprom-size : length e ≡ sizeOf Eeprom
+  pub external-size : length x ≡ sizeOf External
+  pub in-eeprom : p ≡ memoryPnum Eeprom → start + n ≤ sizeOf Eeprom
   pub end-max : start + n ≤ sizeOf External
-  pub eeprom : p ≡ memoryPnum Eeprom → start + n ≤ length e
-  pub external : (p ≡ memoryPnum Eeprom → ⊥) → start + n ≤ length x
 
 block-ends : (m : Memory) (start n : ℕ) → blockRefusal m start n ≡ 0 → start + n ≤ sizeOf m
 block-ends m start n e = no-fault-fits (sizeOf m) (longestOf m) start n 15 16 (λ q. omega arith) (λ q. omega arith) e .end-inside
@@ -46,10 +47,8 @@ unfolding viewStatus
 view-fits e x p start n h =
     let a = first-taken (eqb (length e) (sizeOf Eeprom)) _ 4 0 (λ q. omega arith) h in
     let b = first-taken (eqb (length x) (sizeOf External)) _ 4 0 (λ q. omega arith) (a .1) in
-    let le : length e ≡ sizeOf Eeprom = eqb-true _ _ (a .0) in
-    let lx : length x ≡ sizeOf External = eqb-true _ _ (b .0) in
     let k = by-pnum p start n (eqb p (memoryPnum Eeprom)) refl (b .1) in
-    record { end-max = k .0; eeprom = λ q. let r = k .1 q in omega arith; external = λ q. let r = k .0 in omega arith }
+    record { eeprom-size = eqb-true _ _ (a .0); external-size = eqb-true _ _ (b .0); in-eeprom = k .1; end-max = k .0 }
 
 module _ (e x : List ℕ) (p start n : ℕ) where
   -- a refused view is empty
@@ -72,8 +71,8 @@ module _ (e x : List ℕ) (p start n : ℕ) where
   view-length z =
       let v = view-fits e x p start n z in
       by-test (eqb p (memoryPnum Eeprom))
-      (λ b. let q : p ≡ memoryPnum Eeprom = eqb-true p (memoryPnum Eeprom) b in rw (view-eeprom z q) (slice-length e start n (v .eeprom q)))
-      (λ b. let q : p ≡ memoryPnum Eeprom → ⊥ = eqb-false p (memoryPnum Eeprom) b in rw (view-external z q) (slice-length x start n (v .external q)))
+      (λ b. let q : p ≡ memoryPnum Eeprom = eqb-true p (memoryPnum Eeprom) b in rw (view-eeprom z q) (slice-length e start n (omega (arith, v .eeprom-size, v .in-eeprom q))))
+      (λ b. let q : p ≡ memoryPnum Eeprom → ⊥ = eqb-false p (memoryPnum Eeprom) b in rw (view-external z q) (slice-length x start n (omega (arith, v .external-size, v .end-max))))
 
 module _ (e x : RefT (List ℕ)) (p start n : ℕ) where
   -- a refused view returns a slice at the start of EEPROM
