@@ -16,37 +16,37 @@ use Rattle.lights.specs.Lights.{lampAfter, lampsAfter, levelsBefore}
 use Rattle.lights.proofs.Bits.{bits-more}
 use Rattle.lights.specs.declared.apply.Command.{Command}
 use Rattle.lights.specs.declared.lamp.Lamp.{Lamp}
-use Rattle.lights.specs.declared.entry.LampChange.{LampChange}
+use Rattle.lights.specs.declared.power.LampChange.{LampChange}
 
 module _ (c : Command) (n : ℕ) where
   -- the lamps below i as they are, and those from i on after the entries es that are left
-  abbrev pub from : ℕ → ℕ → List LampChange → List Lamp → List Lamp
-  from i m es ls = take i ls ++ lampsAfter c (n - i) (bits (32 - i) m) es (drop i ls)
+  abbrev pub lampsFrom : ℕ → ℕ → List LampChange → List Lamp → List Lamp
+  lampsFrom i m es ls = take i ls ++ lampsAfter c (n - i) (bits (32 - i) m) es (drop i ls)
 
   -- a lamp that is not selected
-  pub from-skip : (i m : ℕ) (es : List LampChange) (ls : List Lamp) → i < 32 → length ls ≡ 32 → m % 2 ≡ 0 → from i m es ls ≡ from (i + 1) (m / 2) es ls
+  pub lamps-from-skip : (i m : ℕ) (es : List LampChange) (ls : List Lamp) → i < 32 → length ls ≡ 32 → m % 2 ≡ 0 → lampsFrom i m es ls ≡ lampsFrom (i + 1) (m / 2) es ls
   unfolding lampsAfter
-  from-skip i m es ls h l z =
+  lamps-from-skip i m es ls h l z =
       let w : i < length ls = omega arith in
       let s : (n - i) - 1 ≡ n - suc i = omega arith in
       rw (bits-more i m h, z, drop-cons ls i off, s, add-one, take-suc ls i off, append-snoc)
 
   -- a selected lamp that is not implemented
-  pub from-idle : (i m : ℕ) (e : LampChange) (es : List LampChange) (ls : List Lamp) → i < 32 → length ls ≡ 32 → m % 2 ≡ 1 → n ≤ i
-      → from i m (e ∷ es) ls ≡ from (i + 1) (m / 2) es ls
+  pub lamps-from-unimplemented : (i m : ℕ) (e : LampChange) (es : List LampChange) (ls : List Lamp) → i < 32 → length ls ≡ 32 → m % 2 ≡ 1 → n ≤ i
+      → lampsFrom i m (e ∷ es) ls ≡ lampsFrom (i + 1) (m / 2) es ls
   unfolding lampsAfter
-  from-idle i m e es ls h l z q =
+  lamps-from-unimplemented i m e es ls h l z q =
       let w : i < length ls = omega arith in
       let s : (n - i) - 1 ≡ n - suc i = omega arith in
       let t : n - i ≤ 0 = omega arith in
       rw (bits-more i m h, z, drop-cons ls i off, s, le-ltb 0 (n - i) t, add-one i, take-suc ls i off, append-snoc)
 
   -- a selected lamp
-  pub from-done : (i m : ℕ) (e : LampChange) (es : List LampChange) (ls : List Lamp) (r : Lamp) → i < 32 → length ls ≡ 32 → m % 2 ≡ 1 → i < n
+  pub lamps-from-changed : (i m : ℕ) (e : LampChange) (es : List LampChange) (ls : List Lamp) (r : Lamp) → i < 32 → length ls ≡ 32 → m % 2 ≡ 1 → i < n
       → r ≡ lampAfter c (getD ls i off) (e .power) (e .seconds)
-      → from i m (e ∷ es) ls ≡ from (i + 1) (m / 2) es (set ls i r)
+      → lampsFrom i m (e ∷ es) ls ≡ lampsFrom (i + 1) (m / 2) es (set ls i r)
   unfolding lampsAfter
-  from-done i m e es ls r h l z q x =
+  lamps-from-changed i m e es ls r h l z q x =
       let w : i < length ls = omega arith in
       let s : (n - i) - 1 ≡ n - suc i = omega arith in
       let t : 0 < n - i = omega arith in
@@ -60,29 +60,29 @@ module _ (c : Command) (n : ℕ) where
   lamps-none (suc k) j es (l ∷ ls) = ap (λ (xs : List Lamp). l ∷ xs) (lamps-none k (j - 1) es ls)
 
   -- no selected lamp is left
-  pub from-end : (i : ℕ) (es : List LampChange) (ls : List Lamp) → from i 0 es ls ≡ ls
-  from-end i es ls = rw (lamps-none (32 - i) (n - i) es (drop i ls)) (take-append-drop i ls)
+  pub lamps-from-end : (i : ℕ) (es : List LampChange) (ls : List Lamp) → lampsFrom i 0 es ls ≡ ls
+  lamps-from-end i es ls = rw (lamps-none (32 - i) (n - i) es (drop i ls)) (take-append-drop i ls)
 
 module _ (s : Settings) (n : ℕ) (ls : List Lamp) where
   -- the levels of the selected lamps from i on
-  abbrev pub told : ℕ → ℕ → List ℕ
-  told i m = levelsBefore s (n - i) (bits (32 - i) m) (drop i ls)
+  abbrev pub levelsFrom : ℕ → ℕ → List ℕ
+  levelsFrom i m = levelsBefore s (n - i) (bits (32 - i) m) (drop i ls)
 
   levels-skip : (k : ℕ) (bs : List ℕ) (x : Lamp) (xs : List Lamp) → levelsBefore s k (0 ∷ bs) (x ∷ xs) ≡ levelsBefore s (k - 1) bs xs
   unfolding levelsBefore
   levels-skip k bs x xs = refl
 
-  pub told-skip : (i m : ℕ) → i < 32 → length ls ≡ 32 → m % 2 ≡ 0 → told i m ≡ told (i + 1) (m / 2)
-  told-skip i m h l z =
+  pub levels-from-skip : (i m : ℕ) → i < 32 → length ls ≡ 32 → m % 2 ≡ 0 → levelsFrom i m ≡ levelsFrom (i + 1) (m / 2)
+  levels-from-skip i m h l z =
       let w : i < length ls = omega arith in
       let t : (n - i) - 1 ≡ n - suc i = omega arith in
       rw (bits-more i m h, z, drop-cons ls i off, levels-skip, t, add-one i)
 
-  pub told-more : (i m k : ℕ) (out : List ℕ) (r : ℕ) → i < 32 → length ls ≡ 32 → k < length out → m % 2 ≡ 1
+  pub levels-from-more : (i m k : ℕ) (out : List ℕ) (r : ℕ) → i < 32 → length ls ≡ 32 → k < length out → m % 2 ≡ 1
       → r ≡ cond (ltb 0 (n - i)) (actualLevel s (getD ls i off .level)) 0
-      → take k out ++ told i m ≡ take (k + 1) (set out k r) ++ told (i + 1) (m / 2)
+      → take k out ++ levelsFrom i m ≡ take (k + 1) (set out k r) ++ levelsFrom (i + 1) (m / 2)
   unfolding levelsBefore
-  told-more i m k out r h l x z e =
+  levels-from-more i m k out r h l x z e =
       let w : i < length ls = omega arith in
       let t : (n - i) - 1 ≡ n - suc i = omega arith in
       rw (bits-more i m h, z, drop-cons ls i off, t, ← e, add-one k, add-one i, take-suc-set, append-snoc)
@@ -93,15 +93,15 @@ module _ (s : Settings) (n : ℕ) (ls : List Lamp) where
   levels-none (suc k) j [] = refl
   levels-none (suc k) j (x ∷ xs) = levels-none k (j - 1) xs
 
-  pub told-end : (i : ℕ) → told i 0 ≡ []
-  told-end i = levels-none (32 - i) (n - i) (drop i ls)
+  pub levels-from-end : (i : ℕ) → levelsFrom i 0 ≡ []
+  levels-from-end i = levels-none (32 - i) (n - i) (drop i ls)
 
-pub shown-lit : (n i v w : ℕ) → i < n → v ≡ w → v ≡ cond (ltb 0 (n - i)) w 0
-shown-lit n i v w h e =
+pub level-implemented : (n i v w : ℕ) → i < n → v ≡ w → v ≡ cond (ltb 0 (n - i)) w 0
+level-implemented n i v w h e =
     let t : 0 < n - i = omega arith in
     rw (lt-ltb 0 (n - i) t) e
 
-pub shown-dark : (n i w : ℕ) → n ≤ i → 0 ≡ cond (ltb 0 (n - i)) w 0
-shown-dark n i w h =
+pub level-unimplemented : (n i w : ℕ) → n ≤ i → 0 ≡ cond (ltb 0 (n - i)) w 0
+level-unimplemented n i w h =
     let t : n - i ≤ 0 = omega arith in
     rw (le-ltb 0 (n - i) t)

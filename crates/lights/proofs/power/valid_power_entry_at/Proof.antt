@@ -1,30 +1,30 @@
--- `entry::change_at` meets its contract: a law of proofs/Entries for each return.
+-- `power::change_at` meets its contract: a law of proofs/Entries for each return.
 use native.Mathlib.Omega.{arith}
 use denote.Ref.{now}
-use Rattle.lights.proofs.Entries.{valid-here, valid-next, valid-plain, valid-timed}
+use Rattle.lights.proofs.PowerEntries.{valid-inside, valid-time-inside, valid-untimed, valid-timed}
 use borrow.Author.Needs.{needs}
-use Rattle.lights.proofs.entry.change_at.Statement.{statement}
-use Rattle.lights.proofs.entry.change_at.Tie as tie
+use Rattle.lights.proofs.power.valid_power_entry_at.Statement.{statement}
+use Rattle.lights.proofs.power.valid_power_entry_at.Tie as tie
 
 shared-slice-read-byte : tie.Need-shared-slice-read-byte
 shared-slice-read-byte c =
     let s = c .before .before in
-    valid-here (now (s .args .src)) (s .args .at) (s .pre)
+    valid-inside (now (s .args .src)) (s .args .at) (s .pre)
 
 returns : tie.Need-returns
 returns c =
     let s = c .before .before .before in
-    valid-plain (now (s .args .src)) (s .args .at) (s .pre) (c .if1 .taken)
+    valid-untimed (now (s .args .src)) (s .args .at) (s .pre) (c .if1 .taken)
 
 add-next : tie.Need-add-next
 add-next c =
     let s = c .before .before .before in
-    omega (arith, valid-here (now (s .args .src)) (s .args .at) (s .pre))
+    omega (arith, valid-inside (now (s .args .src)) (s .args .at) (s .pre))
 
 shared-slice-read-time : tie.Need-shared-slice-read-time
 shared-slice-read-time c =
     let s = c .before .before .before .before in
-    valid-next (now (s .args .src)) (s .args .at) (s .pre) (c .before .if1 .left)
+    valid-time-inside (now (s .args .src)) (s .args .at) (s .pre) (c .before .if1 .left)
 
 returns-2 : tie.Need-returns-2
 returns-2 c =
@@ -32,6 +32,6 @@ returns-2 c =
     let e = valid-timed (now (s .args .src)) (s .args .at) (s .pre) (c .before .before .if1 .left) in
     rw (c .seconds-of .ensures) e
 
-pub change-at-spec : {M : Type 1} → statement M
-change-at-spec =
+pub valid-power-entry-at-spec : {M : Type 1} → statement M
+valid-power-entry-at-spec =
     tie.close (tie.spec shared-slice-read-byte returns add-next shared-slice-read-time (λ c κs. search needs) returns-2)

@@ -1,9 +1,9 @@
--- `entry::seconds_of` meets its contract, by the definition's test.
+-- `power::seconds_of` meets its contract, by the definition's test.
 use borrow.Author.Tests.{lt-ltb, le-ltb}
 use Rattle.lights.specs.Lights.{secondsOf}
 use borrow.Author.Needs.{needs}
-use Rattle.lights.proofs.entry.seconds_of.Statement.{statement}
-use Rattle.lights.proofs.entry.seconds_of.Tie as tie
+use Rattle.lights.proofs.power.seconds_of.Statement.{statement}
+use Rattle.lights.proofs.power.seconds_of.Tie as tie
 
 returns : tie.Need-returns
 unfolding secondsOf

@@ -1,18 +1,18 @@
--- `entry::entries_ok` meets its contract: k entries are valid, the verdict is that over the others.
+-- `power::entries_ok` meets its contract: k entries are valid, the verdict is that over the others.
 use borrow.Author.Needs.{needs}
 use native.Mathlib.Omega.{arith}
 use mathlib.Core.Path.{_≡_, sym, _∙_}
 use Prim.Native.Nat.{_≤_, _-_}
 use lib.ListN.{length, drop}
 use denote.Ref.{now}
-use Rattle.lights.specs.Lights.{powerEntries, isGood, firstEntry}
-use Rattle.lights.specs.declared.entry.PowerEntry.the-variants.{Valid, Invalid}
-use Rattle.lights.proofs.Entries.{first-room, good-more, good-stop, good-end}
-use Rattle.lights.proofs.entry.entries_ok.Statement.{statement}
-use Rattle.lights.proofs.entry.entries_ok.Tie as tie
+use Rattle.lights.specs.Lights.{powerEntries, areValid, firstPowerEntry}
+use Rattle.lights.specs.declared.power.PowerEntry.the-variants.{Valid, Invalid}
+use Rattle.lights.proofs.PowerEntries.{first-room, valid-more, invalid-stops, valid-end}
+use Rattle.lights.proofs.power.power_entries_ok.Statement.{statement}
+use Rattle.lights.proofs.power.power_entries_ok.Tie as tie
 
 abbrev Inv-loop : tie.InvT-loop
-Inv-loop src n at₀ k₀ at k = (k ≤ n) × (at ≤ length src) × (isGood (powerEntries n (drop 4 src)) ≡ isGood (powerEntries (n - k) (drop at src)))
+Inv-loop src n at₀ k₀ at k = (k ≤ n) × (at ≤ length src) × (areValid (powerEntries n (drop 4 src)) ≡ areValid (powerEntries (n - k) (drop at src)))
 
 abbrev μ-loop : tie.MeasureT-loop
 μ-loop src n at₀ k₀ at k = n - k
@@ -26,12 +26,12 @@ returns : tie.Need-returns Inv-loop μ-loop
 returns c =
     let l = c .before .before .before .before .loop in
     let a = c .before .before .before .before .before .before .args in
-    let q : firstEntry (drop (l .at) (now (a .src))) ≡ Invalid = cc in
-    sym (l .inv .2 ∙ good-stop (now (a .src)) (l .at) (l .k) (a .n) (omega arith) q)
+    let q : firstPowerEntry (drop (l .at) (now (a .src))) ≡ Invalid = cc in
+    sym (l .inv .2 ∙ invalid-stops (now (a .src)) (l .at) (l .k) (a .n) (omega arith) q)
 
 -- the entry that the reader found, in the definition's words
 found : (c : tie.After-known-told Inv-loop μ-loop)
-    → firstEntry (drop (c .before .before .before .before .before .loop .at) (now (c .before .before .before .before .before .before .before .args .src)))
+    → firstPowerEntry (drop (c .before .before .before .before .before .loop .at) (now (c .before .before .before .before .before .before .before .args .src)))
     ≡ Valid (c .before .change .given .0 .0) (c .before .change .given .0 .1 .0)
 found c = cc
 
@@ -48,15 +48,15 @@ loop-again : tie.Need-loop-again Inv-loop μ-loop
 loop-again c =
     let l = c .before .before .before .before .before .loop in
     let a = c .before .before .before .before .before .before .before .args in
-    (omega arith, omega (arith, room c), l .inv .2 ∙ good-more (now (a .src)) (l .at) (l .k) (a .n) _ _ (omega arith) (found c))
+    (omega arith, omega (arith, room c), l .inv .2 ∙ valid-more (now (a .src)) (l .at) (l .k) (a .n) _ _ (omega arith) (found c))
 
 returns-2 : tie.Need-returns-2 Inv-loop μ-loop
 returns-2 c =
     let l = c .before .loop in
     let a = c .before .before .before .args in
-    sym (l .inv .2 ∙ good-end (now (a .src)) (l .at) (l .k) (a .n) (omega arith) (omega arith))
+    sym (l .inv .2 ∙ valid-end (now (a .src)) (l .at) (l .k) (a .n) (omega arith) (omega arith))
 
-pub entries-ok-spec : {M : Type 1} → statement M
-entries-ok-spec =
+pub power-entries-ok-spec : {M : Type 1} → statement M
+power-entries-ok-spec =
     tie.close (tie.spec Inv-loop μ-loop loop-holds (λ c κs. search needs) (λ c. search needs) (λ c. search needs)
     returns add-at (λ c. search needs) (λ c. search needs) loop-again returns-2)

@@ -1,8 +1,8 @@
--- `entry::power_ok` meets its contract, by the definition's tests.
+-- `power::power_ok` meets its contract, by the definition's tests.
 use borrow.Author.Tests.{le-leb, lt-leb}
 use Rattle.lights.specs.Lights.{powerOk}
-use Rattle.lights.proofs.entry.power_ok.Statement.{statement}
-use Rattle.lights.proofs.entry.power_ok.Tie as tie
+use Rattle.lights.proofs.power.power_ok.Statement.{statement}
+use Rattle.lights.proofs.power.power_ok.Tie as tie
 
 returns : tie.Need-returns
 unfolding powerOk
