@@ -10,6 +10,6 @@ module _ (i : Item) (st : State) where
   unfolding executeEntry
   entry-match e = rw e
 
-  pub entry-other : hwpidMatches (st .node .settings) (i .hwpid) ≡ false → executeEntry i st ≡ refused st 7
+  pub entry-mismatch : hwpidMatches (st .node .settings) (i .hwpid) ≡ false → executeEntry i st ≡ refused st 7
   unfolding executeEntry
-  entry-other e = rw e
+  entry-mismatch e = rw e

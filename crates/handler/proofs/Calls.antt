@@ -20,11 +20,11 @@ use Rattle.node.specs.declared.record.ReadOnly.{ReadOnly}
 use Rattle.handler.specs.declared.os.RequestReply.{RequestReply}
 use Rattle.handler.specs.declared.answer.RequestAnswer.{RequestAnswer}
 use Rattle.node.specs.Node.{nodeOk}
-use Rattle.handler.specs.Request.{State, state, SoundState, Outcome, SeenOutcome, outcomeSeen, outcomeInBuffer, frameItem, execute, CallResult, callResult, callResultFromParts, noResponse, broadcastResult, unicastResult, handleFrame, requestRefusal, callRefusal, handleRequest}
+use Rattle.handler.specs.Request.{State, state, SoundState, Outcome, SeenOutcome, outcomeSeen, outcomeInBuffer, frameItem, execute, CallResult, callResult, callResultFromParts, unhandledResult, broadcastResult, unicastResult, handleFrame, requestRefusal, callRefusal, handleRequest}
 
 -- the request that the code takes out of a frame
-pub frame-item : (f : List ℕ) {h : Frame} → h ≡ headerOf f → item (h .pnum) (h .pcmd) (h .hwpid) (take (length f - 6) (drop 6 f)) ≡ frameItem f
-frame-item f e =
+pub frame-item-read : (f : List ℕ) {h : Frame} → h ≡ headerOf f → item (h .pnum) (h .pcmd) (h .hwpid) (take (length f - 6) (drop 6 f)) ≡ frameItem f
+frame-item-read f e =
     ap (λ (h : Frame). item (h .pnum) (h .pcmd) (h .hwpid) (take (length f - 6) (drop 6 f))) e
     ∙ ap (item (headerOf f .pnum) (headerOf f .pcmd) (headerOf f .hwpid)) (to-end 6 f)
 
@@ -39,21 +39,21 @@ module _ (f : List ℕ) (st : State) (o : List ℕ) where
     unfolding handleFrame
     frame-unicast e = rw (ne-eqb (headerOf f .nadr) 255 n, eq-eqb (headerOf f .nadr) (st .node .settings .address) e)
 
-    pub frame-other : (headerOf f .nadr ≡ st .node .settings .address → ⊥) → handleFrame f st o ≡ noResponse st 0 o
+    pub frame-other : (headerOf f .nadr ≡ st .node .settings .address → ⊥) → handleFrame f st o ≡ unhandledResult st 0 o
     unfolding handleFrame
     frame-other e = rw (ne-eqb (headerOf f .nadr) 255 n, ne-eqb (headerOf f .nadr) (st .node .settings .address) e)
 
-  pub call-refused : {k : ℕ} → k ≡ callRefusal f st o → (k ≡ 0 → ⊥) → noResponse st k o ≡ handleRequest f st o
+  pub call-refused : {k : ℕ} → k ≡ callRefusal f st o → (k ≡ 0 → ⊥) → unhandledResult st k o ≡ handleRequest f st o
   unfolding handleRequest
   call-refused e n =
-      rw (ne-eqb (callRefusal f st o) 0 (λ z. n (e ∙ z))) (ap (λ (r : ℕ). noResponse st r o) e)
+      rw (ne-eqb (callRefusal f st o) 0 (λ z. n (e ∙ z))) (ap (λ (r : ℕ). unhandledResult st r o) e)
 
   pub call-accepted : callRefusal f st o ≡ 0 → handleRequest f st o ≡ handleFrame f st o
   unfolding handleRequest
   call-accepted e = rw (eq-eqb (callRefusal f st o) 0 e)
 
 -- What holds of a call that does nothing, of a broadcast and of a response holds of every call.
-pub call-cases : (P : CallResult → Type 0) (f : List ℕ) (st : State) (o : List ℕ) → ((k : ℕ) → P (noResponse st k o))
+pub call-cases : (P : CallResult → Type 0) (f : List ℕ) (st : State) (o : List ℕ) → ((k : ℕ) → P (unhandledResult st k o))
     → (callRefusal f st o ≡ 0 → P (broadcastResult (execute (frameItem f) st) o))
     → (callRefusal f st o ≡ 0 → P (unicastResult (st .node .settings) (frameItem f) (execute (frameItem f) st) o))
     → P (handleRequest f st o)
@@ -79,9 +79,9 @@ addressed-exact f st o =
 
 -- what is known where no refusal was given
 module _ (n : Node) (f e x r : ℕ) (z : requestRefusal n f e x r ≡ 0) where
-  pub refusal-none : (nodeOk n ≡ true) × (6 ≤ f) × (64 ≤ r) × (e ≡ 192) × (x ≡ 16384)
+  pub not-refused-facts : (nodeOk n ≡ true) × (6 ≤ f) × (64 ≤ r) × (e ≡ 192) × (x ≡ 16384)
   unfolding requestRefusal
-  refusal-none =
+  not-refused-facts =
       let a = first-taken (nodeOk n) _ 1 0 (λ q. omega arith) z in
       let b = first-taken (frameFits f) _ 2 0 (λ q. omega arith) (a .1) in
       let c = second-taken (ltb r 64) 3 _ 0 (λ q. omega arith) (b .1) in
@@ -89,9 +89,9 @@ module _ (n : Node) (f e x r : ℕ) (z : requestRefusal n f e x r ≡ 0) where
       let g = first-taken (eqb x 16384) 0 4 0 (λ q. omega arith) (d .1) in
       (a .0, fits-sizes f (b .0) .0, ltb-false _ _ (c .0), eqb-true _ _ (d .0), eqb-true _ _ (g .0))
 
-pub accepted-rule : (n : Node) (e x : List ℕ) (f r : ℕ) → requestRefusal n f (length e) (length x) r ≡ 0 → SoundState (state n e x)
-accepted-rule n e x f r z =
-    let k = refusal-none n f (length e) (length x) r z in
+pub accepted-sound : (n : Node) (e x : List ℕ) (f r : ℕ) → requestRefusal n f (length e) (length x) r ≡ 0 → SoundState (state n e x)
+accepted-sound n e x f r z =
+    let k = not-refused-facts n f (length e) (length x) r z in
     record { node-ok = k .0; eeprom-size = k .3; external-size = k .4 }
 
 -- what the code leaves
@@ -99,11 +99,11 @@ pub call-result-as : {r t : RequestAnswer} {e x o : List ℕ} → r ≡ t → ca
 call-result-as {r} {t} {e} {x} {o} q = ap (λ (u : RequestAnswer). callResult u e x o) q
 
 -- the response: data in the lent rear part of the buffer, then the header in front
-pub unicast-answer : (o m : List ℕ) → 8 ≤ length o → (k : ReadOnly) (i : Item) (a : Outcome) {c : RequestReply} {r e x w : List ℕ}
+pub unicast-response : (o m : List ℕ) → 8 ≤ length o → (k : ReadOnly) (i : Item) (a : Outcome) {c : RequestReply} {r e x w : List ℕ}
     → outcomeSeen k c r e x m ≡ outcomeInBuffer a (midOf 8 (length o - 8) o)
     → w ≡ responseHeader (k .settings) (i .pnum) (i .pcmd) (c .error) ++ drop 8 (putMid 8 (length o - 8) o m)
     → callResultFromParts k (record { length = 8 + c .length; report = c .report; lamps = c .lamps }) r e x w ≡ unicastResult (k .settings) i a o
-unicast-answer o m h k i a {c} {r} {e} {x} {w} q u =
+unicast-response o m h k i a {c} {r} {e} {x} {w} q u =
     ap (callResultFromParts k (record { length = 8 + c .length; report = c .report; lamps = c .lamps }) r e x)
     (u ∙ ap (λ (l : List ℕ). responseHeader (k .settings) (i .pnum) (i .pcmd) (c .error) ++ l) (rear-back 8 o m h))
     ∙ ap headed q

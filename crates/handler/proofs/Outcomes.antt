@@ -14,15 +14,15 @@ use Rattle.batch.specs.Batch.{Item, reading, listError}
 use Rattle.batch.specs.declared.list.ListCheck.the-variants.{Sound, Broken}
 use Rattle.node.specs.declared.record.ReadOnly.{ReadOnly}
 use Rattle.handler.specs.declared.os.RequestReply.{RequestReply}
-use Rattle.handler.specs.Request.{State, peripheralRequest, hwpidMatches, loadReport, noReport, Outcome, plain, batchOutcome, batchRequest, codeCheckRequest, osRequest, execute, outcomeSeen, outcomeInBuffer}
+use Rattle.handler.specs.Request.{State, peripheralRequest, hwpidMatches, loadReport, noReport, Outcome, replyOnly, batchOutcome, batchRequest, codeCheckRequest, osRequest, execute, outcomeSeen, outcomeInBuffer}
 
 module _ (d : List ℕ) (st : State) where
-  pub batch-empty : length d ≡ 0 → batchRequest d st ≡ plain (refused st 5)
+  pub batch-empty : length d ≡ 0 → batchRequest d st ≡ replyOnly (refused st 5)
   unfolding batchRequest
   batch-empty e = rw (eq-eqb (length d) 0 e)
 
   -- a list that cannot be taken apart runs nothing
-  pub batch-broken : (length d ≡ 0 → ⊥) → {r a : ℕ} → reading d .check ≡ Broken r a → {k : ℕ} → k ≡ listError (reading d .check) → batchRequest d st ≡ plain (refused st k)
+  pub batch-broken : (length d ≡ 0 → ⊥) → {r a : ℕ} → reading d .check ≡ Broken r a → {k : ℕ} → k ≡ listError (reading d .check) → batchRequest d st ≡ replyOnly (refused st k)
   unfolding batchRequest
   batch-broken n e q = rw (q, ne-eqb (length d) 0 n, e)
 
@@ -39,26 +39,26 @@ module _ (pcmd : ℕ) (d : List ℕ) (st : State) where
   unfolding osRequest
   os-check e = ap (λ (c : ℕ). osRequest c d st) e
 
-  pub os-unknown : (pcmd ≡ 5 → ⊥) → (pcmd ≡ 0x0A → ⊥) → osRequest pcmd d st ≡ plain (refused st 2)
+  pub os-unknown : (pcmd ≡ 5 → ⊥) → (pcmd ≡ 0x0A → ⊥) → osRequest pcmd d st ≡ replyOnly (refused st 2)
   unfolding osRequest
   os-unknown a b = simp (ne-eqb pcmd 5 a, ne-eqb pcmd 0x0A b)
 
 module _ (i : Item) (st : State) where
-  pub execute-other : hwpidMatches (st .node .settings) (i .hwpid) ≡ false → execute i st ≡ plain (refused st 7)
+  pub execute-mismatch : hwpidMatches (st .node .settings) (i .hwpid) ≡ false → execute i st ≡ replyOnly (refused st 7)
   unfolding execute
-  execute-other e = rw e
+  execute-mismatch e = rw e
 
   module _ (e : hwpidMatches (st .node .settings) (i .hwpid) ≡ true) where
     pub execute-os : i .pnum ≡ 2 → execute i st ≡ osRequest (i .pcmd) (i .pdata) st
     unfolding execute
     execute-os p = rw (e, eq-eqb (i .pnum) 2 p)
 
-    pub execute-peripheral : (i .pnum ≡ 2 → ⊥) → execute i st ≡ plain (peripheralRequest (i .pnum) (i .pcmd) (i .pdata) st)
+    pub execute-peripheral : (i .pnum ≡ 2 → ⊥) → execute i st ≡ replyOnly (peripheralRequest (i .pnum) (i .pcmd) (i .pdata) st)
     unfolding execute
     execute-peripheral p = rw (e, ne-eqb (i .pnum) 2 p)
 
 -- What holds of each way through holds of every request. Every error has one premise.
-module _ (P : Outcome → Type 0) (st : State) (error : (e : ℕ) → P (plain (refused st e))) where
+module _ (P : Outcome → Type 0) (st : State) (error : (e : ℕ) → P (replyOnly (refused st e))) where
   -- of OS 02: a batch that runs, the code check, an error
   pub os-cases : (pcmd : ℕ) (d : List ℕ) → P (batchOutcome (reading d .items) st) → P (codeCheckRequest d st) → P (osRequest pcmd d st)
   unfolding osRequest batchRequest
@@ -69,7 +69,7 @@ module _ (P : Outcome → Type 0) (st : State) (error : (e : ℕ) → P (plain (
       (λ _. by-cond P (eqb pcmd 0x0A) _ _ (λ _. check) (λ _. error 2))
 
   -- of every PNUM: an OS request, a request to a peripheral, an error
-  pub execute-cases : (i : Item) → P (osRequest (i .pcmd) (i .pdata) st) → P (plain (peripheralRequest (i .pnum) (i .pcmd) (i .pdata) st)) → P (execute i st)
+  pub execute-cases : (i : Item) → P (osRequest (i .pcmd) (i .pdata) st) → P (replyOnly (peripheralRequest (i .pnum) (i .pcmd) (i .pdata) st)) → P (execute i st)
   unfolding execute
   execute-cases i os peripheral =
       by-cond P (hwpidMatches (st .node .settings) (i .hwpid)) _ _
@@ -82,9 +82,9 @@ pub outcome-as : {k : ReadOnly} {c d : RequestReply} {r e x o : List ℕ} → c 
 outcome-as {k} {c} {d} {r} {e} {x} {o} q = ap (λ (t : RequestReply). outcomeSeen k t r e x o) q
 
 -- a peripheral's answer
-pub outcome-plain : {st : State} {e n : ℕ} {out : List ℕ} (a : Reply State) (o : List ℕ) → replySeen st e n out ≡ replyInBuffer a o
-    → record { after = st; error = e; length = n; report = noReport; out = out } ≡ outcomeInBuffer (plain a) o
-outcome-plain a o q =
+pub outcome-reply-only : {st : State} {e n : ℕ} {out : List ℕ} (a : Reply State) (o : List ℕ) → replySeen st e n out ≡ replyInBuffer a o
+    → record { after = st; error = e; length = n; report = noReport; out = out } ≡ outcomeInBuffer (replyOnly a) o
+outcome-reply-only a o q =
     ap (λ (l : SeenReply State). record { after = l .after; error = l .error; length = l .length; report = noReport; out = l .out }) q
 
 -- the code check's answer

@@ -12,7 +12,7 @@ use Rattle.memory.specs.declared.block.Memory.the-variants.{Eeprom, Ram, Extern
 use Rattle.memory.specs.Block.{memoryPnum}
 use Rattle.lights.specs.declared.request.LampsReply.{LampsReply}
 use Rattle.node.specs.declared.record.ReadOnly.{ReadOnly}
-use Rattle.handler.specs.Request.{State, stateFromParts, memoryOf, withMemory, memoryRequestOnState, onLights, peripheralRequest}
+use Rattle.handler.specs.Request.{State, stateFromParts, memoryOf, withMemory, memoryRequestOnState, lightsRequestOnState, peripheralRequest}
 
 module _ (pnum pcmd : ℕ) (d : List ℕ) (st : State) where
   -- by the PNUM of a memory
@@ -23,20 +23,20 @@ module _ (pnum pcmd : ℕ) (d : List ℕ) (st : State) where
   peripheral-memory Memory.External e = ap (λ (p : ℕ). peripheralRequest p pcmd d st) e
 
   -- by the PNUM of the lights
-  pub peripheral-lights : pnum ≡ lightsPnum → peripheralRequest pnum pcmd d st ≡ onLights pcmd d st
+  pub peripheral-lights : pnum ≡ lightsPnum → peripheralRequest pnum pcmd d st ≡ lightsRequestOnState pcmd d st
   unfolding peripheralRequest
   peripheral-lights e = ap (λ (p : ℕ). peripheralRequest p pcmd d st) e
 
   -- by any other
-  pub perform-unknown : (pnum ≡ 3 → ⊥) → (pnum ≡ 4 → ⊥) → (pnum ≡ 5 → ⊥) → (pnum ≡ 0x71 → ⊥) → peripheralRequest pnum pcmd d st ≡ refused st 3
+  pub peripheral-unknown : (pnum ≡ 3 → ⊥) → (pnum ≡ 4 → ⊥) → (pnum ≡ 5 → ⊥) → (pnum ≡ 0x71 → ⊥) → peripheralRequest pnum pcmd d st ≡ refused st 3
   unfolding peripheralRequest
-  perform-unknown a b c e = simp (ne-eqb pnum 3 a, ne-eqb pnum 4 b, ne-eqb pnum 5 c, ne-eqb pnum 0x71 e)
+  peripheral-unknown a b c e = simp (ne-eqb pnum 3 a, ne-eqb pnum 4 b, ne-eqb pnum 5 c, ne-eqb pnum 0x71 e)
 
   -- what holds of a request to each memory and to the lights, and of every error, holds of every PNUM
-  pub perform-cases : (P : Reply State → Type 0) → ((m : Memory) → P (memoryRequestOnState m pcmd d st)) → P (onLights pcmd d st)
+  pub peripheral-cases : (P : Reply State → Type 0) → ((m : Memory) → P (memoryRequestOnState m pcmd d st)) → P (lightsRequestOnState pcmd d st)
       → ((e : ℕ) → P (refused st e)) → P (peripheralRequest pnum pcmd d st)
   unfolding peripheralRequest
-  perform-cases P memory lights error =
+  peripheral-cases P memory lights error =
       by-cond P (eqb pnum (memoryPnum Eeprom)) _ _ (λ _. memory Eeprom)
       (λ _. by-cond P (eqb pnum (memoryPnum External)) _ _ (λ _. memory External)
       (λ _. by-cond P (eqb pnum (memoryPnum Ram)) _ _ (λ _. memory Ram)

@@ -66,8 +66,8 @@ withMemory Memory.External st bytes = withExternal st bytes
 abbrev pub memoryRequestOnState : Memory → ℕ → List ℕ → State → Reply State
 memoryRequestOnState m pcmd pdata st = mapState (withMemory m st) (memoryRequest m pcmd pdata (memoryOf m st))
 
-abbrev pub onLights : ℕ → List ℕ → State → Reply State
-onLights pcmd pdata st =
+abbrev pub lightsRequestOnState : ℕ → List ℕ → State → Reply State
+lightsRequestOnState pcmd pdata st =
     mapState (withNode st) (mapState (withLamps (st .node)) (lightsRequest (st .node .settings) pcmd pdata (st .node .lamps)))
 
 -- the memories and the lights, by PNUM
@@ -76,7 +76,7 @@ peripheralRequest pnum pcmd pdata st =
     cond (eqb pnum (memoryPnum Eeprom)) (memoryRequestOnState Eeprom pcmd pdata st)
     (cond (eqb pnum (memoryPnum External)) (memoryRequestOnState External pcmd pdata st)
     (cond (eqb pnum (memoryPnum Ram)) (memoryRequestOnState Ram pcmd pdata st)
-    (cond (eqb pnum lightsPnum) (onLights pcmd pdata st)
+    (cond (eqb pnum lightsPnum) (lightsRequestOnState pcmd pdata st)
     (refused st 3))))
 
 -- the node's hardware profile, or the one that every node takes
@@ -114,8 +114,8 @@ abbrev pub outcome : Reply State → List ℕ → Report → Outcome
 outcome a es m = record { after = a .after; error = a .error; bytes = a .bytes; entries = es; report = m }
 
 -- a request that is no batch and has nothing to report
-abbrev pub plain : Reply State → Outcome
-plain a = outcome a [] noReport
+abbrev pub replyOnly : Reply State → Outcome
+replyOnly a = outcome a [] noReport
 
 -- entries in order, each at the state that the one before left; the batch itself answers 0 and no data
 abbrev pub batchOutcome : List Item → State → Outcome
@@ -124,9 +124,9 @@ batchOutcome is st = outcome (reply (runItems entryAfter is st) 0 []) (errorsOf 
 -- OS 02, PCMD 05: a list that cannot be read runs nothing
 unfoldable pub batchRequest : List ℕ → State → Outcome
 batchRequest pdata st =
-    cond (eqb (length pdata) 0) (plain (refused st 5))
+    cond (eqb (length pdata) 0) (replyOnly (refused st 5))
     (cond (eqb (listError (reading pdata .check)) 0) (batchOutcome (reading pdata .items) st)
-    (plain (refused st (listError (reading pdata .check)))))
+    (replyOnly (refused st (listError (reading pdata .check)))))
 
 -- OS 02, PCMD 0A: nothing changes, and the load mark is the check's
 unfoldable pub codeCheckRequest : List ℕ → State → Outcome
@@ -138,14 +138,14 @@ unfoldable pub osRequest : ℕ → List ℕ → State → Outcome
 osRequest pcmd pdata st =
     cond (eqb pcmd 5) (batchRequest pdata st)
     (cond (eqb pcmd 0x0A) (codeCheckRequest pdata st)
-    (plain (refused st 2)))
+    (replyOnly (refused st 2)))
 
 -- a request from HWPID on: the first error that applies
 unfoldable pub execute : Item → State → Outcome
 execute i st =
     cond (hwpidMatches (st .node .settings) (i .hwpid))
-    (cond (eqb (i .pnum) osPnum) (osRequest (i .pcmd) (i .pdata) st) (plain (peripheralRequest (i .pnum) (i .pcmd) (i .pdata) st)))
-    (plain (refused st 7))
+    (cond (eqb (i .pnum) osPnum) (osRequest (i .pcmd) (i .pdata) st) (replyOnly (peripheralRequest (i .pnum) (i .pcmd) (i .pdata) st)))
+    (replyOnly (refused st 7))
 
 -- the request of a frame
 abbrev pub frameItem : List ℕ → Item
@@ -162,8 +162,8 @@ pub record CallResult : Type 0 where
   pub response : List ℕ
 
 -- nothing is done and nothing answered: the response buffer stays
-abbrev pub noResponse : State → ℕ → List ℕ → CallResult
-noResponse st refusal o = record { after = st; refusal = refusal; length = 0; report = noReport; addressed = false; response = o }
+abbrev pub unhandledResult : State → ℕ → List ℕ → CallResult
+unhandledResult st refusal o = record { after = st; refusal = refusal; length = 0; report = noReport; addressed = false; response = o }
 
 -- a broadcast is carried out and never answered
 abbrev pub broadcastResult : Outcome → List ℕ → CallResult
@@ -186,7 +186,7 @@ unfoldable pub handleFrame : List ℕ → State → List ℕ → CallResult
 handleFrame f st o =
     cond (eqb (headerOf f .nadr) broadcastNadr) (broadcastResult (execute (frameItem f) st) o)
     (cond (eqb (headerOf f .nadr) (st .node .settings .address)) (unicastResult (st .node .settings) (frameItem f) (execute (frameItem f) st) o)
-    (noResponse st 0 o))
+    (unhandledResult st 0 o))
 
 -- refusals 1, 2, 3, 4 in this order, by the node and the lengths of what is lent; 0 for none
 unfoldable pub requestRefusal : Node → ℕ → ℕ → ℕ → ℕ → ℕ
@@ -207,7 +207,7 @@ callRefusal f st o = requestRefusal (st .node) (length f) (length (st .eeprom)) 
 -- the call
 unfoldable pub handleRequest : List ℕ → State → List ℕ → CallResult
 handleRequest f st o =
-    cond (eqb (callRefusal f st o) 0) (handleFrame f st o) (noResponse st (callRefusal f st o) o)
+    cond (eqb (callRefusal f st o) 0) (handleFrame f st o) (unhandledResult st (callRefusal f st o) o)
 
 -- ---- how the code shows it
 
@@ -232,16 +232,16 @@ outcomeInBuffer a o =
     record { after = a .after; error = a .error; length = length (a .bytes); report = a .report; out = overwriteFront (a .bytes) o }
 
 -- the call's answer has the report's fields among its own; the report taken out of it again
-abbrev pub answerOf : ℕ → ℕ → Report → Bool → Node → RequestAnswer
-answerOf refusal length m b n = record { refusal = refusal; length = length; load = m .load; addressed = b; node = n }
+abbrev pub requestAnswer : ℕ → ℕ → Report → Bool → Node → RequestAnswer
+requestAnswer refusal length m b n = record { refusal = refusal; length = length; load = m .load; addressed = b; node = n }
 
-abbrev pub reportOf : RequestAnswer → Report
-reportOf r = record { load = r .load }
+abbrev pub answerReport : RequestAnswer → Report
+answerReport r = record { load = r .load }
 
 -- a call by its answer, both memories and the response buffer
 abbrev pub callResult : RequestAnswer → List ℕ → List ℕ → List ℕ → CallResult
 callResult r e x o =
-    record { after = state (r .node) e x; refusal = r .refusal; length = r .length; report = reportOf r; addressed = r .addressed; response = o }
+    record { after = state (r .node) e x; refusal = r .refusal; length = r .length; report = answerReport r; addressed = r .addressed; response = o }
 
 -- the same of a call that was not refused, of a node in parts
 abbrev pub callResultFromParts : ReadOnly → Handled → List ℕ → List ℕ → List ℕ → List ℕ → CallResult

@@ -8,7 +8,7 @@ use node::record::node_from_parts;
 ghost use mathlib.Core.Path.{_≡_};
 ghost use mathlib.Core.Bool.{true, false};
 ghost use Rattle.node.specs.Node.{nodeFromParts};
-ghost use Rattle.handler.specs.Request.{noReport, answerOf};
+ghost use Rattle.handler.specs.Request.{noReport, requestAnswer};
 
 // The refusal, the response's length, the load mark, whether the request was for this node or for all, and the node afterwards.
 #[repr(C)]
@@ -37,14 +37,14 @@ pub struct Handled {
 }
 
 // The call's answer has the report's fields among its own.
-fn answer_of(
+fn request_answer(
     refusal: u8,
     length: usize,
     report: Report,
     addressed: bool,
     node: Node,
 ) -> RequestAnswer
-    ensures { λ r. ⌜ r ≡ answerOf refusal length report addressed node ⌝ }
+    ensures { λ r. ⌜ r ≡ requestAnswer refusal length report addressed node ⌝ }
 {
     RequestAnswer {
         refusal,
@@ -57,16 +57,16 @@ fn answer_of(
 
 // Nothing done: not this node's, or refused.
 pub fn answer_unhandled(node: Node, refusal: u8) -> RequestAnswer
-    ensures { λ r. ⌜ r ≡ answerOf refusal 0 noReport false node ⌝ }
+    ensures { λ r. ⌜ r ≡ requestAnswer refusal 0 noReport false node ⌝ }
 {
-    answer_of(refusal, 0, Report::NONE, false, node)
+    request_answer(refusal, 0, Report::NONE, false, node)
 }
 
 // Carried out: not refused, and the node put together again.
 pub fn answer_handled(fixed: ReadOnly, done: Handled, ram: [u8; 48]) -> RequestAnswer
-    ensures { λ r. ⌜ r ≡ answerOf 0 (done .length) (done .report) true (nodeFromParts fixed (done .lamps) ram) ⌝ }
+    ensures { λ r. ⌜ r ≡ requestAnswer 0 (done .length) (done .report) true (nodeFromParts fixed (done .lamps) ram) ⌝ }
 {
     let lamps = done.lamps;
     let node = node_from_parts(fixed, lamps, ram);
-    answer_of(refusal::NONE, done.length, done.report, true, node)
+    request_answer(refusal::NONE, done.length, done.report, true, node)
 }

@@ -3,7 +3,7 @@ use mathlib.Core.Path.{ap, sym, _∙_}
 use Rattle.dpa.specs.Reply.{Reply, SeenReply}
 use Rattle.batch.specs.Batch.{item}
 use Rattle.handler.specs.Request.{State, stateFromParts}
-use Rattle.handler.proofs.BatchEntries.{entry-match, entry-other}
+use Rattle.handler.proofs.BatchEntries.{entry-match, entry-mismatch}
 use Rattle.handler.proofs.entries.run_entry.Statement.{statement}
 use Rattle.handler.proofs.entries.run_entry.Tie as tie
 
@@ -23,7 +23,7 @@ returns-2 : tie.Need-returns-2
 returns-2 c =
     let s = c .before .before .before .before .before .before in
     let a = s .args in
-    sym (ap (λ (x : Reply State). x .after) (entry-other (item (a .pnum) (a .pcmd) (a .hwpid) (a .pdata .now)) (given s) (sym (c .before .hwpid-matches .ensures) ∙ c .if1 .left)))
+    sym (ap (λ (x : Reply State). x .after) (entry-mismatch (item (a .pnum) (a .pcmd) (a .hwpid) (a .pdata .now)) (given s) (sym (c .before .hwpid-matches .ensures) ∙ c .if1 .left)))
 
 pub run-entry-spec : {M : Type 1} → statement M
 run-entry-spec =

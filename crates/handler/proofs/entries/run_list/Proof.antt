@@ -7,29 +7,29 @@ use lib.ListN.{length, take, drop}
 use Rattle.batch.specs.declared.entry.NextEntry.the-variants.{Entry}
 use Rattle.batch.specs.Batch.{nextEntry}
 use Rattle.handler.specs.Request.{stateFromParts}
-use Rattle.handler.proofs.Listing.{Running, run-starts, run-ends, turn-sized, turn-runs, fault-ends}
+use Rattle.handler.proofs.Batches.{PartlyRun, run-starts, run-ends, entry-in-list, entry-runs, fault-ends}
 use Rattle.handler.proofs.entries.run_list.Statement.{statement}
 use Rattle.handler.proofs.entries.run_list.Tie as tie
 
 abbrev Inv-loop : tie.InvT-loop
 Inv-loop fixed lamps₀ list ram₀ eeprom₀ external₀ at₀ lamps ram eeprom external at =
-    Running list (stateFromParts fixed lamps₀ ram₀ eeprom₀ external₀) at (stateFromParts fixed lamps ram eeprom external)
+    PartlyRun list (stateFromParts fixed lamps₀ ram₀ eeprom₀ external₀) at (stateFromParts fixed lamps ram eeprom external)
     × (length ram ≡ length ram₀) × (length eeprom ≡ length eeprom₀) × (length external ≡ length external₀)
 
 abbrev μ-loop : tie.MeasureT-loop
 μ-loop fixed lamps₀ list ram₀ eeprom₀ external₀ at₀ lamps ram eeprom external at = length list - at
 
 -- the entry that stands at the place
-first-is : (c : tie.After-known-told Inv-loop μ-loop) →
+first-entry-is : (c : tie.After-known-told Inv-loop μ-loop) →
     let list = c .before .before .before .before .before .before .before .before .before .before .before .before .before .args .list .now in
     let at = c .before .before .before .before .before .before .before .before .loop .at in
     let g = c .before .len .given .0 in
     nextEntry (take (length list - at) (drop at list)) ≡ Entry (g .0) (g .1 .0) (g .1 .1 .0) (g .1 .1 .1 .0)
-first-is c = sym (c .before .before .before .next-entry .ensures) ∙ c .before .len .given .1
+first-entry-is c = sym (c .before .before .before .next-entry .ensures) ∙ c .before .len .given .1
 
 sized : (c : tie.After-known-told Inv-loop μ-loop) →
     (5 ≤ c .before .len .given .0 .0) × (c .before .before .before .before .before .before .before .before .loop .at + c .before .len .given .0 .0 ≤ length (c .before .before .before .before .before .before .before .before .before .before .before .before .before .args .list .now))
-sized c = turn-sized _ _ _ _ (c .before .before .before .before .before .before .before .before .loop .inv .0) (first-is c)
+sized c = entry-in-list _ _ _ _ (c .before .before .before .before .before .before .before .before .loop .inv .0) (first-entry-is c)
 
 loop-holds : tie.Need-loop-holds Inv-loop μ-loop
 loop-holds c = (run-starts _ _ (c .before .before .before .before .pre), refl, refl, refl)
@@ -76,7 +76,7 @@ loop-less c = let z = sized (c .before .before .before .before .before .before .
 loop-again : tie.Need-loop-again Inv-loop μ-loop
 loop-again c =
     let i = c .before .before .before .before .before .before .before .before .before .before .before .before .before .before .before .before .before .before .before .loop .inv in (
-      turn-runs _ _ _ _ (i .0) (first-is (c .before .before .before .before .before .before .before .before .before .before .before)) (c .before .before .before .before .before .before .run-entry .ensures),
+      entry-runs _ _ _ _ (i .0) (first-entry-is (c .before .before .before .before .before .before .before .before .before .before .before)) (c .before .before .before .before .before .before .run-entry .ensures),
       c .before .before .before .before .before .before .run-entry .kept .1 .1 .1 .1 .1 .1 .0 ∙ i .1,
       c .before .before .before .before .before .before .run-entry .kept .1 .1 .1 .1 .1 .1 .1 .0 ∙ i .2,
       c .before .before .before .before .before .before .run-entry .kept .1 .1 .1 .1 .1 .1 .1 .1 .0 ∙ i .3,

@@ -3,7 +3,7 @@ use mathlib.Core.Path.{ap, sym, _∙_}
 use mathlib.Core.List.{[]}
 use Rattle.dpa.specs.Reply.{reply}
 use Rattle.batch.specs.Batch.{listError}
-use Rattle.handler.specs.Request.{State, stateFromParts, Outcome, plain, outcomeInBuffer}
+use Rattle.handler.specs.Request.{State, stateFromParts, Outcome, replyOnly, outcomeInBuffer}
 use Rattle.handler.proofs.Outcomes.{batch-empty, batch-broken, batch-runs, outcome-as}
 use Rattle.handler.proofs.os.run_batch.Statement.{statement}
 use Rattle.handler.proofs.os.run_batch.Tie as tie
@@ -35,7 +35,7 @@ returns-3 c = λ o.
     let r = c .before .before .before .before .before .before .before .before .before .before .before .before .before in
     let s = r .before .before .before .before .before .before in
     outcome-as (c .without-data3 .ensures)
-    ∙ ap (λ (x : State). outcomeInBuffer (plain (reply x 0 [])) o) (c .before .before .before .before .before .before .before .run-list .ensures)
+    ∙ ap (λ (x : State). outcomeInBuffer (replyOnly (reply x 0 [])) o) (c .before .before .before .before .before .before .before .run-list .ensures)
     ∙ ap (λ (x : Outcome). outcomeInBuffer x o)
     (sym (batch-runs (s .args .pdata .now) (given s) (r .before .if1 .left) (sym (r .check-list .ensures) ∙ c .before .before .before .before .before .before .before .before .before .before .before .enum-told .given .1)))
 

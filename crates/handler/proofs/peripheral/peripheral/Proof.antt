@@ -9,7 +9,7 @@ use Rattle.memory.specs.Request.{memoryRequest}
 use Rattle.lights.specs.Lights.{lightsRequest}
 use Rattle.node.proofs.Nodes.{node-settings, node-dimmed, node-ram}
 use Rattle.handler.specs.Request.{State, stateFromParts, withMemory}
-use Rattle.handler.proofs.Peripherals.{peripheral-memory, peripheral-lights, perform-unknown, reply-as}
+use Rattle.handler.proofs.Peripherals.{peripheral-memory, peripheral-lights, peripheral-unknown, reply-as}
 use Rattle.handler.proofs.peripheral.peripheral.Statement.{statement}
 use Rattle.handler.proofs.peripheral.peripheral.Tie as tie
 
@@ -62,7 +62,7 @@ returns-5 c =
     let s = c .before .before .before .before .before .before .before .before .before in
     let a = s .args in
     ap (λ (x : Reply State). replyInBuffer x (a .out .now))
-    (sym (perform-unknown (a .pnum) (a .pcmd) (a .pdata .now) (given s) (c .before .before .before .if1 .left) (c .before .before .if2 .left) (c .before .if3 .left) (c .if4 .left)))
+    (sym (peripheral-unknown (a .pnum) (a .pcmd) (a .pdata .now) (given s) (c .before .before .before .if1 .left) (c .before .before .if2 .left) (c .before .if3 .left) (c .if4 .left)))
 
 pub peripheral-spec : {M : Type 1} → statement M
 peripheral-spec =

@@ -4,7 +4,7 @@ use mathlib.Core.Path.{_≡_, ap, sym, _∙_}
 use mathlib.Core.Bool.{true}
 use Rattle.batch.specs.Batch.{Item, item}
 use Rattle.handler.specs.Request.{State, stateFromParts, hwpidMatches, peripheralRequest, Outcome, outcomeInBuffer}
-use Rattle.handler.proofs.Outcomes.{execute-other, execute-os, execute-peripheral, outcome-as, outcome-plain}
+use Rattle.handler.proofs.Outcomes.{execute-mismatch, execute-os, execute-peripheral, outcome-as, outcome-reply-only}
 use Rattle.handler.proofs.request.execute.Statement.{statement}
 use Rattle.handler.proofs.request.execute.Tie as tie
 
@@ -18,32 +18,32 @@ abbrev asked : tie.Start → Item
 asked c = item (c .args .header .pnum) (c .args .header .pcmd) (c .args .header .hwpid) (c .args .pdata .now)
 
 -- past the test of its HWPID
-mine : (c : tie.Else1) →
+hwpid-ok : (c : tie.Else1) →
     let a = c .before .before .before .before .before .before .before .args in
     hwpidMatches (a .fixed .settings) (a .header .hwpid) ≡ true
-mine c = sym (c .before .hwpid-matches .ensures) ∙ not-false _ (c .if1 .left)
+hwpid-ok c = sym (c .before .hwpid-matches .ensures) ∙ not-false _ (c .if1 .left)
 
 returns : tie.Need-returns
 returns c =
     let s = c .before .before .before .before .before .before .before .before in
     outcome-as (c .without-data .ensures)
     ∙ ap (λ (x : Outcome). outcomeInBuffer x (s .args .out .now))
-    (sym (execute-other (asked s) (given s) (sym (c .before .before .hwpid-matches .ensures) ∙ not-true _ (c .before .if1 .taken))))
+    (sym (execute-mismatch (asked s) (given s) (sym (c .before .before .hwpid-matches .ensures) ∙ not-true _ (c .before .if1 .taken))))
 
 returns-2 : tie.Need-returns-2
 returns-2 c =
     let s = c .before .before .before .before .before .before .before .before .before .before .before .before .before .before .before .before .before .before .before .before .before .before in
     c .before .before .before .before .before .before .before .before .os .ensures
     ∙ ap (λ (x : Outcome). outcomeInBuffer x (s .args .out .now))
-    (sym (execute-os (asked s) (given s) (mine (c .before .before .before .before .before .before .before .before .before .before .before .before .before .before .before)) (c .before .before .before .before .before .before .before .before .before .before .before .before .before .if2 .taken)))
+    (sym (execute-os (asked s) (given s) (hwpid-ok (c .before .before .before .before .before .before .before .before .before .before .before .before .before .before .before)) (c .before .before .before .before .before .before .before .before .before .before .before .before .before .if2 .taken)))
 
 returns-3 : tie.Need-returns-3
 returns-3 c =
     let s = c .before .before .before .before .before .before .before .before .before .before .before .before .before .before .before .before .before .before .before .before .before .before .before in
     outcome-as (c .peripheral-reply .ensures)
-    ∙ outcome-plain (peripheralRequest (s .args .header .pnum) (s .args .header .pcmd) (s .args .pdata .now) (given s)) (s .args .out .now) (c .before .before .before .before .before .before .before .before .before .peripheral .ensures)
+    ∙ outcome-reply-only (peripheralRequest (s .args .header .pnum) (s .args .header .pcmd) (s .args .pdata .now) (given s)) (s .args .out .now) (c .before .before .before .before .before .before .before .before .before .peripheral .ensures)
     ∙ ap (λ (x : Outcome). outcomeInBuffer x (s .args .out .now))
-    (sym (execute-peripheral (asked s) (given s) (mine (c .before .before .before .before .before .before .before .before .before .before .before .before .before .before .before .before)) (c .before .before .before .before .before .before .before .before .before .before .before .before .before .before .if2 .left)))
+    (sym (execute-peripheral (asked s) (given s) (hwpid-ok (c .before .before .before .before .before .before .before .before .before .before .before .before .before .before .before .before)) (c .before .before .before .before .before .before .before .before .before .before .before .before .before .before .if2 .left)))
 
 pub execute-spec : {M : Type 1} → statement M
 execute-spec =

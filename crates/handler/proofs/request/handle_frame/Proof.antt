@@ -6,7 +6,7 @@ use Rattle.batch.specs.Batch.{Item}
 use Rattle.node.specs.declared.record.ReadOnly.{ReadOnly}
 use Rattle.node.proofs.Nodes.{node-ram}
 use Rattle.handler.specs.Request.{State, state, stateFromParts, SoundState, frameItem, execute, broadcastResult, unicastResult}
-use Rattle.handler.proofs.Calls.{frame-item, frame-broadcast, frame-unicast, frame-other, call-result-as}
+use Rattle.handler.proofs.Calls.{frame-item-read, frame-broadcast, frame-unicast, frame-other, call-result-as}
 use Rattle.handler.proofs.request.handle_frame.Statement.{statement}
 use Rattle.handler.proofs.request.handle_frame.Tie as tie
 
@@ -33,7 +33,7 @@ returns c =
     let s = r .before .before .before .before .before in
     call-result-as (c .answer-handled .ensures)
     ∙ c .before .before .before .before .before .before .handle-broadcast .ensures (s .args .response .now)
-    ∙ ap (λ (i : Item). broadcastResult (execute i (inParts s (c .before .before .before .before .before .before .before .before .before .before .before .before .before .before .read-only .result))) (s .args .response .now)) (frame-item (s .args .frame .now) (r .read .ensures))
+    ∙ ap (λ (i : Item). broadcastResult (execute i (inParts s (c .before .before .before .before .before .before .before .before .before .before .before .before .before .before .read-only .result))) (s .args .response .now)) (frame-item-read (s .args .frame .now) (r .read .ensures))
     ∙ ap (λ (k : ReadOnly). broadcastResult (execute (frameItem (s .args .frame .now)) (inParts s k)) (s .args .response .now)) (c .before .before .before .before .before .before .before .before .before .before .before .before .before .before .read-only .ensures)
     ∙ sym (frame-broadcast (s .args .frame .now) (given s) (s .args .response .now) (sym (nadr-is r) ∙ c .before .before .before .before .before .before .before .before .before .before .if1 .taken))
 
@@ -51,7 +51,7 @@ returns-2 c =
     let s = r .before .before .before .before .before in
     call-result-as (c .answer-handled2 .ensures)
     ∙ c .before .before .before .before .before .before .before .before .handle-unicast .ensures
-    ∙ ap (λ (i : Item). unicastResult (c .before .before .before .before .before .before .before .before .before .before .before .before .before .before .before .before .before .before .before .before .read-only .result .settings) i (execute i (inParts s (c .before .before .before .before .before .before .before .before .before .before .before .before .before .before .before .before .before .before .before .before .read-only .result))) (s .args .response .now)) (frame-item (s .args .frame .now) (r .read .ensures))
+    ∙ ap (λ (i : Item). unicastResult (c .before .before .before .before .before .before .before .before .before .before .before .before .before .before .before .before .before .before .before .before .read-only .result .settings) i (execute i (inParts s (c .before .before .before .before .before .before .before .before .before .before .before .before .before .before .before .before .before .before .before .before .read-only .result))) (s .args .response .now)) (frame-item-read (s .args .frame .now) (r .read .ensures))
     ∙ ap (λ (k : ReadOnly). unicastResult (k .settings) (frameItem (s .args .frame .now)) (execute (frameItem (s .args .frame .now)) (inParts s k)) (s .args .response .now)) (c .before .before .before .before .before .before .before .before .before .before .before .before .before .before .before .before .before .before .before .before .read-only .ensures)
     ∙ sym (frame-unicast (s .args .frame .now) (given s) (s .args .response .now) (λ z. c .before .before .before .before .before .before .before .before .before .before .before .before .before .before .before .before .if1 .left (nadr-is r ∙ z)) (sym (nadr-is r) ∙ c .before .before .before .before .before .before .before .before .before .before .before .before .before .if2 .taken))
 

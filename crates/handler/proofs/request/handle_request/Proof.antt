@@ -2,7 +2,7 @@ use borrow.Author.Needs.{needs}
 use mathlib.Core.Path.{sym, _∙_}
 use lib.ListN.{length}
 use Rattle.handler.specs.Request.{state}
-use Rattle.handler.proofs.Calls.{call-refused, call-accepted, refusal-none, accepted-rule, call-result-as}
+use Rattle.handler.proofs.Calls.{call-refused, call-accepted, not-refused-facts, accepted-sound, call-result-as}
 use Rattle.handler.proofs.request.handle_request.Statement.{statement}
 use Rattle.handler.proofs.request.handle_request.Tie as tie
 
@@ -16,8 +16,8 @@ handle-frame-requires : tie.Need-handle-frame-requires
 handle-frame-requires c κs =
     let a = c .before .before .before .before .before .before .before .before .before .args in
     let z = sym (c .before .before .before .before .request-refusal .ensures) ∙ c .before .before .before .if1 .left in
-    let k = refusal-none (a .node) (length (a .frame .now)) (length (a .eeprom .now)) (length (a .external .now)) (length (a .response .now)) z in
-    (accepted-rule (a .node) (a .eeprom .now) (a .external .now) (length (a .frame .now)) (length (a .response .now)) z, k .1, k .2)
+    let k = not-refused-facts (a .node) (length (a .frame .now)) (length (a .eeprom .now)) (length (a .external .now)) (length (a .response .now)) z in
+    (accepted-sound (a .node) (a .eeprom .now) (a .external .now) (length (a .frame .now)) (length (a .response .now)) z, k .1, k .2)
 
 returns-2 : tie.Need-returns-2
 returns-2 c =

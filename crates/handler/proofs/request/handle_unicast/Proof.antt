@@ -4,7 +4,7 @@ use mathlib.Core.Path.{ap}
 use Rattle.batch.specs.Batch.{Item, item}
 use Rattle.handler.specs.Request.{State, stateFromParts, SeenOutcome, execute}
 use Rattle.handler.proofs.Sizes.{execute-fits}
-use Rattle.handler.proofs.Calls.{unicast-answer}
+use Rattle.handler.proofs.Calls.{unicast-response}
 use Rattle.handler.proofs.request.handle_unicast.Statement.{statement}
 use Rattle.handler.proofs.request.handle_unicast.Tie as tie
 
@@ -27,7 +27,7 @@ add-length c =
 returns : tie.Need-returns
 returns c =
     let s = c .before .before .before .before .before .before .before .before .before .before .before .before .before .before .before .before .before .before .before .before .before .before .before .before .before in
-    unicast-answer (s .args .response .now) (c .before .before .before .before .before .before .before .before .before .before .before .before .before .before .before .execute .last .1 .1 .1 .1 .1 .1 .1 .0) (omega (arith, s .pre .1)) (s .args .fixed)
+    unicast-response (s .args .response .now) (c .before .before .before .before .before .before .before .before .before .before .before .before .before .before .before .execute .last .1 .1 .1 .1 .1 .1 .1 .0) (omega (arith, s .pre .1)) (s .args .fixed)
     (asked s) (execute (asked s) (given s)) (c .before .before .before .before .before .before .before .before .before .before .before .before .before .before .before .execute .ensures) (c .before .before .before .before .before .write-header .ensures)
 
 pub handle-unicast-spec : {M : Type 1} → statement M
