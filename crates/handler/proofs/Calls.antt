@@ -17,10 +17,11 @@ use Rattle.dpa.proofs.Lists.{to-end, rear-lent, rear-back, header-written}
 use Rattle.batch.specs.Batch.{Item, item}
 use Rattle.node.specs.declared.record.Node.{Node}
 use Rattle.node.specs.declared.record.ReadOnly.{ReadOnly}
-use Rattle.handler.specs.declared.os.RequestReply.{RequestReply}
+use Rattle.handler.specs.declared.reply.RequestReply.{RequestReply}
 use Rattle.handler.specs.declared.answer.RequestAnswer.{RequestAnswer}
 use Rattle.node.specs.Node.{nodeOk}
-use Rattle.handler.specs.Request.{State, state, SoundState, Outcome, SeenOutcome, outcomeSeen, outcomeInBuffer, frameItem, execute, CallResult, callResult, callResultFromParts, unhandledResult, broadcastResult, unicastResult, handleFrame, requestRefusal, callRefusal, handleRequest}
+use Rattle.handler.specs.Request.{State, state, SoundState, Outcome, frameItem, execute, CallResult, unhandledResult, broadcastResult, unicastResult, handleFrame, requestRefusal, callRefusal, handleRequest}
+use Rattle.handler.specs.Seen.{SeenOutcome, outcomeSeen, outcomeInBuffer, callResult, callResultFromParts}
 
 -- the request that the code takes out of a frame
 pub frame-item-read : (f : List ℕ) {h : Frame} → h ≡ headerOf f → item (h .pnum) (h .pcmd) (h .hwpid) (take (length f - 6) (drop 6 f)) ≡ frameItem f

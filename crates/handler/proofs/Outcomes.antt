@@ -13,8 +13,9 @@ use Rattle.checksum.specs.Check.{codeCheck}
 use Rattle.batch.specs.Batch.{Item, reading, listError}
 use Rattle.batch.specs.declared.list.ListCheck.the-variants.{Sound, Broken}
 use Rattle.node.specs.declared.record.ReadOnly.{ReadOnly}
-use Rattle.handler.specs.declared.os.RequestReply.{RequestReply}
-use Rattle.handler.specs.Request.{State, peripheralRequest, hwpidMatches, loadReport, noReport, Outcome, replyOnly, batchOutcome, batchRequest, codeCheckRequest, osRequest, execute, outcomeSeen, outcomeInBuffer}
+use Rattle.handler.specs.declared.reply.RequestReply.{RequestReply}
+use Rattle.handler.specs.Request.{State, peripheralRequest, hwpidMatches, loadReport, noReport, Outcome, replyOnly, batchOutcome, batchRequest, codeCheckRequest, osRequest, execute}
+use Rattle.handler.specs.Seen.{outcomeSeen, outcomeInBuffer}
 
 module _ (d : List ℕ) (st : State) where
   pub batch-empty : length d ≡ 0 → batchRequest d st ≡ replyOnly (refused st 5)

@@ -12,7 +12,8 @@ use Rattle.memory.specs.declared.block.Memory.the-variants.{Eeprom, Ram, Extern
 use Rattle.memory.specs.Block.{memoryPnum}
 use Rattle.lights.specs.declared.request.LampsReply.{LampsReply}
 use Rattle.node.specs.declared.record.ReadOnly.{ReadOnly}
-use Rattle.handler.specs.Request.{State, stateFromParts, memoryOf, withMemory, memoryRequestOnState, lightsRequestOnState, peripheralRequest}
+use Rattle.handler.specs.Request.{State, memoryOf, withMemory, memoryRequestOnState, lightsRequestOnState, peripheralRequest}
+use Rattle.handler.specs.Seen.{stateFromParts}
 
 module _ (pnum pcmd : ℕ) (d : List ℕ) (st : State) where
   -- by the PNUM of a memory

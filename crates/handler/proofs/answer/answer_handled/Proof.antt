@@ -1,7 +1,7 @@
 use borrow.Author.Needs.{needs}
 use mathlib.Core.Path.{ap, _∙_}
 use mathlib.Core.Bool.{true}
-use Rattle.handler.specs.Request.{requestAnswer}
+use Rattle.handler.specs.Seen.{requestAnswer}
 use Rattle.handler.proofs.answer.answer_handled.Statement.{statement}
 use Rattle.handler.proofs.answer.answer_handled.Tie as tie
 

@@ -2,7 +2,8 @@ use borrow.Author.Needs.{needs}
 use mathlib.Core.Path.{ap, sym, _∙_}
 use Rattle.dpa.specs.Reply.{Reply, SeenReply}
 use Rattle.batch.specs.Batch.{item}
-use Rattle.handler.specs.Request.{State, stateFromParts}
+use Rattle.handler.specs.Request.{State}
+use Rattle.handler.specs.Seen.{stateFromParts}
 use Rattle.handler.proofs.BatchEntries.{entry-match, entry-mismatch}
 use Rattle.handler.proofs.entries.run_entry.Statement.{statement}
 use Rattle.handler.proofs.entries.run_entry.Tie as tie

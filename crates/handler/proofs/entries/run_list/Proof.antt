@@ -6,7 +6,7 @@ use Prim.Native.Nat.{_-_, _+_, _≤_}
 use lib.ListN.{length, take, drop}
 use Rattle.batch.specs.declared.entry.NextEntry.the-variants.{Entry}
 use Rattle.batch.specs.Batch.{nextEntry}
-use Rattle.handler.specs.Request.{stateFromParts}
+use Rattle.handler.specs.Seen.{stateFromParts}
 use Rattle.handler.proofs.Batches.{PartlyRun, run-starts, run-ends, entry-in-list, entry-runs, fault-ends}
 use Rattle.handler.proofs.entries.run_list.Statement.{statement}
 use Rattle.handler.proofs.entries.run_list.Tie as tie

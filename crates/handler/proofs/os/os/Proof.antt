@@ -1,6 +1,7 @@
 use borrow.Author.Needs.{needs}
 use mathlib.Core.Path.{ap, sym, _∙_}
-use Rattle.handler.specs.Request.{State, stateFromParts, Outcome, outcomeInBuffer}
+use Rattle.handler.specs.Request.{State, Outcome}
+use Rattle.handler.specs.Seen.{stateFromParts, outcomeInBuffer}
 use Rattle.handler.proofs.Outcomes.{os-batch, os-check, os-unknown, outcome-as, outcome-check}
 use Rattle.handler.proofs.os.os.Statement.{statement}
 use Rattle.handler.proofs.os.os.Tie as tie

@@ -3,7 +3,8 @@ use mathlib.Core.Path.{ap, sym, _∙_}
 use mathlib.Core.List.{[]}
 use Rattle.dpa.specs.Reply.{reply}
 use Rattle.batch.specs.Batch.{listError}
-use Rattle.handler.specs.Request.{State, stateFromParts, Outcome, replyOnly, outcomeInBuffer}
+use Rattle.handler.specs.Request.{State, Outcome, replyOnly}
+use Rattle.handler.specs.Seen.{stateFromParts, outcomeInBuffer}
 use Rattle.handler.proofs.Outcomes.{batch-empty, batch-broken, batch-runs, outcome-as}
 use Rattle.handler.proofs.os.run_batch.Statement.{statement}
 use Rattle.handler.proofs.os.run_batch.Tie as tie

@@ -8,7 +8,8 @@ use Rattle.memory.specs.declared.block.Memory.the-variants.{Eeprom, Ram, Extern
 use Rattle.memory.specs.Request.{memoryRequest}
 use Rattle.lights.specs.Lights.{lightsRequest}
 use Rattle.node.proofs.Nodes.{node-settings, node-dimmed, node-ram}
-use Rattle.handler.specs.Request.{State, stateFromParts, withMemory}
+use Rattle.handler.specs.Request.{State, withMemory}
+use Rattle.handler.specs.Seen.{stateFromParts}
 use Rattle.handler.proofs.Peripherals.{peripheral-memory, peripheral-lights, peripheral-unknown, reply-as}
 use Rattle.handler.proofs.peripheral.peripheral.Statement.{statement}
 use Rattle.handler.proofs.peripheral.peripheral.Tie as tie

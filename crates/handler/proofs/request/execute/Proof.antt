@@ -3,7 +3,8 @@ use borrow.Author.Tests.{not-true, not-false}
 use mathlib.Core.Path.{_≡_, ap, sym, _∙_}
 use mathlib.Core.Bool.{true}
 use Rattle.batch.specs.Batch.{Item, item}
-use Rattle.handler.specs.Request.{State, stateFromParts, hwpidMatches, peripheralRequest, Outcome, outcomeInBuffer}
+use Rattle.handler.specs.Request.{State, hwpidMatches, peripheralRequest, Outcome}
+use Rattle.handler.specs.Seen.{stateFromParts, outcomeInBuffer}
 use Rattle.handler.proofs.Outcomes.{execute-mismatch, execute-os, execute-peripheral, outcome-as, outcome-reply-only}
 use Rattle.handler.proofs.request.execute.Statement.{statement}
 use Rattle.handler.proofs.request.execute.Tie as tie

@@ -1,7 +1,7 @@
 use borrow.Author.Needs.{needs}
 use mathlib.Core.Path.{ap}
 use mathlib.Core.Bool.{true}
-use Rattle.handler.specs.Request.{SeenOutcome}
+use Rattle.handler.specs.Seen.{SeenOutcome}
 use Rattle.handler.proofs.request.handle_broadcast.Statement.{statement}
 use Rattle.handler.proofs.request.handle_broadcast.Tie as tie
 

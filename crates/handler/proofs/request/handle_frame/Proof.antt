@@ -5,7 +5,8 @@ use Rattle.dpa.specs.Frame.{headerOf}
 use Rattle.batch.specs.Batch.{Item}
 use Rattle.node.specs.declared.record.ReadOnly.{ReadOnly}
 use Rattle.node.proofs.Nodes.{node-ram}
-use Rattle.handler.specs.Request.{State, state, stateFromParts, SoundState, frameItem, execute, broadcastResult, unicastResult}
+use Rattle.handler.specs.Request.{State, state, SoundState, frameItem, execute, broadcastResult, unicastResult}
+use Rattle.handler.specs.Seen.{stateFromParts}
 use Rattle.handler.proofs.Calls.{frame-item-read, frame-broadcast, frame-unicast, frame-other, call-result-as}
 use Rattle.handler.proofs.request.handle_frame.Statement.{statement}
 use Rattle.handler.proofs.request.handle_frame.Tie as tie

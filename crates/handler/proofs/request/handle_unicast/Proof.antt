@@ -2,7 +2,8 @@ use borrow.Author.Needs.{needs}
 use native.Mathlib.Omega.{arith}
 use mathlib.Core.Path.{ap}
 use Rattle.batch.specs.Batch.{Item, item}
-use Rattle.handler.specs.Request.{State, stateFromParts, SeenOutcome, execute}
+use Rattle.handler.specs.Request.{State, execute}
+use Rattle.handler.specs.Seen.{stateFromParts, SeenOutcome}
 use Rattle.handler.proofs.Sizes.{execute-fits}
 use Rattle.handler.proofs.Calls.{unicast-response}
 use Rattle.handler.proofs.request.handle_unicast.Statement.{statement}
