@@ -1,4 +1,4 @@
--- A request whose ErrN is not 0, and a call that is refused, leave the node and both memories as they were.
+-- A request with an error and a refused call leave the node and both memories as they were.
 use mathlib.Core.Path.{_≡_, refl, ap, sym, _∙_}
 use mathlib.Core.List.{List, []}
 use Prim.Native.Nat.{ℕ}
@@ -18,11 +18,11 @@ use Rattle.handler.proofs.Peripherals.{memory-same, peripheral-cases}
 use Rattle.handler.proofs.Outcomes.{os-cases, execute-cases}
 use Rattle.handler.proofs.Calls.{call-refused, call-cases}
 
--- seen on a larger state, a harmless request is harmless
+-- a harmless request to a part of a state is harmless to the state
 harmless-mapped : {S T : Type 0} (put : S → T) (s : S) (t : T) (a : Reply S) → put s ≡ t → Harmless s a → Harmless t (mapState put a)
 harmless-mapped put s t a e h n = (ap put (h n .0) ∙ e, h n .1)
 
--- a request to a peripheral that has an error changes nothing and has no data
+-- a request to a peripheral with an error changes nothing and has no data
 pub peripheral-harmless : (pnum pcmd : ℕ) (d : List ℕ) (st : State) → Harmless st (peripheralRequest pnum pcmd d st)
 peripheral-harmless pnum pcmd d st =
     peripheral-cases pnum pcmd d st (λ (a : Reply State). Harmless st a)
@@ -30,7 +30,7 @@ peripheral-harmless pnum pcmd d st =
     (harmless-mapped (λ ls. withNode st (withLamps (st .node) ls)) (st .node .lamps) st _ refl (lights.request-harmless (st .node .settings) d (st .node .lamps) pcmd))
     (λ e n. (refl, refl))
 
--- an entry of a batch that has an error changes nothing and has no data
+-- an entry of a batch with an error changes nothing and has no data
 pub entry-harmless : (i : Item) (st : State) → Harmless st (executeEntry i st)
 unfolding executeEntry
 entry-harmless i st =
@@ -44,7 +44,7 @@ batch-unread d st n =
     by-cond (λ (a : Outcome). (a .after ≡ st) × (a .entries ≡ [])) (eqb (length d) 0) _ _ (λ _. (refl, refl))
     (λ _. rw (ne-eqb (listError (reading d .check)) 0 n) (refl, refl))
 
--- an outcome with an error: nothing changed, no data, no entry run, nothing to report
+-- an outcome with an error: nothing changed, no data, no entry ran, nothing to report
 abbrev HarmlessOutcome : State → Outcome → Type 0
 HarmlessOutcome st a = (a .error ≡ 0 → ⊥) → a ≡ replyOnly (refused st (a .error))
 
@@ -66,12 +66,12 @@ execute-harmless i st =
     (os-cases (HarmlessOutcome st) st (λ e n. refl) (i .pcmd) (i .pdata) (λ n. absurd (n refl)) (check-outcome-harmless (i .pdata) st))
     (peripheral-outcome-harmless (i .pnum) (i .pcmd) (i .pdata) st)
 
--- sent or not, a frame whose request has an error leaves the state as it was
+-- a call whose request has an error leaves the state as it was, whether the ErrN is sent or not
 pub error-keeps : (f : List ℕ) (st : State) (o : List ℕ) → (execute (frameItem f) st .error ≡ 0 → ⊥) → handleRequest f st o .after ≡ st
 error-keeps f st o n =
     let e : execute (frameItem f) st .after ≡ st = ap (λ (a : Outcome). a .after) (execute-harmless (frameItem f) st n) in
     call-cases (λ (a : CallResult). a .after ≡ st) f st o (λ k. refl) (λ _. e) (λ _. e)
 
--- a refused call hands everything back as it came
+-- a refused call changes nothing
 pub refused-keeps : (f : List ℕ) (st : State) (o : List ℕ) → (callRefusal f st o ≡ 0 → ⊥) → handleRequest f st o ≡ unhandledResult st (callRefusal f st o) o
 refused-keeps f st o n = sym (call-refused f st o refl n)

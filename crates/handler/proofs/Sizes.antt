@@ -1,8 +1,9 @@
--- An answer's data fits a frame.
+-- The response data fits a frame.
 use mathlib.Core.List.{List}
 use Prim.Native.Nat.{ℕ, _≤_}
 use native.Mathlib.Omega.{arith}
 use lib.ListN.{length}
+use Rattle.dpa.specs.Frame.{pdataMax}
 use Rattle.dpa.specs.Reply.{Reply}
 use Rattle.memory.proofs.Requests.{request-max}
 use Rattle.lights.proofs.Requests.{answer-max}
@@ -14,10 +15,10 @@ use Rattle.handler.proofs.Peripherals.{peripheral-cases}
 use Rattle.handler.proofs.Outcomes.{os-cases, execute-cases}
 
 abbrev ReplyFits : Reply State → Type 0
-ReplyFits a = length (a .bytes) ≤ 56
+ReplyFits a = length (a .bytes) ≤ pdataMax
 
 abbrev OutcomeFits : Outcome → Type 0
-OutcomeFits a = length (a .bytes) ≤ 56
+OutcomeFits a = length (a .bytes) ≤ pdataMax
 
 peripheral-fits : (pnum pcmd : ℕ) (d : List ℕ) (st : State) → SoundState st → ReplyFits (peripheralRequest pnum pcmd d st)
 peripheral-fits pnum pcmd d st h =
@@ -25,7 +26,7 @@ peripheral-fits pnum pcmd d st h =
     (omega (arith, answer-max (st .node .settings) d (st .node .lamps) (node-lamps (st .node) (h .node-ok)) pcmd))
     (λ e. omega arith)
 
--- the data of every request fits a response
+-- the response data of every request fits a frame
 pub execute-fits : (i : Item) (st : State) → SoundState st → OutcomeFits (execute i st)
 unfolding codeCheckRequest
 execute-fits i st h =

@@ -1,4 +1,4 @@
--- A sound node with memories of their sizes stays so under every request.
+-- Every request keeps the state sound.
 use mathlib.Core.Path.{_≡_, _∙_}
 use mathlib.Core.List.{List}
 use mathlib.Core.Bool.{true}
@@ -21,11 +21,11 @@ use Rattle.handler.proofs.Outcomes.{os-cases, execute-cases}
 use Rattle.handler.proofs.Calls.{call-cases, accepted-sound}
 use Rattle.node.proofs.Nodes.{node-ram, ram-sound, lamps-sound, node-lamps, node-fits}
 
--- a sound node in the place of another
+-- with another sound node
 with-node-sound : (st : State) → SoundState st → {n : Node} → nodeOk n ≡ true → SoundState (withNode st n)
 with-node-sound st h e = record { node-ok = e; eeprom-size = h .eeprom-size; external-size = h .external-size }
 
--- other lamps of a sound node, by a lights request
+-- a lights request keeps the node sound
 lights-sound : (n : Node) (pcmd : ℕ) (d : List ℕ) → nodeOk n ≡ true → nodeOk (withLamps n (lightsRequest (n .settings) pcmd d (n .lamps) .after)) ≡ true
 lights-sound n pcmd d e =
     lamps-sound n (lightsRequest (n .settings) pcmd d (n .lamps) .after) e (lamps-stay (n .settings) d (n .lamps) pcmd ∙ node-lamps n e)
@@ -37,19 +37,19 @@ ReplySound a = SoundState (a .after)
 abbrev OutcomeSound : Outcome → Type 0
 OutcomeSound a = SoundState (a .after)
 
--- the memories have their sizes
+-- in a sound state each memory has its size
 memory-size : (m : Memory) (st : State) → SoundState st → length (memoryOf m st) ≡ sizeOf m
 memory-size Memory.Eeprom st h = h .eeprom-size
 memory-size Memory.Ram st h = node-ram (st .node) (h .node-ok)
 memory-size Memory.External st h = h .external-size
 
--- and keep the rule with other bytes of that size in one of them
+-- with other bytes of the same size in a memory
 with-memory-sound : (m : Memory) (st : State) → SoundState st → (bytes : List ℕ) → length bytes ≡ sizeOf m → SoundState (withMemory m st bytes)
 with-memory-sound Memory.Eeprom st h bytes e = record { node-ok = h .node-ok; eeprom-size = e; external-size = h .external-size }
 with-memory-sound Memory.Ram st h bytes e = with-node-sound st h (ram-sound (st .node) bytes (h .node-ok) e)
 with-memory-sound Memory.External st h bytes e = record { node-ok = h .node-ok; eeprom-size = h .eeprom-size; external-size = e }
 
--- under a request to a peripheral
+-- a request to a peripheral keeps the state sound
 pub peripheral-sound : (pnum pcmd : ℕ) (d : List ℕ) (st : State) → SoundState st → ReplySound (peripheralRequest pnum pcmd d st)
 peripheral-sound pnum pcmd d st h =
     peripheral-cases pnum pcmd d st ReplySound
@@ -57,13 +57,13 @@ peripheral-sound pnum pcmd d st h =
     (with-node-sound st h (lights-sound (st .node) pcmd d (h .node-ok)))
     (λ e. h)
 
--- under an entry of a batch
+-- an entry of a batch keeps the state sound
 pub entry-sound : (i : Item) (st : State) → SoundState st → SoundState (entryAfter i st)
 unfolding executeEntry
 entry-sound i st h =
     by-cond ReplySound (hwpidMatches (st .node .settings) (i .hwpid)) _ _ (λ _. peripheral-sound (i .pnum) (i .pcmd) (i .pdata) st h) (λ _. h)
 
--- under every request that is carried out
+-- executing a request keeps the state sound
 pub execute-sound : (i : Item) (st : State) → SoundState st → OutcomeSound (execute i st)
 unfolding codeCheckRequest
 execute-sound i st h =
@@ -71,13 +71,13 @@ execute-sound i st h =
     (os-cases OutcomeSound st (λ e. h) (i .pcmd) (i .pdata) (items-keep entryAfter SoundState entry-sound (reading (i .pdata) .items) st h) h)
     (peripheral-sound (i .pnum) (i .pcmd) (i .pdata) st h)
 
--- a sound node with memories of their sizes stays so under every call
+-- every call keeps the state sound
 pub request-sound : (f : List ℕ) (st : State) (o : List ℕ) → SoundState st → SoundState (handleRequest f st o .after)
 request-sound f st o h =
     let k = execute-sound (frameItem f) st h in
     call-cases (λ (a : CallResult). SoundState (a .after)) f st o (λ _. h) (λ _. k) (λ _. k)
 
--- a sound node stays sound under every call, also where a memory has another size
+-- every call keeps the node sound, also if a memory has another size
 pub request-node-sound : (f : List ℕ) (st : State) (o : List ℕ) → nodeOk (st .node) ≡ true → nodeOk (handleRequest f st o .after .node) ≡ true
 request-node-sound f st o e =
     let sound : callRefusal f st o ≡ 0 → nodeOk (execute (frameItem f) st .after .node) ≡ true =
