@@ -1,3 +1,4 @@
+-- `answer_handled`: the answer with the node put together.
 use borrow.Author.Needs.{needs}
 use mathlib.Core.Path.{ap, _∙_}
 use mathlib.Core.Bool.{true}

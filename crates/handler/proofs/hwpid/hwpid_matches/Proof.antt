@@ -1,3 +1,4 @@
+-- `hwpid_matches`: the node's HWPID, then the wildcard.
 use borrow.Author.Tests.{eq-eqb, ne-eqb}
 use Rattle.handler.specs.Request.{hwpidMatches}
 use Rattle.handler.proofs.hwpid.hwpid_matches.Statement.{statement}
