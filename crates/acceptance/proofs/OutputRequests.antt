@@ -5,7 +5,7 @@ use Prim.Native.Nat.{ℕ, suc, _+_, _-_, _≤_}
 use native.Mathlib.Omega.{arith}
 use lib.ListN.{length, getD, take, drop, length-append, length-drop}
 use lib.Seq.{take-at, drop-at}
-use Rattle.dpa.proofs.Lists.{to-end}
+use Rattle.dpa.proofs.Lists.{slice-to-end}
 use Rattle.handler.specs.Request.{State, handleRequest}
 use Rattle.scene.specs.Call.{splitBy, requestsIn, lengths, output}
 use Rattle.book.specs.Group.{concat}
@@ -21,7 +21,7 @@ first-covered (m ∷ ns) bs z e h = omega arith
 pub rest-covered : (ns bs : List ℕ) {n : ℕ} → (length ns ≡ 0 → ⊥) → n ≡ getD ns 0 0 → totalLength ns ≤ length bs
     → totalLength (take (length ns - 1) (drop 1 ns)) ≤ length (take (length bs - n) (drop n bs))
 rest-covered [] bs z e h = absurd (z refl)
-rest-covered (m ∷ ns) bs {n} z e h = rw (to-end 1 (m ∷ ns), to-end n bs, length-drop) (omega arith)
+rest-covered (m ∷ ns) bs {n} z e h = rw (slice-to-end 1 (m ∷ ns), slice-to-end n bs, length-drop) (omega arith)
 
 -- no length byte is left
 pub none-handled : (ns bs : List ℕ) (st : State) → length ns ≡ 0 → st ≡ afterCalls (λ _. zeroBuffer) (splitBy ns bs) st
@@ -36,8 +36,8 @@ pub one-handled : (ns bs : List ℕ) (st : State) {n : ℕ} {next last : State} 
 one-handled [] bs st z e p q = absurd (z refl)
 one-handled (m ∷ ns) bs st {n} {next} z e p q =
     q
-    ∙ ap (λ (l : List ℕ). afterCalls (λ _. zeroBuffer) (splitBy l (take (length bs - n) (drop n bs))) next) (to-end 1 (m ∷ ns))
-    ∙ ap (λ (l : List ℕ). afterCalls (λ _. zeroBuffer) (splitBy ns l) next) (to-end n bs)
+    ∙ ap (λ (l : List ℕ). afterCalls (λ _. zeroBuffer) (splitBy l (take (length bs - n) (drop n bs))) next) (slice-to-end 1 (m ∷ ns))
+    ∙ ap (λ (l : List ℕ). afterCalls (λ _. zeroBuffer) (splitBy ns l) next) (slice-to-end n bs)
     ∙ ap (afterCalls (λ _. zeroBuffer) (splitBy ns (drop n bs))) p
     ∙ ap (λ (k : ℕ). afterCalls (λ _. zeroBuffer) (splitBy ns (drop k bs)) (handleRequest (take k bs) st zeroBuffer .after)) e
 
@@ -47,7 +47,7 @@ module _ (o : List ℕ) {n : ℕ} (e : n ≡ getD o 0 0) where
   lengths-part = ap (λ (k : ℕ). take k (drop 1 o)) (let z : 1 + n - 1 ≡ getD o 0 0 = omega arith in z)
 
   requests-part : take (length o - (1 + n)) (drop (1 + n) o) ≡ drop (suc (getD o 0 0)) o
-  requests-part = to-end (1 + n) o ∙ ap (λ (k : ℕ). drop k o) (let z : 1 + n ≡ suc (getD o 0 0) = omega arith in z)
+  requests-part = slice-to-end (1 + n) o ∙ ap (λ (k : ℕ). drop k o) (let z : 1 + n ≡ suc (getD o 0 0) = omega arith in z)
 
   pub parts-covered : CompleteOutput o → totalLength (take (1 + n - 1) (drop 1 o)) ≤ length (take (length o - (1 + n)) (drop (1 + n) o))
   parts-covered h = rw (lengths-part, requests-part) (h .whole)

@@ -130,4 +130,4 @@ module _ (entryMost : ℕ) where
 
 pub run-part : (entryMost n d : ℕ) (a : List ℕ) (k size : ℕ) → d ≤ n
     → FirstEntry entryMost (stepsIn (n - d) (take (length a - stepLength * d) (drop (stepLength * d) a))) k size → FirstEntry entryMost (drop d (stepsIn n a)) k size
-run-part entryMost n d a k size h f = rw (to-end (stepLength * d) a, steps-drop n d a h) at f
+run-part entryMost n d a k size h f = rw (slice-to-end (stepLength * d) a, steps-drop n d a h) at f

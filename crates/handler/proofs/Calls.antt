@@ -1,4 +1,4 @@
--- Taking a frame: whose it is, the response, and the refusals.
+-- The call: refusals, the address of the frame, and the response.
 use mathlib.Core.Path.{_≡_, ap, sym, _∙_}
 use mathlib.Core.List.{List, _++_}
 use mathlib.Core.Bool.{true, _&&_, _||_}
@@ -10,50 +10,58 @@ use borrow.Rule.Slice.PartMut.{midOf, putMid}
 use borrow.Author.Tests.{eq-eqb, ne-eqb, eqb-true, ltb-false}
 use Rattle.dpa.specs.declared.frame.Frame.{Frame}
 use Rattle.dpa.specs.Lists.{overwriteFront}
-use Rattle.dpa.specs.Frame.{broadcastNadr, headerOf, frameFits, responseHeader}
+use Rattle.dpa.specs.Frame.{headerSize, responseHeaderSize, longestResponse, broadcastNadr, headerOf, frameFits, responseHeader}
 use Rattle.dpa.proofs.Bool.{by-cond, then-taken, else-taken}
 use Rattle.dpa.proofs.Headers.{fits-sizes}
 use Rattle.dpa.proofs.Lists.{slice-to-end, tail-borrowed, tail-returned, overwrite-append}
+use Rattle.memory.specs.declared.block.Memory.the-variants.{Eeprom, External}
+use Rattle.memory.specs.Block.{sizeOf}
 use Rattle.batch.specs.Batch.{Item, item}
 use Rattle.node.specs.declared.record.Node.{Node}
 use Rattle.node.specs.declared.record.ReadOnly.{ReadOnly}
-use Rattle.handler.specs.declared.os.RequestReply.{RequestReply}
+use Rattle.handler.specs.declared.reply.RequestReply.{RequestReply}
 use Rattle.handler.specs.declared.answer.RequestAnswer.{RequestAnswer}
 use Rattle.node.specs.Node.{nodeOk}
-use Rattle.handler.specs.Request.{State, state, SoundState, Outcome, SeenOutcome, outcomeSeen, outcomeInBuffer, frameItem, execute, CallResult, callResult, callResultFromParts, noResponse, broadcastResult, unicastResult, handleFrame, requestRefusal, callRefusal, handleRequest}
+use Rattle.handler.specs.Request.{State, state, SoundState, Outcome, frameItem, execute, CallResult, unhandledResult, broadcastResult, unicastResult, handleFrame, requestRefusal, callRefusal, handleRequest}
+use Rattle.handler.specs.Seen.{SeenOutcome, outcomeSeen, outcomeInBuffer, callResult, callResultFromParts}
 
--- the request that the code takes out of a frame
-pub frame-item : (f : List ℕ) {h : Frame} → h ≡ headerOf f → item (h .pnum) (h .pcmd) (h .hwpid) (take (length f - 6) (drop 6 f)) ≡ frameItem f
-frame-item f e =
-    ap (λ (h : Frame). item (h .pnum) (h .pcmd) (h .hwpid) (take (length f - 6) (drop 6 f))) e
-    ∙ ap (item (headerOf f .pnum) (headerOf f .pcmd) (headerOf f .hwpid)) (slice-to-end 6 f)
+-- the request that the code reads from a frame
+pub frame-item-read : (f : List ℕ) {h : Frame} → h ≡ headerOf f → item (h .pnum) (h .pcmd) (h .hwpid) (take (length f - headerSize) (drop headerSize f)) ≡ frameItem f
+frame-item-read f e =
+    ap (λ (h : Frame). item (h .pnum) (h .pcmd) (h .hwpid) (take (length f - headerSize) (drop headerSize f))) e
+    ∙ ap (item (headerOf f .pnum) (headerOf f .pcmd) (headerOf f .hwpid)) (slice-to-end headerSize f)
 
 module _ (f : List ℕ) (st : State) (o : List ℕ) where
-  pub frame-broadcast : headerOf f .nadr ≡ 255 → handleFrame f st o ≡ broadcastResult (execute (frameItem f) st) o
+  -- a broadcast
+  pub frame-broadcast : headerOf f .nadr ≡ broadcastNadr → handleFrame f st o ≡ broadcastResult (execute (frameItem f) st) o
   unfolding handleFrame
-  frame-broadcast e = rw (eq-eqb (headerOf f .nadr) 255 e)
+  frame-broadcast e = rw (eq-eqb (headerOf f .nadr) broadcastNadr e)
 
-  module _ (n : headerOf f .nadr ≡ 255 → ⊥) where
+  module _ (n : headerOf f .nadr ≡ broadcastNadr → ⊥) where
+    -- a frame for this node
     pub frame-unicast : headerOf f .nadr ≡ st .node .settings .address
         → handleFrame f st o ≡ unicastResult (st .node .settings) (frameItem f) (execute (frameItem f) st) o
     unfolding handleFrame
-    frame-unicast e = rw (ne-eqb (headerOf f .nadr) 255 n, eq-eqb (headerOf f .nadr) (st .node .settings .address) e)
+    frame-unicast e = rw (ne-eqb (headerOf f .nadr) broadcastNadr n, eq-eqb (headerOf f .nadr) (st .node .settings .address) e)
 
-    pub frame-other : (headerOf f .nadr ≡ st .node .settings .address → ⊥) → handleFrame f st o ≡ noResponse st 0 o
+    -- a frame for another node
+    pub frame-other : (headerOf f .nadr ≡ st .node .settings .address → ⊥) → handleFrame f st o ≡ unhandledResult st 0 o
     unfolding handleFrame
-    frame-other e = rw (ne-eqb (headerOf f .nadr) 255 n, ne-eqb (headerOf f .nadr) (st .node .settings .address) e)
+    frame-other e = rw (ne-eqb (headerOf f .nadr) broadcastNadr n, ne-eqb (headerOf f .nadr) (st .node .settings .address) e)
 
-  pub call-refused : {k : ℕ} → k ≡ callRefusal f st o → (k ≡ 0 → ⊥) → noResponse st k o ≡ handleRequest f st o
+  -- a refused call changes nothing
+  pub call-refused : {k : ℕ} → k ≡ callRefusal f st o → (k ≡ 0 → ⊥) → unhandledResult st k o ≡ handleRequest f st o
   unfolding handleRequest
   call-refused e n =
-      rw (ne-eqb (callRefusal f st o) 0 (λ z. n (e ∙ z))) (ap (λ (r : ℕ). noResponse st r o) e)
+      rw (ne-eqb (callRefusal f st o) 0 (λ z. n (e ∙ z))) (ap (λ (r : ℕ). unhandledResult st r o) e)
 
+  -- a call that is not refused handles the frame
   pub call-accepted : callRefusal f st o ≡ 0 → handleRequest f st o ≡ handleFrame f st o
   unfolding handleRequest
   call-accepted e = rw (eq-eqb (callRefusal f st o) 0 e)
 
--- What holds of a call that does nothing, of a broadcast and of a response holds of every call.
-pub call-cases : (P : CallResult → Type 0) (f : List ℕ) (st : State) (o : List ℕ) → ((k : ℕ) → P (noResponse st k o))
+-- A property of results holds for every call if it holds where nothing is done, for a broadcast and for a response.
+pub call-cases : (P : CallResult → Type 0) (f : List ℕ) (st : State) (o : List ℕ) → ((k : ℕ) → P (unhandledResult st k o))
     → (callRefusal f st o ≡ 0 → P (broadcastResult (execute (frameItem f) st) o))
     → (callRefusal f st o ≡ 0 → P (unicastResult (st .node .settings) (frameItem f) (execute (frameItem f) st) o))
     → P (handleRequest f st o)
@@ -64,7 +72,7 @@ call-cases P f st o nothing all own =
     (λ _. by-cond P (eqb (headerOf f .nadr) (st .node .settings .address)) _ _ (λ _. own (eqb-true _ _ z)) (λ _. nothing 0)))
     (λ _. nothing (callRefusal f st o))
 
--- a call answers "addressed" exactly where it is not refused and NADR is the broadcast's or the node's
+-- a call reports "addressed" exactly if it is not refused and NADR is the broadcast's or the node's
 pub addressed-exact : (f : List ℕ) (st : State) (o : List ℕ)
     → handleRequest f st o .addressed
     ≡ (eqb (handleRequest f st o .refusal) 0 && (eqb (headerOf f .nadr) broadcastNadr || eqb (headerOf f .nadr) (st .node .settings .address)))
@@ -77,44 +85,49 @@ addressed-exact f st o =
     (λ _. by-cond Exact all _ _ (λ e. rw e) (λ e. by-cond Exact own _ _ (λ q. rw (e, q)) (λ q. rw (e, q))))
     (λ e. rw e)
 
--- what is known where no refusal was given
 module _ (n : Node) (f e x r : ℕ) (z : requestRefusal n f e x r ≡ 0) where
-  pub refusal-none : (nodeOk n ≡ true) × (6 ≤ f) × (64 ≤ r) × (e ≡ 192) × (x ≡ 16384)
+  -- what a call without a refusal was given
+  pub not-refused-facts : (nodeOk n ≡ true) × (headerSize ≤ f) × (longestResponse ≤ r) × (e ≡ sizeOf Eeprom) × (x ≡ sizeOf External)
   unfolding requestRefusal
-  refusal-none =
+  not-refused-facts =
       let a = then-taken (nodeOk n) _ 1 0 (λ q. omega arith) z in
       let b = then-taken (frameFits f) _ 2 0 (λ q. omega arith) (a .1) in
-      let c = else-taken (ltb r 64) 3 _ 0 (λ q. omega arith) (b .1) in
-      let d = then-taken (eqb e 192) _ 4 0 (λ q. omega arith) (c .1) in
-      let g = then-taken (eqb x 16384) 0 4 0 (λ q. omega arith) (d .1) in
+      let c = else-taken (ltb r longestResponse) 3 _ 0 (λ q. omega arith) (b .1) in
+      let d = then-taken (eqb e (sizeOf Eeprom)) _ 4 0 (λ q. omega arith) (c .1) in
+      let g = then-taken (eqb x (sizeOf External)) 0 4 0 (λ q. omega arith) (d .1) in
       (a .0, fits-sizes f (b .0) .0, ltb-false _ _ (c .0), eqb-true _ _ (d .0), eqb-true _ _ (g .0))
 
-pub accepted-rule : (n : Node) (e x : List ℕ) (f r : ℕ) → requestRefusal n f (length e) (length x) r ≡ 0 → SoundState (state n e x)
-accepted-rule n e x f r z =
-    let k = refusal-none n f (length e) (length x) r z in
+-- a call without a refusal was given a sound state
+pub accepted-sound : (n : Node) (e x : List ℕ) (f r : ℕ) → requestRefusal n f (length e) (length x) r ≡ 0 → SoundState (state n e x)
+accepted-sound n e x f r z =
+    let k = not-refused-facts n f (length e) (length x) r z in
     record { node-ok = k .0; eeprom-size = k .3; external-size = k .4 }
 
--- what the code leaves
+-- ---- as the code shows it
+
+-- equal answers show equal results
 pub call-result-as : {r t : RequestAnswer} {e x o : List ℕ} → r ≡ t → callResult r e x o ≡ callResult t e x o
 call-result-as {r} {t} {e} {x} {o} q = ap (λ (u : RequestAnswer). callResult u e x o) q
 
--- the response: data in the lent rear part of the buffer, then the header in front
-pub unicast-answer : (o m : List ℕ) → 8 ≤ length o → (k : ReadOnly) (i : Item) (a : Outcome) {c : RequestReply} {r e x w : List ℕ}
-    → outcomeSeen k c r e x m ≡ outcomeInBuffer a (midOf 8 (length o - 8) o)
-    → w ≡ responseHeader (k .settings) (i .pnum) (i .pcmd) (c .error) ++ drop 8 (putMid 8 (length o - 8) o m)
-    → callResultFromParts k (record { length = 8 + c .length; report = c .report; lamps = c .lamps }) r e x w ≡ unicastResult (k .settings) i a o
-unicast-answer o m h k i a {c} {r} {e} {x} {w} q u =
-    ap (callResultFromParts k (record { length = 8 + c .length; report = c .report; lamps = c .lamps }) r e x)
-    (u ∙ ap (λ (l : List ℕ). responseHeader (k .settings) (i .pnum) (i .pcmd) (c .error) ++ l) (tail-returned 8 o m h))
+-- the response: the data is written to the buffer after the header, then the header in front
+pub unicast-response : (o m : List ℕ) → responseHeaderSize ≤ length o → (k : ReadOnly) (i : Item) (a : Outcome) {c : RequestReply} {r e x w : List ℕ}
+    → outcomeSeen k c r e x m ≡ outcomeInBuffer a (midOf responseHeaderSize (length o - responseHeaderSize) o)
+    → w ≡ responseHeader (k .settings) (i .pnum) (i .pcmd) (c .error) ++ drop responseHeaderSize (putMid responseHeaderSize (length o - responseHeaderSize) o m)
+    → callResultFromParts k (record { length = responseHeaderSize + c .length; report = c .report; lamps = c .lamps }) r e x w ≡ unicastResult (k .settings) i a o
+unicast-response o m h k i a {c} {r} {e} {x} {w} q u =
+    ap (callResultFromParts k (record { length = responseHeaderSize + c .length; report = c .report; lamps = c .lamps }) r e x)
+    (u ∙ ap (λ (l : List ℕ). responseHeader (k .settings) (i .pnum) (i .pcmd) (c .error) ++ l) (tail-returned responseHeaderSize o m h))
     ∙ ap headed q
-    ∙ ap answered (tail-borrowed 8 o)
-    ∙ ap (λ (l : List ℕ). record { after = a .after; refusal = 0; length = 8 + length (a .bytes); report = a .report; addressed = true; response = l })
+    ∙ ap answered (tail-borrowed responseHeaderSize o)
+    ∙ ap (λ (l : List ℕ). record { after = a .after; refusal = 0; length = responseHeaderSize + length (a .bytes); report = a .report; addressed = true; response = l })
     (sym (overwrite-append (responseHeader (k .settings) (i .pnum) (i .pcmd) (a .error)) (a .bytes) o))
   where
+    -- the header in front of what was seen
     headed : SeenOutcome → CallResult
     headed l =
-        record { after = l .after; refusal = 0; length = 8 + l .length; report = l .report; addressed = true; response = responseHeader (k .settings) (i .pnum) (i .pcmd) (l .error) ++ l .out }
+        record { after = l .after; refusal = 0; length = responseHeaderSize + l .length; report = l .report; addressed = true; response = responseHeader (k .settings) (i .pnum) (i .pcmd) (l .error) ++ l .out }
 
+    -- the header in front of the data in a buffer
     answered : List ℕ → CallResult
     answered l =
-        record { after = a .after; refusal = 0; length = 8 + length (a .bytes); report = a .report; addressed = true; response = responseHeader (k .settings) (i .pnum) (i .pcmd) (a .error) ++ overwriteFront (a .bytes) l }
+        record { after = a .after; refusal = 0; length = responseHeaderSize + length (a .bytes); report = a .report; addressed = true; response = responseHeader (k .settings) (i .pnum) (i .pcmd) (a .error) ++ overwriteFront (a .bytes) l }

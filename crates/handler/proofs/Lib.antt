@@ -3,6 +3,6 @@ pub mod BatchEntries
 pub mod Outcomes
 pub mod Calls
 pub mod Soundness
-pub mod Listing
+pub mod Batches
 pub mod Sizes
 pub mod Errors

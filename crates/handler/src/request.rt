@@ -1,14 +1,14 @@
-// Taking a request: from the frame to the response buffer.
+// `handle_request`: refusals, the address, the HWPID, then the peripherals and the response.
 use crate::answer::Handled;
-use crate::answer::Report;
 use crate::answer::RequestAnswer;
 use crate::answer::answer_handled;
 use crate::answer::answer_unhandled;
-use crate::entries::hwpid_matches;
-use crate::os::RequestReply;
+use crate::hwpid::hwpid_matches;
 use crate::os::os;
-use crate::os::without_data;
 use crate::peripheral::peripheral;
+use crate::reply::RequestReply;
+use crate::reply::peripheral_reply;
+use crate::reply::without_data;
 use dpa::error;
 use dpa::frame::Frame;
 use dpa::frame::write_header;
@@ -16,7 +16,6 @@ use dpa::pnum;
 use dpa::refusal;
 use lights::lamp::LAMPS;
 use lights::lamp::Lamp;
-use lights::request::LampsReply;
 use memory::block::Memory;
 use memory::block::size_of;
 use node::record::Node;
@@ -29,22 +28,10 @@ ghost use Prim.Native.Nat.{ℕ, _≤_};
 ghost use lib.ListN.{length};
 ghost use Rattle.dpa.specs.Frame.{headerSize, pdataMax, longestResponse};
 ghost use Rattle.batch.specs.Batch.{item};
-ghost use Rattle.handler.specs.Request.{state, noReport, stateFromParts, SoundState, outcomeSeen, outcomeInBuffer, execute, callResult, callResultFromParts, broadcastResult, unicastResult, handleFrame, requestRefusal, handleRequest};
+ghost use Rattle.handler.specs.Request.{state, SoundState, execute, broadcastResult, unicastResult, handleFrame, requestRefusal, handleRequest};
+ghost use Rattle.handler.specs.Seen.{stateFromParts, outcomeSeen, outcomeInBuffer, callResult, callResultFromParts};
 
-// A request to a peripheral has nothing to report.
-fn peripheral_reply(reply: LampsReply) -> RequestReply
-    ensures { λ r. ⌜ r ≡ record { error = reply .error; report = noReport; length = reply .length; lamps = reply .lamps } ⌝ }
-{
-    let lamps = reply.lamps;
-    RequestReply {
-        error: reply.error,
-        report: Report::NONE,
-        length: reply.length,
-        lamps,
-    }
-}
-
-// A request from HWPID on. The answer's data goes to the front of `out`.
+// Checks the HWPID, then executes the request. The response data goes to the front of `out`.
 fn execute(
     fixed: ReadOnly,
     lamps: [Lamp; LAMPS],
@@ -81,7 +68,7 @@ fn execute(
     peripheral_reply(reply)
 }
 
-// A broadcast is carried out and never answered: its data goes to a scratch buffer.
+// Executes a broadcast. It gets no response, so the data goes to a scratch buffer.
 fn handle_broadcast(
     fixed: ReadOnly,
     lamps: [Lamp; LAMPS],
@@ -116,7 +103,7 @@ fn handle_broadcast(
     }
 }
 
-// A request to this node: the data part after the header is lent on, then the header is written in front of it.
+// Executes a request to this node: the data is written after the response header, then the header in front of it.
 fn handle_unicast(
     fixed: ReadOnly,
     lamps: [Lamp; LAMPS],
@@ -160,7 +147,7 @@ fn handle_unicast(
     }
 }
 
-// A frame that passed the refusals. The node is taken apart, since only its lamps and its RAM change.
+// Handles a frame that was not refused. The node is split into parts, because only its lamps and its RAM change.
 fn handle_frame(
     node: Node,
     frame: &[u8],
@@ -197,7 +184,7 @@ fn handle_frame(
     answer_unhandled(node, refusal::NONE)
 }
 
-// The refusal of a call, 0 for none.
+// The refusal of a call.
 fn request_refusal(node: Node, frame: usize, eeprom: usize, external: usize, response: usize) -> u8
     ensures { λ r. ⌜ r ≡ requestRefusal node frame eeprom external response ⌝ }
 {
@@ -219,7 +206,7 @@ fn request_refusal(node: Node, frame: usize, eeprom: usize, external: usize, res
     refusal::NONE
 }
 
-// Takes a request. A refused call changes nothing that it was lent.
+// Handles a request. A refused call changes nothing.
 pub fn handle_request(
     node: Node,
     frame: &[u8],

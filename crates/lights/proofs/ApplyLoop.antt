@@ -10,7 +10,7 @@ use lib.Dec.{ltb}
 use Rattle.dpa.specs.Lists.{overwriteFront}
 use Rattle.dpa.specs.Reply.{reply, replySeen, replyInBuffer}
 use Rattle.dpa.specs.declared.settings.Settings.{Settings}
-use Rattle.dpa.proofs.Lists.{kept-next, kept-more, front-written}
+use Rattle.dpa.proofs.Lists.{same-tail-next, same-tail-set, front-written}
 use Rattle.lights.specs.Bits.{bits, count}
 use Rattle.lights.specs.Lamp.{off, LevelsInRange, actualLevel}
 use Rattle.lights.specs.Lights.{PowerEntries, firstPowerEntry, isValid, prepend, powerEntries, areValid, lampAfter, lampsAfter, levelsBefore, levelsReply}
@@ -113,7 +113,7 @@ module _ {s : Settings} {c : Command} {mask : ℕ} {src : List ℕ} {ls : List L
           count-is = w .count-is;
           lamps-length = w .lamps-length;
           after-length = w .after-length;
-          after-unchanged = kept-next after ls i (w .after-unchanged);
+          after-unchanged = same-tail-next after ls i (w .after-unchanged);
           old-length = w .old-length;
           out-length = w .out-length;
           out-unchanged = w .out-unchanged;
@@ -160,7 +160,7 @@ module _ {s : Settings} {c : Command} {mask : ℕ} {src : List ℕ} {ls : List L
               after-unchanged = d;
               old-length = w .old-length;
               out-length = length-set out k v ∙ w .out-length;
-              out-unchanged = kept-more out old k v (w .out-unchanged);
+              out-unchanged = same-tail-set out old k v (w .out-unchanged);
               i-max = omega (arith, apply-inside);
               k-max = omega (arith, w .k-max);
               at-max = apply-pdata-room;
@@ -175,12 +175,12 @@ module _ {s : Settings} {c : Command} {mask : ℕ} {src : List ℕ} {ls : List L
         pub apply-implemented : (v : ℕ) (r : Lamp) → i < n → v ≡ actualLevel s (getD after i off .level) → r ≡ lampAfter c (getD after i off) (e .power) (e .seconds)
             → ApplyLoop s c mask src ls old n (set after i r) (set out k v) (m / 2) (at + size) (k + 1) (i + 1)
         apply-implemented v r h a b =
-            apply-selected (set after i r) v (length-set after i r ∙ w .after-length) (kept-more after ls i r (w .after-unchanged))
+            apply-selected (set after i r) v (length-set after i r ∙ w .after-length) (same-tail-set after ls i r (w .after-unchanged))
             (level-implemented n i v _ h (a ∙ ap (λ (l : Lamp). actualLevel s (l .level)) lamp-unchanged))
             (λ es. lamps-from-changed c n i m e es after r apply-inside (w .after-length) z h b)
 
         -- a selected lamp that is not implemented
         pub apply-unimplemented : n ≤ i → ApplyLoop s c mask src ls old n after (set out k 0) (m / 2) (at + size) (k + 1) (i + 1)
         apply-unimplemented h =
-            apply-selected after 0 (w .after-length) (kept-next after ls i (w .after-unchanged)) (level-unimplemented n i _ h)
+            apply-selected after 0 (w .after-length) (same-tail-next after ls i (w .after-unchanged)) (level-unimplemented n i _ h)
             (λ es. lamps-from-unimplemented c n i m e es after apply-inside (w .after-length) z h)

@@ -8,7 +8,7 @@ use lib.ListN.{length, getD, take}
 use lib.Dec.{ltb}
 use borrow.Author.Tests.{lt-ltb, le-ltb, ltb-true, ltb-false}
 use Rattle.dpa.specs.declared.settings.Settings.{Settings}
-use Rattle.dpa.proofs.Bool.{not-both}
+use Rattle.dpa.proofs.Bool.{and-right-false}
 use Rattle.lights.specs.Bits.{count, isOne}
 use Rattle.lights.specs.Lamp.{off, actualLevel}
 use Rattle.lights.specs.Lights.{lampAfter, lampsAfter, levelsBefore}
@@ -51,7 +51,7 @@ pub lamp-unimplemented : (c : Command) (n : ℕ) (bs : List ℕ) (es : List Lamp
 lamp-unimplemented c n bs es ls k h q l =
     lamps-after-at c n bs es ls k h q
     ∙ ap (λ (t : Bool). cond t (lampAfterEntry c (getD ls k off) (getD es (count (take k bs)) zeroChange)) (getD ls k off))
-    (not-both (isOne (getD bs k 0)) (ltb k n) (le-ltb k n l))
+    (and-right-false (isOne (getD bs k 0)) (ltb k n) (le-ltb k n l))
 
 pub lamps-length : (c : Command) (n : ℕ) (bs : List ℕ) (es : List LampChange) (ls : List Lamp) → length (lampsAfter c n bs es ls) ≡ length ls
 unfolding lampsAfter

@@ -8,8 +8,8 @@ use lib.ListN.{length, take, drop, length-drop, drop-of-length-le}
 use lib.Seq.{take-length, drop-drop, length-take-le}
 use borrow.Author.Tests.{ltb-false, leb-false, le-ltb, lt-leb}
 use Rattle.dpa.specs.Lists.{slice}
-use Rattle.dpa.proofs.Bool.{second-taken}
-use Rattle.dpa.proofs.Lists.{to-end}
+use Rattle.dpa.proofs.Bool.{else-taken}
+use Rattle.dpa.proofs.Lists.{slice-to-end}
 use Rattle.memory.specs.declared.block.Memory.{Memory}
 use Rattle.memory.specs.declared.block.Memory.the-variants.{Eeprom}
 use Rattle.memory.specs.Block.{longestOf, blockFault, overwrite}
@@ -25,9 +25,9 @@ module _ (size longest start n tooLong outside : ℕ) where
   pub no-fault-fits : (tooLong ≡ 0 → ⊥) → (outside ≡ 0 → ⊥) → blockFault size longest start n tooLong outside ≡ 0 → BlockFits size longest start n
   unfolding blockFault
   no-fault-fits t o e =
-      let a = second-taken (ltb longest n) tooLong _ 0 t e in
-      let b = second-taken (leb size start) outside _ 0 o (a .1) in
-      let d = second-taken (ltb size (start + n)) outside 0 0 o (b .1) in
+      let a = else-taken (ltb longest n) tooLong _ 0 t e in
+      let b = else-taken (leb size start) outside _ 0 o (a .1) in
+      let d = else-taken (ltb size (start + n)) outside 0 0 o (b .1) in
       record { length-max = ltb-false _ _ (a .0); start-inside = leb-false _ _ (b .0); end-inside = ltb-false _ _ (d .0) }
 
   -- a block that fits has no fault
@@ -62,4 +62,4 @@ past-end a s = drop-of-length-le (drop a s) {i = length s - a} (simp length-drop
 pub copy-in-result : (mem d l : List ℕ) (start : ℕ)
     → l ≡ take (length d) d ++ drop (length d) (take (length mem - start) (drop start mem))
     → take start mem ++ (l ++ drop (length mem - start) (drop start mem)) ≡ overwrite mem start d
-copy-in-result mem d l start e = simp (e, take-length, to-end, past-end, append-nil, append-assoc, drop-drop)
+copy-in-result mem d l start e = simp (e, take-length, slice-to-end, past-end, append-nil, append-assoc, drop-drop)

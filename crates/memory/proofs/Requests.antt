@@ -10,8 +10,8 @@ use borrow.Author.Tests.{eqb-true, leb-false, eq-eqb, ne-eqb, lt-leb}
 use Rattle.dpa.specs.Frame.{pdataMax}
 use Rattle.dpa.specs.Lists.{slice}
 use Rattle.dpa.specs.Reply.{Harmless, Reply, reply, refused, replySeen, replyInBuffer}
-use Rattle.dpa.proofs.Bool.{by-cond, first-taken, second-taken}
-use Rattle.dpa.proofs.Lists.{to-end}
+use Rattle.dpa.proofs.Bool.{by-cond, then-taken, else-taken}
+use Rattle.dpa.proofs.Lists.{slice-to-end}
 use Rattle.memory.specs.declared.block.Memory.{Memory}
 use Rattle.memory.specs.declared.block.Memory.the-variants.{Eeprom}
 use Rattle.memory.specs.Block.{sizeOf, longestOf, addressBytes, readCommand, writeCommand, overwrite}
@@ -32,14 +32,14 @@ module _ (m : Memory) (p : List ℕ) where
   pub read-fits : readError m p ≡ 0 → ReadFits
   unfolding readError
   read-fits e =
-      let a = first-taken (eqb (length p) (addressBytes m + 1)) _ 5 0 (λ q. omega arith) e in
+      let a = then-taken (eqb (length p) (addressBytes m + 1)) _ 5 0 (λ q. omega arith) e in
       (eqb-true _ _ (a .0), no-fault-fits (sizeOf m) (longestOf m) (startOf m p) (lengthOf m p) 5 4 (λ q. omega arith) (λ q. omega arith) (a .1))
 
   -- a write without an error is accepted
   pub write-fits : writeError m p ≡ 0 → WriteFits
   unfolding writeError
   write-fits e =
-      let a = second-taken (leb (length p) (addressBytes m)) 5 _ 0 (λ q. omega arith) e in
+      let a = else-taken (leb (length p) (addressBytes m)) 5 _ 0 (λ q. omega arith) e in
       (leb-false _ _ (a .0), no-fault-fits (sizeOf m) (longestOf m) (startOf m p) (length p - addressBytes m) 5 4 (λ q. omega arith) (λ q. omega arith) (a .1))
 
   -- the error in the form of the code's tests
@@ -90,7 +90,7 @@ module _ (m : Memory) (p : List ℕ) where
       -- the overwritten memory is the reply
       pub write-reply : (out last : List ℕ) → last ≡ overwrite mem a (take (length p - w) (drop w p)) → replySeen last 0 0 out ≡ replyInBuffer (writeRequest m p mem) out
       unfolding writeRequest
-      write-reply out last el = rw (z, ← ew, ← ea, el, to-end w p)
+      write-reply out last el = rw (z, ← ew, ← ea, el, slice-to-end w p)
 
 -- a read and a write have different PCMDs
 pub commands-differ : (m : Memory) → eqb (writeCommand m) (readCommand m) ≡ false

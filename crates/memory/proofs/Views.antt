@@ -9,7 +9,7 @@ use lib.ListN.{length}
 use denote.Ref.{RefT, now}
 use borrow.Author.Tests.{eqb-true, eqb-false, eq-eqb, ne-eqb}
 use Rattle.dpa.specs.Lists.{slice}
-use Rattle.dpa.proofs.Bool.{first-taken, by-test}
+use Rattle.dpa.proofs.Bool.{then-taken, by-test}
 use Rattle.memory.specs.declared.block.Memory.{Memory}
 use Rattle.memory.specs.declared.block.Memory.the-variants.{Eeprom, External}
 use Rattle.memory.specs.Block.{memoryPnum, sizeOf, longestOf}
@@ -38,15 +38,15 @@ by-pnum : (p start n : ℕ) (b : Bool) → eqb p (memoryPnum Eeprom) ≡ b
     → (start + n ≤ sizeOf External) × (p ≡ memoryPnum Eeprom → start + n ≤ sizeOf Eeprom)
 by-pnum p start n true h e = let r = block-ends Eeprom start n e in (omega arith, λ q. r)
 by-pnum p start n false h e =
-    let x = first-taken (eqb p (memoryPnum External)) (blockRefusal External start n) 10 0 (λ q. omega arith) e in
+    let x = then-taken (eqb p (memoryPnum External)) (blockRefusal External start n) 10 0 (λ q. omega arith) e in
     (block-ends External start n (x .1), λ q. absurd (eqb-false p (memoryPnum Eeprom) h q))
 
 -- a view with status 0 fits
 pub view-fits : (e x : List ℕ) (p start n : ℕ) → viewStatus e x p start n ≡ 0 → ViewFits e x p start n
 unfolding viewStatus
 view-fits e x p start n h =
-    let a = first-taken (eqb (length e) (sizeOf Eeprom)) _ 4 0 (λ q. omega arith) h in
-    let b = first-taken (eqb (length x) (sizeOf External)) _ 4 0 (λ q. omega arith) (a .1) in
+    let a = then-taken (eqb (length e) (sizeOf Eeprom)) _ 4 0 (λ q. omega arith) h in
+    let b = then-taken (eqb (length x) (sizeOf External)) _ 4 0 (λ q. omega arith) (a .1) in
     let k = by-pnum p start n (eqb p (memoryPnum Eeprom)) refl (b .1) in
     record { eeprom-size = eqb-true _ _ (a .0); external-size = eqb-true _ _ (b .0); in-eeprom = k .1; end-max = k .0 }
 

@@ -6,7 +6,7 @@ use native.Mathlib.Omega.{arith}
 use lib.ListN.{length, drop, length-drop}
 use borrow.Author.Needs.{needs}
 use borrow.Author.Tests.{le-leb, lt-leb, not-true, not-false}
-use Rattle.dpa.proofs.Lists.{to-end}
+use Rattle.dpa.proofs.Lists.{slice-to-end}
 use Rattle.book.specs.declared.locations.SceneLocation.{SceneLocation}
 use Rattle.book.specs.Book.{stepsMax, stepLength, sceneCount, bookOk, sceneOf, stepsIn}
 use Rattle.book.proofs.Books.{book-facts, body-within, scene-at}
@@ -74,7 +74,7 @@ returns-3 c =
     let scene : sceneOf b (s .args .scene) ≡ stepsIn (d .scene-location .result .steps) (drop (d .scene-location .result .offset) b) =
     scene-at b (s .args .scene) (below (d .before)) ∙ ap (λ (x : SceneLocation). stepsIn (x .steps) (drop (x .offset) b)) (sym (p .0)) in
     rw (book (d .before .before .before .before), lt-leb (sceneCount b) (s .args .scene) (below (d .before)), scene)
-    (rw (to-end (d .scene-location .result .offset) b) at (c .before .before .compile-steps .ensures))
+    (rw (slice-to-end (d .scene-location .result .offset) b) at (c .before .before .compile-steps .ensures))
 
 pub compile-scene-spec : {M : Type 1} → statement M
 compile-scene-spec =

@@ -1,7 +1,8 @@
+-- `hwpid_matches`: the node's HWPID, then the wildcard.
 use borrow.Author.Tests.{eq-eqb, ne-eqb}
 use Rattle.handler.specs.Request.{hwpidMatches}
-use Rattle.handler.proofs.entries.hwpid_matches.Statement.{statement}
-use Rattle.handler.proofs.entries.hwpid_matches.Tie as tie
+use Rattle.handler.proofs.hwpid.hwpid_matches.Statement.{statement}
+use Rattle.handler.proofs.hwpid.hwpid_matches.Tie as tie
 
 returns : tie.Need-returns
 unfolding hwpidMatches
