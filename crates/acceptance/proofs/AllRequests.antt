@@ -1,4 +1,4 @@
--- The requests of a scene, taken one after the other: each succeeds, and together they do the scene's steps.
+-- The requests of a scene, handled in order: each succeeds, and together they do what the steps of the scene do.
 use mathlib.Core.Path.{_≡_, refl, sym, ap, subst, _∙_}
 use mathlib.Core.Logic.{_⊎_}
 use mathlib.Core.List.{List, [], _∷_, _++_, map}
@@ -25,35 +25,35 @@ use Rattle.acceptance.specs.Condition3.{Success, AllSucceed, afterCalls,
 use Rattle.acceptance.proofs.Batches.{AllPerform, entries-perform, batch-performs}
 use Rattle.acceptance.proofs.OneRequest.{call-leaves, call-sound, call-succeeds}
 
--- a call of a list of requests is as it is to be, leaves these steps done, and leaves a sound node
+-- a call succeeds, leaves the state that the step machine reaches by these steps, and leaves it sound
 pub record Done (pcmd a : ℕ) (s : Settings) (request : List ℕ) (steps : List Step) (st : State) (o : List ℕ) : Type 0 where
   pub success : Success pcmd a s request st o
   pub after : handleRequest request st o .after ≡ machine steps st
   pub sound : SoundState (handleRequest request st o .after)
 
--- Two limits; a PCMD of OS 02 and bytes in front of a list of entries, which a node with settings s carries out as the list
--- alone. Only lists that can be read are asked about.
+-- For any two limits, and any PCMD and bytes in front of the list with which a node with settings s executes the list as a batch.
+-- This is asked of readable lists only.
 module _ {entryMost listMost : ℕ} {front : List ℕ} (limits : Limits entryMost listMost front) (pcmd a h : ℕ) (s : Settings)
-    (mine : (a ≡ s .address) ⊎ (a ≡ broadcastNadr)) (ours : hwpidMatches s h ≡ true)
-    (carried : (items : List Item) (st : State) → st .node .settings ≡ s
+    (addressed-to : (a ≡ s .address) ⊎ (a ≡ broadcastNadr)) (hwpid-matches : hwpidMatches s h ≡ true)
+    (as-batch : (items : List Item) (st : State) → st .node .settings ≡ s
     → execute (item osPnum pcmd h (front ++ listBytes items)) st ≡ batchRequest (listBytes items) st)
     (performs : AllPerform h (EntryGroup entryMost)) where
-  -- a request of entries that joining and filling make
+  -- a request with a batch that joining and filling make
   pub request-done : (groups : List (List Step)) (st : State) (o : List ℕ) → BatchRule entryMost listMost h groups
       → SoundState st → st .node .settings ≡ s → longestResponse ≤ length o → Done pcmd a s (requestBytes pcmd front a h groups) (concat groups) st o
   request-done groups st o b k e room =
       let list = listBytes (joinedItems h groups) in
-      let own : hwpidMatches (st .node .settings) h ≡ true = ap (λ (n : Settings). hwpidMatches n h) e ∙ ours in
-      let to : (a ≡ st .node .settings .address) ⊎ (a ≡ broadcastNadr) = subst (λ (n : Settings). (a ≡ n .address) ⊎ (a ≡ broadcastNadr)) (sym e) mine in
-      let did = carried (joinedItems h groups) st e ∙ batch-performs h (EntryGroup entryMost) performs groups st (b .entries) k own in
+      let own : hwpidMatches (st .node .settings) h ≡ true = ap (λ (n : Settings). hwpidMatches n h) e ∙ hwpid-matches in
+      let to : (a ≡ st .node .settings .address) ⊎ (a ≡ broadcastNadr) = subst (λ (n : Settings). (a ≡ n .address) ⊎ (a ≡ broadcastNadr)) (sym e) addressed-to in
+      let executed = as-batch (joinedItems h groups) st e ∙ batch-performs h (EntryGroup entryMost) performs groups st (b .entries) k own in
       let length-max = batch-fits limits (frame a osPnum pcmd h) groups b .1 in
       record {
         success =
             subst (λ (n : Settings). Success pcmd a n (requestBytes pcmd front a h groups) st o) e
-            (call-succeeds pcmd a h (front ++ list) st o k length-max room to did
+            (call-succeeds pcmd a h (front ++ list) st o k length-max room to executed
             (entries-perform h (EntryGroup entryMost) performs groups st (b .entries) k own .0));
-        after = call-leaves pcmd a h (front ++ list) st o k length-max room to did;
-        sound = call-sound pcmd a h (front ++ list) st o k length-max room to did;
+        after = call-leaves pcmd a h (front ++ list) st o k length-max room to executed;
+        sound = call-sound pcmd a h (front ++ list) st o k length-max room to executed;
       }
 
   requests-done : (bs : List (List (List Step))) (buffers : ℕ → List ℕ) (st : State)
@@ -73,15 +73,15 @@ module _ {entryMost listMost : ℕ} {front : List ℕ} (limits : Limits entryMos
             ∙ sym (ap (λ (l : List Step). machine l st) (concat-append groups (concat bs))),
       )
 
-  -- steps of which none is bad
+  -- the requests of good steps
   pub steps-done : (steps : List Step) (buffers : ℕ → List ℕ) (st : State)
       → All Good steps → SoundState st → st .node .settings ≡ s → ((k : ℕ) → longestResponse ≤ length (buffers k))
       → MatchesMachine pcmd a buffers (requestsOf entryMost listMost pcmd front a h steps) steps st
   steps-done steps buffers st allValid k e room =
       let bs = batchesOf entryMost listMost h steps in
-      let did = requests-done bs buffers st (batches-rule limits h steps allValid) k e room in
+      let executed = requests-done bs buffers st (batches-rule limits h steps allValid) k e room in
       let whole : concat (concat bs) ≡ steps = ap concat (filling-keeps entryMost listMost h steps) ∙ joining-keeps entryMost steps in
       record {
-        calls = subst (λ (n : Settings). AllSucceed pcmd a n buffers (requestsOf entryMost listMost pcmd front a h steps) st) (sym e) (did .0);
-        final = did .1 ∙ ap (λ (l : List Step). machine l st) whole;
+        calls = subst (λ (n : Settings). AllSucceed pcmd a n buffers (requestsOf entryMost listMost pcmd front a h steps) st) (sym e) (executed .0);
+        final = executed .1 ∙ ap (λ (l : List Step). machine l st) whole;
       }

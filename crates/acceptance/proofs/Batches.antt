@@ -1,4 +1,4 @@
--- Entries that each do their own steps do all their steps in a batch.
+-- A batch: if each entry does what its own steps do, the batch does what all steps do.
 use mathlib.Core.Path.{_≡_, refl, sym, ap, _∙_}
 use mathlib.Core.List.{List, [], _∷_}
 use mathlib.Core.Bool.{true}
@@ -19,21 +19,21 @@ use Rattle.book.specs.Entry.{joinedItem}
 use Rattle.scene.specs.Compile.{joinedItems}
 use Rattle.book.proofs.MachineLaws.{machine-append, machine-stays}
 
--- carried out without an error of its own or data, with nothing to report
+-- an outcome without an error, PData or a report of its own
 abbrev pub noErrorOutcome : State → List ℕ → Outcome
 noErrorOutcome end errors = outcome (reply end 0 []) errors noReport
 
--- the entry of these steps has no error and leaves what they leave
+-- the entry of this group has no error, and ends in the state that the step machine reaches
 abbrev pub Performs : ℕ → List Step → State → Type 0
 Performs h group st = (executeEntry (joinedItem h group) st .error ≡ 0) × (executeEntry (joinedItem h group) st .after ≡ machine group st)
 
--- the entries of these steps, at any sound node that takes their profile
+-- so do the entries of all groups of a kind, at any sound node that accepts the profile
 abbrev pub AllPerform : ℕ → (List Step → Type 0) → Type 0
 AllPerform h EntryGroup =
     (group : List Step) (st : State) → EntryGroup group → SoundState st → hwpidMatches (st .node .settings) h ≡ true → Performs h group st
 
 module _ (h : ℕ) (EntryGroup : List Step → Type 0) (performs : AllPerform h EntryGroup) where
-  -- in order, each from what the last one left
+  -- all entries in order
   pub entries-perform : (groups : List (List Step)) (st : State) → All EntryGroup groups → SoundState st → hwpidMatches (st .node .settings) h ≡ true
       → All (λ (e : ℕ). e ≡ 0) (errorsOf entryError entryAfter (joinedItems h groups) st)
       × (runItems entryAfter (joinedItems h groups) st ≡ machine (concat groups) st)
@@ -46,7 +46,7 @@ module _ (h : ℕ) (EntryGroup : List Step → Type 0) (performs : AllPerform h 
       let rest = entries-perform rs next (a .1) (entry-sound (joinedItem h r) st k) (ap (λ (s : Settings). hwpidMatches s h) same ∙ f) in
       ((first .0, rest .0), rest .1 ∙ ap (machine (concat rs)) (first .1) ∙ sym (machine-append r (concat rs) st))
 
-  -- their list is read back and runs
+  -- a batch request of these entries
   pub batch-performs : (groups : List (List Step)) (st : State) → All EntryGroup groups → SoundState st → hwpidMatches (st .node .settings) h ≡ true
       → batchRequest (listBytes (joinedItems h groups)) st
       ≡ noErrorOutcome (machine (concat groups) st) (errorsOf entryError entryAfter (joinedItems h groups) st)

@@ -1,4 +1,4 @@
--- What one entry of joined steps does: no error, and the step machine's state.
+-- One entry of joined steps: it has no error, and ends in the state that the step machine reaches.
 use mathlib.Core.Path.{_≡_, refl, sym, ap, subst, _∙_}
 use mathlib.Core.Bool.{true}
 use mathlib.Core.List.{List, [], _∷_}
@@ -26,7 +26,7 @@ use Rattle.scene.specs.Compile.{Limits}
 use Rattle.acceptance.proofs.Lamps.{LampGroup, entry-lamp-group}
 use Rattle.acceptance.proofs.Memories.{Writes, writes-ram, writes-eeprom, ByteGroup, entry-byte-group}
 
--- joined steps of a lamp kind ascend
+-- the targets of joined lamp steps ascend
 lamp-group : (k : ℕ) → k < 3 → (p : Step) (ss : List Step) → p .kind ≡ k → Linked p ss → LampGroup k (suc (p .target)) ss
 unfolding follows
 lamp-group k h p [] e l = tt
@@ -35,7 +35,7 @@ lamp-group k h p (s ∷ ss) e l =
     let up : p .target < s .target = ltb-true _ _ (rw (e, lt-ltb k 3 h) at (and-right (eqb (s .kind) (p .kind)) _ (l .1))) in
     (l .0, same, up, lamp-group k h s ss same (l .2))
 
--- those of a memory stand next to each other
+-- those of memory steps are adjacent
 byte-group : (k : ℕ) → 3 ≤ k → (p : Step) (ss : List Step) → p .kind ≡ k → Linked p ss → ByteGroup k (suc (p .target)) ss
 unfolding follows
 byte-group k h p [] e l = tt

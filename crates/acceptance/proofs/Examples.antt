@@ -1,4 +1,4 @@
--- The worked examples, computed from the definitions.
+-- The worked examples, proved by computation.
 use mathlib.Core.Path.{refl}
 use lib.ListN.{length}
 use borrow.Author.Tests.{le-ltb}
@@ -16,6 +16,7 @@ use Rattle.book.specs.Join.{follows}
 use Rattle.scene.specs.Call.{minOutput, addressOk, compileScene, compileFor}
 use Rattle.acceptance.specs.Examples.{WorkedExamples, OwnExamples}
 
+-- those of document 01
 pub worked-examples : WorkedExamples
 unfolding bits bitmap actualLevel powerOk timeOk secondsOf lampAfter lampsAfter levelsBefore changeLamps lightsRequest addWithCarry addByte sums nextEntry readingFrom baseSlot networkExtra slotOf directionTime earliestOf sendOf peripheralRequest hwpidMatches batchRequest osRequest execute entryBytes entriesBytes chained bookOk sceneOf stepTimeOk lampFault byteFault stepFault powerBytes entryData pnumOf pcmdOf follows addressOk compileScene compileFor
 worked-examples =
@@ -39,6 +40,7 @@ worked-examples =
       book-compiles = λ out room. rw (le-ltb (length out) minOutput room);
     }
 
+-- those of our own
 pub own-examples : OwnExamples
 unfolding bits bitmap actualLevel powerOk timeOk secondsOf lampAfter lampsAfter levelsBefore changeLamps lightsRequest nextEntry readingFrom runItems errorsOf peripheralRequest hwpidMatches executeEntry batchRequest osRequest execute
 own-examples =

@@ -1,4 +1,4 @@
--- A lights request whose bitmap marks ascending lamps: each of these lamps takes its own entry, one after the other.
+-- A lights request of a group of lamp steps: it changes the lamps as the step machine does, one step after another.
 use mathlib.Core.Path.{_≡_, refl, sym, ap, _∙_}
 use mathlib.Core.Bool.{true, cond}
 use mathlib.Core.List.{List, [], _∷_, _++_, map}
@@ -48,12 +48,12 @@ digit-zero n m h e =
     rw (q, r)
 
 module _ {A : Type 0} (target : A → ℕ) where
-  -- targets that ascend from i on and are below 32
+  -- targets that ascend from i and are below 32
   abbrev pub Ascending : ℕ → List A → Type 0
   Ascending i [] = Unit {0}
   Ascending i (s ∷ ss) = (i ≤ target s) × (target s < 32) × Ascending (suc (target s)) ss
 
-  -- the number whose one-digits are the targets; lamp i has the lowest digit
+  -- the number whose 1 bits are the targets, lamp i having the lowest bit
   abbrev pub maskFrom : ℕ → List A → ℕ
   maskFrom i [] = 0
   maskFrom i (s ∷ ss) = 2 ^ (target s - i) + maskFrom i ss
@@ -64,7 +64,7 @@ module _ {A : Type 0} (target : A → ℕ) where
       let e : target s - i ≡ suc (target s - suc i) = omega (arith, a .0) in
       rw (e, mask-double i (suc (target s)) ss (omega (arith, a .0)) (a .2)) (omega arith)
 
-  -- the digits from lamp i on
+  -- its bits from lamp i on
   digits-none : (n i : ℕ) → bits (suc n) (maskFrom i []) ≡ 0 ∷ bits n (maskFrom (suc i) [])
   digits-none n i = digit-zero n 0 0 refl
 
@@ -79,7 +79,7 @@ module _ {A : Type 0} (target : A → ℕ) where
   digits-later n i s ss h a =
       digit-zero n (maskFrom i (s ∷ ss)) (maskFrom (suc i) (s ∷ ss)) (mask-double i (target s) (s ∷ ss) h (le-refl (target s), a .1, a .2))
 
-  -- as many ones as targets
+  -- as many 1 bits as targets
   pub mask-count : (n i : ℕ) (ss : List A) → n + i ≡ 32 → Ascending i ss → count (bits n (maskFrom i ss)) ≡ length ss
   unfolding bits
   mask-count zero i [] h a = refl
@@ -92,24 +92,25 @@ module _ {A : Type 0} (target : A → ℕ) where
       (λ t. let l : i < target s = omega (arith, eqb-false (target s) i t, a .0) in
       ap count (digits-later n i s ss l a) ∙ mask-count n (suc i) (s ∷ ss) (omega arith) (l, a .1, a .2))
 
-  -- thirty-two digits hold the mask
+  -- the mask fits 32 bits
   mask-room : (ss : List A) (j : ℕ) → Ascending j ss → j ≤ 32 → maskFrom 0 ss + 2 ^ j ≤ 2 ^ 32
   mask-room [] j a h = omega (arith, pow-mono h)
   mask-room (s ∷ ss) j a h =
       rw (sub-zero (target s)) (omega (arith, pow-mono (a .0), mask-room ss (suc (target s)) (a .2) (a .1), two-pow-succ (target s)))
 
+  -- and is below 2 ^ 32
   pub mask-max : (ss : List A) → Ascending 0 ss → maskFrom 0 ss < 2 ^ 32
   mask-max ss a = omega (arith, mask-room ss 0 a (omega arith))
 
   module _ (change : A → LampChange) (c : Command) where
-    -- lamp `target s - i` of n implemented ones takes its entry
+    -- one change: lamp `target s - i`, if it is one of the n implemented lamps
     abbrev pub applyOne : ℕ → ℕ → A → List Lamp → List Lamp
     applyOne n i s ls =
         cond (ltb (target s - i) n)
         (set ls (target s - i) (lampAfter c (getD ls (target s - i) off) (change s .power) (change s .seconds)))
         ls
 
-    -- the entries one after the other
+    -- the changes one after another
     abbrev pub applyAll : ℕ → ℕ → List A → List Lamp → List Lamp
     applyAll n i [] ls = ls
     applyAll n i (s ∷ ss) ls = applyAll n i ss (applyOne n i s ls)
@@ -121,14 +122,14 @@ module _ {A : Type 0} (target : A → ℕ) where
         (λ t. rw (e, t, lt-ltb (suc (target s - suc i)) n (omega (arith, ltb-true (target s - suc i) (n - 1) t))))
         (λ t. rw (e, t, le-ltb (suc (target s - suc i)) n (omega (arith, ltb-false (target s - suc i) (n - 1) t))))
 
-    -- entries of later lamps leave the first
+    -- changes of later lamps leave the first lamp
     all-later : (n i j : ℕ) (ss : List A) (l : Lamp) (ls : List Lamp) → i < j → Ascending j ss → applyAll n i ss (l ∷ ls) ≡ l ∷ applyAll (n - 1) (suc i) ss ls
     all-later n i j [] l ls h a = refl
     all-later n i j (s ∷ ss) l ls h a =
         ap (applyAll n i ss) (one-later n i s l ls (omega (arith, a .0)))
         ∙ all-later n i (suc (target s)) ss l (applyOne (n - 1) (suc i) s ls) (omega (arith, a .0)) (a .2)
 
-    -- all entries at once are the entries in turn
+    -- changing all lamps at once is changing them one after another
     pub lamps-one-by-one : (m n i : ℕ) (ss : List A) (ls : List Lamp) → m + i ≡ 32 → length ls ≡ m → Ascending i ss
         → lampsAfter c n (bits m (maskFrom i ss)) (map change ss) ls ≡ applyAll n i ss ls
     unfolding lampsAfter bits
@@ -172,14 +173,14 @@ unfolding bitmap
 bitmap-bytes m a b d e rest p q r s w =
     sym (bits-mask (a ∷ b ∷ d ∷ e ∷ []) (four-bytes a b d e p q r s)) ∙ ap (bits 32) (sym w)
 
--- a level without a time, in front of entries that are all valid
+-- a power without a time, before valid power entries
 pub entry-level : (n v : ℕ) (xs : List ℕ) (es : List LampChange) → v ≤ 100 → powerEntries n xs ≡ allValid es → powerEntries (suc n) (v ∷ xs) ≡ allValid (change v 0 ∷ es)
 unfolding powerOk
 entry-level n v xs es h e =
     let q : v % 128 ≡ v = omega arith in
     rw (q, le-leb v 100 h, lt-ltb v 128 (omega arith), e)
 
--- a level with a time
+-- a power with a time
 pub entry-timed : (n v t : ℕ) (xs : List ℕ) (es : List LampChange) → v ≤ 100 → timeOk t ≡ true → powerEntries n xs ≡ allValid es
     → powerEntries (suc n) ((v + 128) ∷ t ∷ xs) ≡ allValid (change v (secondsOf t) ∷ es)
 unfolding powerOk
@@ -189,7 +190,7 @@ entry-timed n v t xs es h k e =
 
 -- ---- steps
 
--- good steps of a lamp kind, on lamps that ascend from i on
+-- good steps of lamp kind k whose targets ascend from i
 abbrev pub LampGroup : ℕ → ℕ → List Step → Type 0
 LampGroup k i [] = Unit {0}
 LampGroup k i (s ∷ ss) = Good s × (s .kind ≡ k) × (i ≤ s .target) × LampGroup k (suc (s .target)) ss
@@ -197,7 +198,7 @@ LampGroup k i (s ∷ ss) = Good s × (s .kind ≡ k) × (i ≤ s .target) × Lam
 abbrev targetOf : Step → ℕ
 targetOf s = s .target
 
--- the entry of a step
+-- the change of a step
 abbrev changeOf : Step → LampChange
 changeOf s = change (s .value) (secondsOf (s .time))
 
@@ -237,7 +238,7 @@ module _ (k : ℕ) (lamp : k < 3) where
   machine-lamp-step s st g e =
       rw (good-formed s .0 g, machine-lamp s (getD (st .node .lamps) (s .target) off) g e, e, lt-ltb k 3 lamp, sub-zero (s .target))
 
-  -- the step machine over such steps
+  -- the step machine over a group
   pub machine-lamp-group : (i : ℕ) (ss : List Step) (st : State) → LampGroup k i ss
       → machine ss st ≡ withNode st (withLamps (st .node) (applyAll targetOf changeOf (commandOf k) (st .node .settings .«lamp_count») 0 ss (st .node .lamps)))
   machine-lamp-group i [] st r = refl
@@ -251,7 +252,7 @@ module _ (k : ℕ) (lamp : k < 3) where
   bitmap-mask [] = refl
   bitmap-mask (s ∷ ss) = rw (sub-zero (s .target), bitmap-mask ss)
 
-  -- the entry's bitmap has a one-digit for each step
+  -- the bitmap of the entry has a 1 bit for each step
   group-digits : (ss : List Step) (rest : List ℕ) → LampGroup k 0 ss → bitmap (bitmapBytes (bitmapOf ss) ++ rest) ≡ bits 32 (maskFrom targetOf 0 ss)
   group-digits ss rest r =
       let m = bitmapOf ss in
@@ -260,7 +261,7 @@ module _ (k : ℕ) (lamp : k < 3) where
       (omega arith) (omega arith) (omega arith) (omega arith) (omega arith)
       ∙ ap (bits 32) (bitmap-mask ss)
 
-  -- the power bytes are read as the steps' entries
+  -- the power bytes are read back as the changes of the steps
   group-entries : (i : ℕ) (ss : List Step) → LampGroup k i ss → powerEntries (length ss) (powersBytes ss) ≡ allValid (map changeOf ss)
   unfolding powerBytes stepTimeOk timeOk secondsOf
   group-entries i [] r = refl
@@ -288,7 +289,7 @@ module _ (k : ℕ) (lamp : k < 3) where
   unfolding pnumOf pcmdOf
   entry-lights d st = rw (lt-ltb k 3 lamp) (peripheral-lights 0x71 k d st refl ∙ rw (request-command (st .node .settings) d (st .node .lamps)))
 
-  -- the request of such steps
+  -- the lights request of a group
   request-group : (s : Settings) (ss : List Step) (ls : List Lamp) → length ls ≡ 32 → LampGroup k 0 ss
       → changeLamps s (commandOf k) (bitmapBytes (bitmapOf ss) ++ powersBytes ss) ls
       ≡ reply (applyAll targetOf changeOf (commandOf k) (s .«lamp_count») 0 ss ls) 0 (levelsBefore s (s .«lamp_count») (bits 32 (maskFrom targetOf 0 ss)) ls)
@@ -303,7 +304,7 @@ module _ (k : ℕ) (lamp : k < 3) where
         lamps-one-by-one targetOf changeOf (commandOf k) 32 (s .«lamp_count») 0 ss ls refl full a,
       )
 
-  -- an entry of such steps: no error, and the step machine's state
+  -- the entry of a group: no error, and the state that the step machine reaches
   pub entry-lamp-group : (ss : List Step) (st : State) → length (st .node .lamps) ≡ 32 → LampGroup k 0 ss
       → peripheralRequest (pnumOf k) (pcmdOf k) (bitmapBytes (bitmapOf ss) ++ powersBytes ss) st
       ≡ reply (machine ss st) 0 (levelsBefore (st .node .settings) (st .node .settings .«lamp_count») (bits 32 (maskFrom targetOf 0 ss)) (st .node .lamps))

@@ -1,4 +1,4 @@
--- A write of bytes that stand next to each other does what the steps do singly, for each kind that writes a memory.
+-- A memory write of a group of adjacent byte steps: it writes the bytes as the step machine does, one step after another.
 use mathlib.Core.Path.{_≡_, refl, sym, _∙_}
 use mathlib.Core.List.{List, [], _∷_}
 use Prim.Native.Nat.{ℕ, suc, _+_, _≤_, _<_}
@@ -29,37 +29,39 @@ with-with Memory.Eeprom st first bytes = refl
 with-with Memory.Ram st first bytes = refl
 with-with Memory.External st first bytes = refl
 
--- steps of kind k write memory m: what the step machine makes of one, and what a node makes of an entry
+-- steps of kind k write memory m, in the step machine and as an entry
 pub record Writes (k : ℕ) (m : Memory) : Type 0 where
-  pub place : (s : Step) → Good s → s .kind ≡ k → s .target < sizeOf m
+  pub in-range : (s : Step) → Good s → s .kind ≡ k → s .target < sizeOf m
   pub step : (s : Step) (st : State) → Good s → s .kind ≡ k → machineStep s st ≡ withMemory m st (set (memoryOf m st) (s .target) (s .value))
   pub entry : (d : List ℕ) (st : State) → peripheralRequest (pnumOf k) (pcmdOf k) d st ≡ memoryRequestOnState m (writeCommand m) d st
   pub address : addressBytes m ≡ 1
   pub block : (n : ℕ) → n ≤ 55 → n ≤ sizeOf m → n ≤ longestOf m
 
+-- kind 3 writes RAM
 pub writes-ram : Writes 3 Ram
 unfolding machineStep machineEffect pnumOf pcmdOf
 writes-ram =
     record {
-      place = λ s g e. ram-good s g e .target-max;
+      in-range = λ s g e. ram-good s g e .target-max;
       step = λ s st g e. rw (good-formed s .0 g, e);
       entry = λ d st. peripheral-memory 5 1 d st Ram refl;
       address = refl;
       block = λ n h l. l;
     }
 
+-- kind 4 writes the EEPROM
 pub writes-eeprom : Writes 4 Eeprom
 unfolding machineStep machineEffect pnumOf pcmdOf
 writes-eeprom =
     record {
-      place = λ s g e. eeprom-good s g (omega arith) .1 .target-max;
+      in-range = λ s g e. eeprom-good s g (omega arith) .1 .target-max;
       step = λ s st g e. rw (good-formed s .0 g, e);
       entry = λ d st. peripheral-memory 3 1 d st Eeprom refl;
       address = refl;
       block = λ n h l. h;
     }
 
--- good steps of one kind, at places next to each other from i on
+-- good steps of kind k at adjacent targets from i on
 abbrev pub ByteGroup : ℕ → ℕ → List Step → Type 0
 ByteGroup k i [] = Unit {0}
 ByteGroup k i (s ∷ ss) = Good s × (s .kind ≡ k) × (s .target ≡ i) × ByteGroup k (suc i) ss
@@ -67,22 +69,22 @@ ByteGroup k i (s ∷ ss) = Good s × (s .kind ≡ k) × (s .target ≡ i) × Byt
 module _ (k : ℕ) (m : Memory) (w : Writes k m) where
   group-ends : (i : ℕ) (ss : List Step) → ByteGroup k i ss → i ≤ sizeOf m → i + length (values ss) ≤ sizeOf m
   group-ends i [] r h = omega arith
-  group-ends i (s ∷ ss) r h = omega (arith, group-ends (suc i) ss (r .3) (omega (arith, r .2, w .place s (r .0) (r .1))))
+  group-ends i (s ∷ ss) r h = omega (arith, group-ends (suc i) ss (r .3) (omega (arith, r .2, w .in-range s (r .0) (r .1))))
 
-  -- the step machine over such steps
+  -- the step machine over a group
   pub machine-byte-group : (i : ℕ) (ss : List Step) (st : State) → ByteGroup k i ss → machine ss st ≡ withMemory m st (sets (memoryOf m st) i (values ss))
   machine-byte-group i [] st r = sym (memory-same m st)
   machine-byte-group i (s ∷ ss) st r =
       rw (w .step s st (r .0) (r .1), r .2)
       (rw (machine-byte-group (suc i) ss _ (r .3), bytes-with, with-with))
 
-  -- an entry of such steps
+  -- the entry of a group: no error, and the state that the step machine reaches
   pub entry-byte-group : (i : ℕ) (s : Step) (ss : List Step) (st : State)
       → length (memoryOf m st) ≡ sizeOf m → length (values (s ∷ ss)) ≤ 55 → ByteGroup k i (s ∷ ss)
       → peripheralRequest (pnumOf k) (pcmdOf k) (i ∷ values (s ∷ ss)) st ≡ reply (machine (s ∷ ss) st) 0 []
   entry-byte-group i s ss st size length-max r =
       let d = values (s ∷ ss) in
-      let start : i < sizeOf m = omega (arith, r .2, w .place s (r .0) (r .1)) in
+      let start : i < sizeOf m = omega (arith, r .2, w .in-range s (r .0) (r .1)) in
       let end-inside : i + length d ≤ sizeOf m = group-ends i (s ∷ ss) r (omega arith) in
       let fits : BlockFits (sizeOf m) (longestOf m) i (length d) =
       record { length-max = w .block (length d) length-max (omega arith); start-inside = start; end-inside = end-inside } in

@@ -1,4 +1,4 @@
--- A request of OS 02 that is carried out without an error, for the node's address or for all: the call succeeds.
+-- One request to peripheral OS, unicast or broadcast: if it is executed without an error, the call succeeds.
 use mathlib.Core.Path.{_≡_, refl, sym, ap, subst, _∙_}
 use mathlib.Core.Logic.{_⊎_, inl, inr}
 use mathlib.Core.List.{List, _++_}
@@ -26,7 +26,7 @@ use Rattle.handler.proofs.Soundness.{execute-sound}
 use Rattle.acceptance.specs.Condition3.{Success}
 use Rattle.acceptance.proofs.Batches.{noErrorOutcome}
 
--- a sound node with its memories, a frame and room: no refusal
+-- a sound state, a frame of a valid size and a response buffer with room: the call is not refused
 not-refused : (f : List ℕ) (st : State) (o : List ℕ) → SoundState st → headerSize ≤ length f → length f ≤ longestFrame → longestResponse ≤ length o → callRefusal f st o ≡ 0
 unfolding requestRefusal frameFits
 not-refused f st o k lo hi room =
@@ -38,20 +38,20 @@ not-refused f st o k lo hi room =
       eq-eqb (length (st .external)) (sizeOf External) (k .external-size),
     )
 
--- carried out in silence for all, with a response for the node's address
+-- the result of a call by its address: no response to a broadcast
 abbrev resultAt : ℕ → Settings → Item → Outcome → List ℕ → CallResult
 resultAt a s i x o = cond (eqb a broadcastNadr) (broadcastResult x o) (unicastResult s i x o)
 
--- a frame for the node's address or for all that is not refused
+-- a call that is not refused, at the node's address or at the broadcast address
 result-at : (f : List ℕ) (st : State) (o : List ℕ) → SoundState st → callRefusal f st o ≡ 0
     → (a : ℕ) → headerOf f .nadr ≡ a → (a ≡ st .node .settings .address) ⊎ (a ≡ broadcastNadr)
     → handleRequest f st o ≡ resultAt a (st .node .settings) (frameItem f) (execute (frameItem f) st) o
 result-at f st o k z a e (inl own) =
-    let most = settings-facts (st .node .settings) (node-settings (st .node) (k .node-ok)) .address-max in
+    let max = settings-facts (st .node .settings) (node-settings (st .node) (k .node-ok)) .address-max in
     rw (ne-eqb a broadcastNadr (λ q. omega arith)) (call-accepted f st o z ∙ frame-unicast f st o (λ q. omega arith) (e ∙ own))
 result-at f st o k z a e (inr all) = rw (eq-eqb a broadcastNadr all) (call-accepted f st o z ∙ frame-broadcast f st o (e ∙ all))
 
--- what is then left, without an error and without data
+-- the fields of that result, without an error and without PData
 result-fields : (s : Settings) (i : Item) (end : State) (es o : List ℕ) (b : Bool)
     → let c : CallResult = cond b (broadcastResult (noErrorOutcome end es) o) (unicastResult s i (noErrorOutcome end es) o) in
     (c .refusal ≡ 0) × (c .length ≡ cond b 0 responseHeaderSize) × (c .response ≡ cond b o (overwriteFront (responseHeader s (i .pnum) (i .pcmd) 0) o))
@@ -61,41 +61,41 @@ result-fields s i end es o false = (refl, refl, refl, refl, refl, refl)
 
 module _ (pcmd a h : ℕ) (pdata : List ℕ) (st : State) (o : List ℕ) (k : SoundState st)
     (length-max : length (headerBytes (frame a osPnum pcmd h) ++ pdata) ≤ longestFrame) (room : longestResponse ≤ length o)
-    (mine : (a ≡ st .node .settings .address) ⊎ (a ≡ broadcastNadr))
-    {end : State} {es : List ℕ} (did : execute (item osPnum pcmd h pdata) st ≡ noErrorOutcome end es) where
+    (addressed-to : (a ≡ st .node .settings .address) ⊎ (a ≡ broadcastNadr))
+    {end : State} {es : List ℕ} (executed : execute (item osPnum pcmd h pdata) st ≡ noErrorOutcome end es) where
   abbrev request : List ℕ
   request = headerBytes (frame a osPnum pcmd h) ++ pdata
 
   back : headerOf request ≡ frame a osPnum pcmd h
   back = read-written (frame a osPnum pcmd h) pdata
 
-  -- the request is the one that was carried out
-  request-did : execute (frameItem request) st ≡ noErrorOutcome end es
-  request-did = ap (λ (x : Frame). execute (item (x .pnum) (x .pcmd) (x .hwpid) pdata) st) back ∙ did
+  -- the item in the frame is the one that was executed
+  request-executed : execute (frameItem request) st ≡ noErrorOutcome end es
+  request-executed = ap (λ (x : Frame). execute (item (x .pnum) (x .pcmd) (x .hwpid) pdata) st) back ∙ executed
 
-  call-as : handleRequest request st o ≡ resultAt a (st .node .settings) (frameItem request) (noErrorOutcome end es) o
-  call-as =
-      result-at request st o k (not-refused request st o k (omega arith) length-max room) a (ap (λ (x : Frame). x .nadr) back) mine
-      ∙ ap (λ (x : Outcome). resultAt a (st .node .settings) (frameItem request) x o) request-did
+  call-result : handleRequest request st o ≡ resultAt a (st .node .settings) (frameItem request) (noErrorOutcome end es) o
+  call-result =
+      result-at request st o k (not-refused request st o k (omega arith) length-max room) a (ap (λ (x : Frame). x .nadr) back) addressed-to
+      ∙ ap (λ (x : Outcome). resultAt a (st .node .settings) (frameItem request) x o) request-executed
 
-  -- the call leaves what carrying out leaves
+  -- the call leaves the state that executing leaves
   pub call-leaves : handleRequest request st o .after ≡ end
-  call-leaves = ap (λ (c : CallResult). c .after) call-as ∙ result-fields (st .node .settings) (frameItem request) end es o (eqb a broadcastNadr) .5
+  call-leaves = ap (λ (c : CallResult). c .after) call-result ∙ result-fields (st .node .settings) (frameItem request) end es o (eqb a broadcastNadr) .5
 
-  -- which is a sound node with its memories
+  -- which is sound
   pub call-sound : SoundState (handleRequest request st o .after)
-  call-sound = subst SoundState (ap (λ (x : Outcome). x .after) request-did ∙ sym call-leaves) (execute-sound (frameItem request) st k)
+  call-sound = subst SoundState (ap (λ (x : Outcome). x .after) request-executed ∙ sym call-leaves) (execute-sound (frameItem request) st k)
 
-  -- no entry has an error: the call succeeds
+  -- if no entry has an error, the call succeeds
   pub call-succeeds : All (λ (e : ℕ). e ≡ 0) es → Success pcmd a (st .node .settings) request st o
   call-succeeds none =
       let is = result-fields (st .node .settings) (frameItem request) end es o (eqb a broadcastNadr) in
       record {
-        refusal = ap (λ (c : CallResult). c .refusal) call-as ∙ is .0;
-        error = ap (λ (x : Outcome). x .error) request-did;
-        entries = subst (λ (x : Outcome). All (λ (e : ℕ). e ≡ 0) (x .entries)) (sym request-did) none;
-        length = ap (λ (c : CallResult). c .length) call-as ∙ is .1;
-        response = ap (λ (c : CallResult). c .response) call-as ∙ is .2;
-        report = ap (λ (c : CallResult). c .report) call-as ∙ is .3;
-        addressed = ap (λ (c : CallResult). c .addressed) call-as ∙ is .4;
+        refusal = ap (λ (c : CallResult). c .refusal) call-result ∙ is .0;
+        error = ap (λ (x : Outcome). x .error) request-executed;
+        entries = subst (λ (x : Outcome). All (λ (e : ℕ). e ≡ 0) (x .entries)) (sym request-executed) none;
+        length = ap (λ (c : CallResult). c .length) call-result ∙ is .1;
+        response = ap (λ (c : CallResult). c .response) call-result ∙ is .2;
+        report = ap (λ (c : CallResult). c .report) call-result ∙ is .3;
+        addressed = ap (λ (c : CallResult). c .addressed) call-result ∙ is .4;
       }

@@ -1,4 +1,4 @@
--- The requests of an output, taken one after the other.
+-- The requests of an output, handled in order.
 use mathlib.Core.Path.{_≡_, refl, ap, _∙_}
 use mathlib.Core.List.{List, [], _∷_, _++_, append-assoc}
 use Prim.Native.Nat.{ℕ, suc, _+_, _-_, _≤_}
@@ -13,22 +13,23 @@ use Rattle.scene.proofs.Outputs.{lengths-length}
 use Rattle.acceptance.specs.Condition3.{afterCalls}
 use Rattle.acceptance.specs.RunScene.{zeroBuffer, totalLength, CompleteOutput}
 
--- where a length byte n stands first: its request lies in the bytes, and so do the others behind it
+-- the bytes hold the first request, of the first length n
 pub first-covered : (ns bs : List ℕ) {n : ℕ} → (length ns ≡ 0 → ⊥) → n ≡ getD ns 0 0 → totalLength ns ≤ length bs → n ≤ length bs
 first-covered [] bs z e h = absurd (z refl)
 first-covered (m ∷ ns) bs z e h = omega arith
 
+-- and the later requests
 pub rest-covered : (ns bs : List ℕ) {n : ℕ} → (length ns ≡ 0 → ⊥) → n ≡ getD ns 0 0 → totalLength ns ≤ length bs
     → totalLength (take (length ns - 1) (drop 1 ns)) ≤ length (take (length bs - n) (drop n bs))
 rest-covered [] bs z e h = absurd (z refl)
 rest-covered (m ∷ ns) bs {n} z e h = rw (slice-to-end 1 (m ∷ ns), slice-to-end n bs, length-drop) (omega arith)
 
--- no length byte is left
+-- no length byte, no request
 pub none-handled : (ns bs : List ℕ) (st : State) → length ns ≡ 0 → st ≡ afterCalls (λ _. zeroBuffer) (splitBy ns bs) st
 none-handled [] bs st z = refl
 none-handled (m ∷ ns) bs st z = absurd (omega arith)
 
--- one request, and then the others from what it left
+-- one request, then the others from the state that it left
 pub one-handled : (ns bs : List ℕ) (st : State) {n : ℕ} {next last : State} → (length ns ≡ 0 → ⊥) → n ≡ getD ns 0 0
     → next ≡ handleRequest (take n bs) st zeroBuffer .after
     → last ≡ afterCalls (λ _. zeroBuffer) (splitBy (take (length ns - 1) (drop 1 ns)) (take (length bs - n) (drop n bs))) next
@@ -41,7 +42,7 @@ one-handled (m ∷ ns) bs st {n} {next} z e p q =
     ∙ ap (afterCalls (λ _. zeroBuffer) (splitBy ns (drop n bs))) p
     ∙ ap (λ (k : ℕ). afterCalls (λ _. zeroBuffer) (splitBy ns (drop k bs)) (handleRequest (take k bs) st zeroBuffer .after)) e
 
--- the two parts of an output that the code hands on
+-- the two parts of an output that the code passes on: length bytes and requests
 module _ (o : List ℕ) {n : ℕ} (e : n ≡ getD o 0 0) where
   lengths-part : take (1 + n - 1) (drop 1 o) ≡ take (getD o 0 0) (drop 1 o)
   lengths-part = ap (λ (k : ℕ). take k (drop 1 o)) (let z : 1 + n - 1 ≡ getD o 0 0 = omega arith in z)
@@ -49,9 +50,11 @@ module _ (o : List ℕ) {n : ℕ} (e : n ≡ getD o 0 0) where
   requests-part : take (length o - (1 + n)) (drop (1 + n) o) ≡ drop (suc (getD o 0 0)) o
   requests-part = slice-to-end (1 + n) o ∙ ap (λ (k : ℕ). drop k o) (let z : 1 + n ≡ suc (getD o 0 0) = omega arith in z)
 
+  -- the second holds the requests
   pub parts-covered : CompleteOutput o → totalLength (take (1 + n - 1) (drop 1 o)) ≤ length (take (length o - (1 + n)) (drop (1 + n) o))
   parts-covered h = rw (lengths-part, requests-part) (h .whole)
 
+  -- and splits into them
   pub parts-requests : splitBy (take (1 + n - 1) (drop 1 o)) (take (length o - (1 + n)) (drop (1 + n) o)) ≡ requestsIn o
   unfolding requestsIn
   parts-requests = rw (lengths-part, requests-part)
@@ -60,7 +63,7 @@ total-length : (rs : List (List ℕ)) → totalLength (lengths rs) ≡ length (c
 total-length [] = refl
 total-length (r ∷ rs) = omega (arith, length-append r (concat rs), total-length rs)
 
--- an output is as long as its length bytes say, whatever follows it
+-- an output has all the bytes that it announces; bytes after it make no difference
 pub output-complete : (rs : List (List ℕ)) (t : List ℕ) → CompleteOutput (output rs ++ t)
 output-complete rs t =
     record {

@@ -1,4 +1,4 @@
--- What the compile call refuses: its answer in each case, and that each number is given for its fault alone.
+-- Refusals of the compile call: its result in each case, and that each number is given exactly for its fault.
 use mathlib.Core.Path.{_≡_, refl, ap, subst, _∙_}
 use mathlib.Core.Logic.{inl, inr, _↔_}
 use mathlib.Core.Bool.{true, false, not, or-true}
@@ -23,9 +23,9 @@ use Rattle.scene.specs.Call.{CompileResult, output, minOutput, refusedWith, out
 use Rattle.scene.proofs.Outputs.{Faultless, compile-written, compile-refused}
 use Rattle.acceptance.specs.Condition3.{Addressable, NoFault, SceneRule, FirstBad, Refusals}
 
--- ---- the faults by their tests
+-- ---- the faults, and the tests of the call
 
--- the call's test of an address accepts just these
+-- the call's test of the address is exact
 pub addressable : (a : ℕ) → Addressable a ↔ (addressOk a ≡ true)
 unfolding addressOk
 addressable a = (to, from)
@@ -39,15 +39,15 @@ addressable a = (to, from)
         by-test (eqb a broadcastNadr) (λ e. inr (eqb-true a broadcastNadr e))
         (λ n. let r : nodeAddress a ≡ true = rw n at t in inl (leb-true 1 a (and-left _ _ r), leb-true a lastAddress (and-right (leb 1 a) _ r)))
 
--- steps without a fault are good by the call's test
+-- steps without a fault pass the call's test
 pub no-fault-good : (ss : List Step) → All NoFault ss → All Good ss
 no-fault-good ss = all-weaken NoFault Good (λ s e. eq-eqb (stepFault s) 0 e) ss
 
--- and the other way round
+-- and conversely
 pub good-no-fault : (ss : List Step) → All Good ss → All NoFault ss
 good-no-fault ss = all-weaken Good NoFault (λ s g. eqb-true (stepFault s) 0 g) ss
 
--- the number that the test of the steps finds is the first bad one's, counted from i
+-- if the search from number i finds step j, it is the first bad step
 found-first : (i : ℕ) (ss : List Step) (j : ℕ) → firstBadFrom i ss ≡ some j → (i ≤ j) × FirstBad ss (j - i)
 found-first i [] j e = absurd (let z : _≡_ {A = ℕ} 0 1 = cc in omega arith)
 found-first i (s ∷ ss) j e =
@@ -78,7 +78,7 @@ found-first i (s ∷ ss) j e =
       },
     ))
 
--- and the first bad one's number is found
+-- and the search finds the first bad step
 first-found : (i : ℕ) (earlier : List Step) (bad : Step) (later : List Step) → All NoFault earlier → ¬ NoFault bad
     → firstBadFrom i (earlier ++ (bad ∷ later)) ≡ some (i + length earlier)
 first-found i [] bad later a f = rw (ne-eqb (stepFault bad) 0 f) (ap some (let z : i ≡ i + 0 = omega arith in z))
@@ -86,26 +86,26 @@ first-found i (s ∷ ss) bad later a f =
     rw (eq-eqb (stepFault s) 0 (a .0))
     (first-found (suc i) ss bad later (a .1) f ∙ ap some (let z : suc i + length ss ≡ i + suc (length ss) = omega arith in z))
 
--- the call finds step j exactly where it is the first bad one
+-- the call finds step j exactly if it is the first bad step
 pub first-bad-step : (ss : List Step) (j : ℕ) → (firstBadFrom 0 ss ≡ some j) ↔ FirstBad ss j
 first-bad-step ss j = (
   λ e. subst (FirstBad ss) (let z : j - 0 ≡ j = omega arith in z) (found-first 0 ss j e .1),
   λ f. ap (firstBadFrom 0) (f .order) ∙ first-found 0 (f .earlier) (f .bad) (f .later) (f .no-fault) (f .fault) ∙ ap some (let z : 0 + length (f .earlier) ≡ j = omega (arith, f .number) in z),
 )
 
--- a scene without a fault, by the call's tests
+-- a scene without a fault passes the call's tests
 pub rule-faultless : (b : List ℕ) (k : ℕ) → SceneRule b k → Faultless b k
 rule-faultless b k r =
     record { book = r .well-formed; number = r .known; steps = no-bad (sceneOf b k) .1 (no-fault-good (sceneOf b k) (r .no-fault)) }
 
--- ---- a call
+-- ---- the call
 
--- two numbers that differ
+-- two different numbers are not equal
 no : {F X : Type 0} {m n : ℕ} → eqb m n ≡ false → F → m ≡ n → X
 no {m} {n} t f e = absurd (eqb-false m n t e)
 
 module _ (b : List ℕ) (k a h : ℕ) (out : List ℕ) where
-  -- the cases, with what the tests before each have shown
+  -- the cases, each with what the earlier tests have shown
   abbrev IllFormed : Type 0
   IllFormed = Addressable a × (bookOk b ≡ false)
 
@@ -121,7 +121,7 @@ module _ (b : List ℕ) (k a h : ℕ) (out : List ℕ) where
   abbrev Accepted : Type 0
   Accepted = Addressable a × SceneRule b k × (minOutput ≤ length out)
 
-  -- what each fault is answered with
+  -- the result for each fault
   address-answer : ¬ Addressable a → compileFor b k a h out ≡ refusedWith 1 0 out
   unfolding compileFor compileScene
   address-answer n = by-test (addressOk a) (λ t. absurd (n (addressable a .1 t))) (λ t. rw t refl)
@@ -148,7 +148,7 @@ module _ (b : List ℕ) (k a h : ℕ) (out : List ℕ) where
   pub accepted-answer : Accepted → compileFor b k a h out ≡ outputInBuffer (output (sceneRequests a h (sceneOf b k))) out
   accepted-answer f = compile-written b k a h out (addressable a .0 (f .0)) (f .2) (rule-faultless b k (f .1))
 
-  -- one of the cases applies: what holds of each answer holds of the call's
+  -- one of the cases applies: what holds for the result of each case holds for the result of the call
   module _ (P : CompileResult → Type 0)
       (address : ¬ Addressable a → P (refusedWith 1 0 out))
       (ill-formed : IllFormed → P (refusedWith 6 0 out))
@@ -164,6 +164,7 @@ module _ (b : List ℕ) (k a h : ℕ) (out : List ℕ) where
         record { well-formed = ok; known = below; no-fault = good-no-fault (sceneOf b k) (no-bad (sceneOf b k) .0 e) } in
         by-cond P (ltb (length out) minOutput) _ _ (λ t. no-room (ad, r, ltb-true _ _ t)) (λ t. accepted (ad, r, ltb-false _ _ t))
 
+    -- the tests in their order
     pub compile-cases : P (compileFor b k a h out)
     unfolding compileFor compileScene
     compile-cases =

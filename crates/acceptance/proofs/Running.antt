@@ -1,4 +1,4 @@
--- A scene run on a node ends as the step machine does.
+-- `run_scene`: the state after it is the one that the step machine reaches.
 use mathlib.Core.Path.{_≡_, refl, sym, ap, _∙_, subst}
 use mathlib.Core.Logic.{inl}
 use mathlib.Core.Bool.{true, false}
@@ -25,26 +25,29 @@ use Rattle.acceptance.proofs.Refusals.{accepted-answer, compile-refusal
 use Rattle.acceptance.proofs.Scenes.{buffer-theorem}
 use Rattle.acceptance.proofs.OutputRequests.{output-complete}
 
--- what the theorem asks of a sound node, for its own address and profile
+-- the assumptions of the theorem hold for a sound state, its own address and its own profile
 own-given : (st : State) → SoundState st → Given st (λ _. zeroBuffer) (st .node .settings .address) (st .node .settings .hwpid)
 own-given st r = record { sound = r; room = λ _. omega arith; address = inl refl; profile = inl refl }
 
 module _ (book : List ℕ) (k : ℕ) (st : State) (out : List ℕ) where
+  -- refused for the node
   pub run-unsound : nodeOk (st .node) ≡ false → result 1 0 st out ≡ runScene book k st out
   unfolding runScene
   run-unsound e = rw e
 
   module _ (ok : nodeOk (st .node) ≡ true) where
+    -- refused for the EEPROM
     pub run-eeprom : (length (st .eeprom) ≡ sizeOf Eeprom → ⊥) → result 4 0 st out ≡ runScene book k st out
     unfolding runScene
     run-eeprom n = rw (ok, ne-eqb (length (st .eeprom)) (sizeOf Eeprom) n)
 
     module _ (e : length (st .eeprom) ≡ sizeOf Eeprom) where
+      -- refused for the external memory
       pub run-external : (length (st .external) ≡ sizeOf External → ⊥) → result 4 0 st out ≡ runScene book k st out
       unfolding runScene
       run-external n = rw (ok, eq-eqb (length (st .eeprom)) (sizeOf Eeprom) e, ne-eqb (length (st .external)) (sizeOf External) n)
 
-      -- what the compiler answered, with node and memories as they are to be
+      -- a sound state, and the result of the compiler
       module _ (x : length (st .external) ≡ sizeOf External) (c : CompileResult)
           (q : c ≡ compileFor book k (st .node .settings .address) (st .node .settings .hwpid) out) where
         rule : SoundState st
@@ -56,6 +59,7 @@ module _ (book : List ℕ) (k : ℕ) (st : State) (out : List ℕ) where
             rw (ok, eq-eqb (length (st .eeprom)) (sizeOf Eeprom) e, eq-eqb (length (st .external)) (sizeOf External) x)
             (ap (λ (d : CompileResult). afterCompile d st (machine (sceneOf book k) st)) (sym q))
 
+        -- refused by the compiler
         pub run-refused : (c .refusal ≡ 0 → ⊥) → result (c .refusal) (c .step) st (c .buffer) ≡ runScene book k st out
         unfolding afterCompile
         run-refused n = sym (compiled-first ∙ rw (ne-eqb (c .refusal) 0 n))
@@ -64,7 +68,7 @@ module _ (book : List ℕ) (k : ℕ) (st : State) (out : List ℕ) where
           accepted : compileFor book k (st .node .settings .address) (st .node .settings .hwpid) out .refusal ≡ 0
           accepted = sym (ap (λ (d : CompileResult). d .refusal) q) ∙ z
 
-          -- the buffer holds the requests
+          -- the buffer holds all requests
           pub run-complete : CompleteOutput (c .buffer)
           run-complete =
               let a = st .node .settings .address in
@@ -74,7 +78,7 @@ module _ (book : List ℕ) (k : ℕ) (st : State) (out : List ℕ) where
               ap (λ (d : CompileResult). d .buffer) (q ∙ accepted-answer book k a h out (compile-refusals book k a h out .none .0 accepted)) in
               rw w (output-complete rs (drop (length (output rs)) out))
 
-          -- node and memories after the requests are those of the step machine
+          -- the state after the requests is the one that the step machine reaches
           pub run-done : (done : State) → done ≡ afterCalls (λ _. zeroBuffer) (requestsIn (c .buffer)) st → result 0 0 done (c .buffer) ≡ runScene book k st out
           unfolding afterCompile
           run-done done d =
@@ -86,7 +90,7 @@ module _ (book : List ℕ) (k : ℕ) (st : State) (out : List ℕ) where
               ∙ buffer-theorem st (λ _. zeroBuffer) book k a h out (own-given st rule) accepted .final in
               sym (compiled-first ∙ rw (eq-eqb (c .refusal) 0 z) (ap (λ (y : State). result 0 0 y (c .buffer)) (sym end)))
 
--- a sound node with memories of their sizes stays so under any calls
+-- a sound state stays sound under any calls
 calls-rule : (buffers : ℕ → List ℕ) (rs : List (List ℕ)) (st : State) → SoundState st → SoundState (afterCalls buffers rs st)
 calls-rule buffers [] st r = r
 calls-rule buffers (f ∷ fs) st r =
@@ -96,7 +100,7 @@ module _ (book : List ℕ) (k : ℕ) (st : State) (out : List ℕ) where
   abbrev Unchanged : SceneResult → Type 0
   Unchanged r = (r .refusal ≡ 0 → ⊥) → (r .after ≡ st) × (r .out ≡ out)
 
-  -- a refused run leaves the node, both memories and the buffer as they were
+  -- a refused call leaves the node, both memories and the buffer unchanged
   pub scene-refused : (runScene book k st out .refusal ≡ 0 → ⊥) → (runScene book k st out .after ≡ st) × (runScene book k st out .out ≡ out)
   unfolding runScene afterCompile
   scene-refused =
@@ -112,18 +116,18 @@ module _ (book : List ℕ) (k : ℕ) (st : State) (out : List ℕ) where
       (λ _ _. (refl, refl)))
       (λ _ _. (refl, refl))
 
-  -- a run keeps the rules of node and memories
+  -- running a scene keeps a state sound
   pub scene-rule : SoundState st → SoundState (runScene book k st out .after)
   unfolding runScene afterCompile
   scene-rule r =
       let a = st .node .settings .address in
       let h = st .node .settings .hwpid in
       let c = compileFor book k a h out in
-      let Kept : SceneResult → Type 0 = λ (x : SceneResult). SoundState (x .after) in
-      by-cond Kept (nodeOk (st .node)) _ _
-      (λ _. by-cond Kept (eqb (length (st .eeprom)) (sizeOf Eeprom)) _ _
-      (λ _. by-cond Kept (eqb (length (st .external)) (sizeOf External)) _ _
-      (λ _. by-cond Kept (eqb (c .refusal) 0) _ _
+      let Sound : SceneResult → Type 0 = λ (x : SceneResult). SoundState (x .after) in
+      by-cond Sound (nodeOk (st .node)) _ _
+      (λ _. by-cond Sound (eqb (length (st .eeprom)) (sizeOf Eeprom)) _ _
+      (λ _. by-cond Sound (eqb (length (st .external)) (sizeOf External)) _ _
+      (λ _. by-cond Sound (eqb (c .refusal) 0) _ _
       (λ z. subst SoundState (buffer-theorem st (λ _. zeroBuffer) book k a h out (own-given st r) (eqb-true _ _ z) .final)
       (calls-rule (λ _. zeroBuffer) (requestsIn (c .buffer)) st r))
       (λ _. r))

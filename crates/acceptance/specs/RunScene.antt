@@ -1,4 +1,4 @@
--- A scene run on a node: compiled for the node's own address and profile, its requests taken one after the other.
+-- `run_scene`: compiles a scene for the node's own address and profile, then handles its requests in order.
 use Prim.Native.Nat.{ℕ, suc, _+_, _≤_}
 use mathlib.Core.List.{List, [], _∷_}
 use mathlib.Core.Bool.{cond}
@@ -14,37 +14,39 @@ use Rattle.book.specs.Machine.{machine}
 use Rattle.scene.specs.Call.{CompileResult, compileFor}
 use Rattle.acceptance.specs.declared.run.SceneAnswer.{SceneAnswer}
 
--- the response buffer of each call
+-- the response buffer of each call: a scratch buffer of zeros
 abbrev pub zeroBuffer : List ℕ
 zeroBuffer = replicate longestResponse 0
 
+-- the sum of length bytes
 abbrev pub totalLength : List ℕ → ℕ
 totalLength [] = 0
 totalLength (n ∷ ns) = n + totalLength ns
 
--- an output that is as long as its length bytes say
+-- an output that has all the bytes that its count and its length bytes announce
 pub record CompleteOutput (o : List ℕ) : Type 0 where
   pub counted : suc (getD o 0 0) ≤ length o
   pub whole : totalLength (take (getD o 0 0) (drop 1 o)) ≤ length (drop (suc (getD o 0 0)) o)
 
--- what running a scene leaves: the refusal, a bad step's number, node and memories, and the compiler's buffer
+-- the result: the refusal, the number of a bad step, the state, and the output buffer
 pub record SceneResult : Type 0 where
   pub refusal : ℕ
   pub step : ℕ
   pub after : State
   pub out : List ℕ
 
+-- the result of a call that returned r and left these memories and this output buffer
 abbrev pub sceneResult : SceneAnswer → List ℕ → List ℕ → List ℕ → SceneResult
 sceneResult r e x o = record { refusal = r .refusal; step = r .step; after = state (r .node) e x; out = o }
 
 abbrev pub result : ℕ → ℕ → State → List ℕ → SceneResult
 result refusal step st out = record { refusal = refusal; step = step; after = st; out = out }
 
--- refused by the compiler, or done as the step machine does the scene's steps
+-- after compiling: a refusal of the compiler leaves the state unchanged, otherwise it is `done`
 unfoldable pub afterCompile : CompileResult → State → State → SceneResult
 afterCompile c st done = cond (eqb (c .refusal) 0) (result 0 0 done (c .buffer)) (result (c .refusal) (c .step) st (c .buffer))
 
--- the node and the memories are tested first: 1, 4
+-- the node and the memories are tested before compiling (refusals 1 and 4); a scene that is run ends as the step machine does
 unfoldable pub runScene : List ℕ → ℕ → State → List ℕ → SceneResult
 runScene book k st out =
     cond (nodeOk (st .node))

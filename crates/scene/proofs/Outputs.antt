@@ -12,6 +12,7 @@ use borrow.Author.Tests.{lt-leb, le-ltb}
 use Rattle.dpa.specs.declared.frame.Frame.{Frame}
 use Rattle.dpa.specs.Frame.{longestFrame, frame}
 use Rattle.dpa.specs.Pnum.{osPnum}
+use Rattle.handler.specs.Request.{batchPcmd}
 use Rattle.dpa.proofs.Bool.{by-cond}
 use Rattle.dpa.proofs.Lists.{sets-front}
 use Rattle.dpa.specs.Lists.{All}
@@ -92,7 +93,7 @@ pub record Faultless (b : List ℕ) (k : ℕ) : Type 0 where
 -- the output of a compiled scene fits its buffer
 pub scene-fits : (b : List ℕ) (k a h : ℕ) → Faultless b k → length (output (sceneRequests a h (sceneOf b k))) ≤ minOutput
 scene-fits b k a h f =
-    output-fits (record { entry = entryLimit; list = listLimit }) (frame a osPnum 0x05 h) [] batch-limits (sceneOf b k) (scene-length b k (f .book))
+    output-fits (record { entry = entryLimit; list = listLimit }) (frame a osPnum batchPcmd h) [] batch-limits (sceneOf b k) (scene-length b k (f .book))
     (no-bad (sceneOf b k) .0 (f .steps))
 
 -- with any rule from steps to requests
@@ -139,4 +140,4 @@ module _ (b : List ℕ) (k a h : ℕ) (out : List ℕ) where
 -- the result of a call that wrote the output from byte 0 on
 pub result-written : (o out out′ : List ℕ) (used : ℕ) → used ≡ length o → out′ ≡ sets out 0 o → length o ≤ length out
     → _≡_ {A = CompileResult} (record { refusal = 0; step = 0; length = used; buffer = out′ }) (outputInBuffer o out)
-result-written o out out′ used eu eo h = rw (eu, eo, front o out h)
+result-written o out out′ used eu eo h = rw (eu, eo, sets-front o out h)

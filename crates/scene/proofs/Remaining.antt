@@ -9,7 +9,7 @@ use lib.ListN.{length, take, drop, length-append}
 use lib.Seq.{drop-drop}
 use borrow.Author.Tests.{le-leb, lt-leb, leb-true}
 use Rattle.dpa.proofs.Bool.{by-test, by-cond}
-use Rattle.batch.specs.Batch.{entryBytes, entriesBytes}
+use Rattle.batch.specs.Batch.{closingZero, entryBytes, entriesBytes}
 use Rattle.dpa.specs.Lists.{All}
 use Rattle.book.specs.declared.step.Step.{Step}
 use Rattle.book.specs.Group.{concat, grow, group}
@@ -19,14 +19,14 @@ use Rattle.book.specs.EntrySize.{FirstEntry}
 use Rattle.book.proofs.Faults.{Good}
 use Rattle.book.proofs.Groups.{grow-fits, grow-not-fits}
 use Rattle.book.proofs.EntryGroups.{EntryGroup, entry-groups, joining-keeps}
-use Rattle.scene.specs.Compile.{Limits, joinedItems, listOf, entrySize, closingZero, fitsBatch, batchesOf}
+use Rattle.scene.specs.Compile.{Limits, joinedItems, listOf, entrySize, emptyList, fitsBatch, batchesOf}
 use Rattle.scene.specs.Call.{lengths}
 use Rattle.scene.specs.Fill.{fitsList, nextSize, separatorBytes, separatorLength}
 use Rattle.scene.proofs.Sizes.{entries-snoc, list-snoc, list-one}
 
 -- all bytes after those of an open list of `size` bytes, when the entries of these groups remain
 abbrev pub remainingBytes : ℕ → List ℕ → ℕ → ℕ → List (List Step) → List ℕ
-remainingBytes listMost prefix h size [] = 0 ∷ []
+remainingBytes listMost prefix h size [] = closingZero ∷ []
 remainingBytes listMost prefix h size (r ∷ rs) =
     let pdata = length (groupData r) in
     separatorBytes listMost prefix size pdata ++ (entryBytes (joinedItem h r) ++ remainingBytes listMost prefix h (nextSize listMost size pdata) rs)
@@ -67,7 +67,7 @@ module _ (listMost : ℕ) (prefix : List ℕ) (h : ℕ) where
       (ap (λ (t : List ℕ). withPrefix prefix h cur ++ t)
       (grow-bytes (r ∷ []) rs ∙ ap (λ (t : List ℕ). prefix ++ (t ++ b)) (append-nil (entryBytes (joinedItem h r))))
       ∙ append-assoc prefix (listOf h cur) x
-      ∙ ap (λ (t : List ℕ). prefix ++ t) (append-assoc (entriesBytes (joinedItems h cur)) (0 ∷ []) x)))
+      ∙ ap (λ (t : List ℕ). prefix ++ t) (append-assoc (entriesBytes (joinedItems h cur)) (closingZero ∷ []) x)))
 
   -- and their lengths
   pub grow-lengths : (cur rs : List (List Step)) → lengths (map (withPrefix prefix h) (grow (fitsBatch listMost h) cur rs))
@@ -90,7 +90,7 @@ module _ (listMost : ℕ) (prefix : List ℕ) (n size pdata : ℕ) where
 
   -- the list is ended, and a new one takes the entry
   pub list-full : listMost < size + entrySize pdata
-      → (separatorBytes listMost prefix size pdata ≡ 0 ∷ prefix) × (separatorLength listMost n size pdata ≡ (size + n) ∷ []) × (nextSize listMost size pdata ≡ closingZero + entrySize pdata)
+      → (separatorBytes listMost prefix size pdata ≡ closingZero ∷ prefix) × (separatorLength listMost n size pdata ≡ (size + n) ∷ []) × (nextSize listMost size pdata ≡ emptyList + entrySize pdata)
   unfolding separatorBytes separatorLength nextSize
   list-full h = rw (lt-leb (size + entrySize pdata) listMost h) (refl, refl, refl)
 

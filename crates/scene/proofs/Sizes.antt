@@ -12,7 +12,7 @@ use Rattle.batch.proofs.RoundTrip.{entry-length}
 use Rattle.book.specs.declared.step.Step.{Step}
 use Rattle.book.specs.Entry.{groupData, joinedItem}
 use Rattle.book.proofs.Faults.{Good}
-use Rattle.scene.specs.Compile.{Limits, joinedItems, listOf, entrySize, closingZero, batchesOf, requestWith}
+use Rattle.scene.specs.Compile.{Limits, joinedItems, listOf, entrySize, emptyList, batchesOf, requestWith}
 use Rattle.scene.proofs.Batches.{BatchRule, batches-rule}
 
 -- one more entry at the end of a list adds its bytes
@@ -38,7 +38,7 @@ list-snoc h rs r =
     )
 
 -- size of a list of one entry
-pub list-one : (h : ℕ) (r : List Step) → length (listOf h (r ∷ [])) ≡ closingZero + entrySize (length (groupData r))
+pub list-one : (h : ℕ) (r : List Step) → length (listOf h (r ∷ [])) ≡ emptyList + entrySize (length (groupData r))
 unfolding entriesBytes entryBytes
 list-one h r = simp length-append (omega arith)
 

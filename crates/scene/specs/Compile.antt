@@ -7,7 +7,8 @@ use lib.ListN.{length}
 use Rattle.dpa.specs.declared.frame.Frame.{Frame}
 use Rattle.dpa.specs.Frame.{pdataMax, frame, headerBytes}
 use Rattle.dpa.specs.Pnum.{osPnum}
-use Rattle.batch.specs.Batch.{Item, listBytes}
+use Rattle.batch.specs.Batch.{Item, entryHead, listBytes}
+use Rattle.handler.specs.Request.{batchPcmd}
 use Rattle.book.specs.declared.step.Step.{Step}
 use Rattle.book.specs.Entry.{joinedItem}
 use Rattle.book.specs.Group.{group}
@@ -24,13 +25,13 @@ joinedItems h groups = map (joinedItem h) groups
 abbrev pub listOf : ℕ → List (List Step) → List ℕ
 listOf h groups = listBytes (joinedItems h groups)
 
--- size of an entry with `pdata` bytes of PData: five bytes come before them
+-- size of an entry with `pdata` bytes of PData
 abbrev pub entrySize : ℕ → ℕ
-entrySize pdata = 5 + pdata
+entrySize pdata = entryHead + pdata
 
--- size of the byte that ends a list
-abbrev pub closingZero : ℕ
-closingZero = 1
+-- size of a list without entries: its closing zero
+abbrev pub emptyList : ℕ
+emptyList = 1
 
 -- maximum size of a list, its closing zero included
 abbrev pub listLimit : ℕ
@@ -49,7 +50,7 @@ batchesOf entryMost listMost h ss = group (fitsBatch listMost h) (entriesOf entr
 -- the limits, and the bytes in front of the lists: an entry has room for a step, a list for an entry, and a frame for a list
 pub record Limits (entryMost listMost : ℕ) (front : List ℕ) : Type 0 where
   pub entry : oneStepMax ≤ entryMost
-  pub list : closingZero + entrySize entryMost ≤ listMost
+  pub list : emptyList + entrySize entryMost ≤ listMost
   pub frame : length front + listMost ≤ pdataMax
 
 -- a request: the header, the bytes in front of the list, the list
@@ -66,4 +67,4 @@ requestsOf entryMost listMost pcmd front a h ss = map (requestBytes pcmd front a
 
 -- the batch requests of a scene for address a and profile h
 abbrev pub sceneRequests : ℕ → ℕ → List Step → List (List ℕ)
-sceneRequests a h ss = requestsOf entryLimit listLimit 0x05 [] a h ss
+sceneRequests a h ss = requestsOf entryLimit listLimit batchPcmd [] a h ss

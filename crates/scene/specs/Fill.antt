@@ -6,12 +6,13 @@ use Prim.Native.Nat.{ℕ, _+_, _*_}
 use lib.ListN.{length}
 use lib.Dec.{leb}
 use Rattle.dpa.specs.declared.frame.Frame.{Frame}
+use Rattle.batch.specs.Batch.{closingZero}
 use Rattle.book.specs.declared.step.Step.{Step}
 use Rattle.book.specs.Book.{stepsMax}
 use Rattle.book.specs.Entry.{groupData}
 use Rattle.book.specs.Join.{entriesOf}
 use Rattle.scene.specs.declared.fill.SizeLimits.{SizeLimits}
-use Rattle.scene.specs.Compile.{requestWith, batchesOf, entrySize, closingZero}
+use Rattle.scene.specs.Compile.{requestWith, batchesOf, entrySize, emptyList}
 
 -- the requests of steps within these limits, with this header and these bytes in front of each list
 abbrev pub requestsWith : SizeLimits → Frame → List ℕ → List Step → List (List ℕ)
@@ -25,11 +26,11 @@ fitsList listMost size pdata = leb (size + entrySize pdata) listMost
 
 -- size of the list that the entry goes into: the open list, or a new one
 unfoldable pub nextSize : ℕ → ℕ → ℕ → ℕ
-nextSize listMost size pdata = cond (fitsList listMost size pdata) (size + entrySize pdata) (closingZero + entrySize pdata)
+nextSize listMost size pdata = cond (fitsList listMost size pdata) (size + entrySize pdata) (emptyList + entrySize pdata)
 
 -- bytes written before the entry: none, or the open list's closing zero and the prefix of the next request
 unfoldable pub separatorBytes : ℕ → List ℕ → ℕ → ℕ → List ℕ
-separatorBytes listMost prefix size pdata = cond (fitsList listMost size pdata) [] (0 ∷ prefix)
+separatorBytes listMost prefix size pdata = cond (fitsList listMost size pdata) [] (closingZero ∷ prefix)
 
 -- the length byte of the open list's request if the entry does not fit, where a request has `prefix` bytes before its list
 unfoldable pub separatorLength : ℕ → ℕ → ℕ → ℕ → List ℕ

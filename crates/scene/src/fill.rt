@@ -21,8 +21,8 @@ pub struct SizeLimits {
     pub list: usize,
 }
 
-// The zero byte that ends a list: all that a list without entries has.
-pub const CLOSING_ZERO: usize = 1;
+// Size of a list without entries: its closing zero.
+pub const EMPTY_LIST: usize = 1;
 
 // The list that the next entry goes into: where its next byte is written, and its size with the closing zero.
 pub struct OpenList {
@@ -60,7 +60,7 @@ fn next_length(
     out[at] = (size + prefix) as u8;
     OpenList {
         at: at + 1,
-        size: CLOSING_ZERO + entry,
+        size: EMPTY_LIST + entry,
     }
 }
 
@@ -86,7 +86,7 @@ pub fn write_lengths(
     }
     let prefix = Frame::HEADER + front.len();
     let mut step: usize = 0;
-    let mut size = CLOSING_ZERO;
+    let mut size = EMPTY_LIST;
     let mut end = at;
     let mut index: usize = 0;
     while step < count {

@@ -1,10 +1,11 @@
 // The second pass: writes the requests of a scene after their length bytes.
-use crate::fill::CLOSING_ZERO;
+use crate::fill::EMPTY_LIST;
 use crate::fill::MAX_SPAN_BYTES;
 use crate::fill::OpenList;
 use crate::fill::SPAN;
 use crate::fill::SizeLimits;
 use crate::fill::write_lengths;
+use batch::entry::CLOSING_ZERO;
 use batch::entry::HEAD;
 use book::entry::write_entry_at;
 use dpa::frame::Frame;
@@ -59,11 +60,11 @@ fn next_list(
             size: size + entry,
         };
     }
-    out[at] = 0;
+    out[at] = CLOSING_ZERO;
     let end = write_prefix(header, front, out, at + 1);
     OpenList {
         at: end,
-        size: CLOSING_ZERO + entry,
+        size: EMPTY_LIST + entry,
     }
 }
 
@@ -88,7 +89,7 @@ fn write_requests(
         return at;
     }
     let mut end = write_prefix(header, front, out, at);
-    let mut size = CLOSING_ZERO;
+    let mut size = EMPTY_LIST;
     let mut step: usize = 0;
     let mut index: usize = 0;
     while step < count {
@@ -100,7 +101,7 @@ fn write_requests(
         end = write_entry_at(body, step, steps, header.hwpid, pdata, out, list.at);
         step = step + steps;
     }
-    out[end] = 0;
+    out[end] = CLOSING_ZERO;
     end + 1
 }
 

@@ -1,4 +1,4 @@
--- `run::take_requests` meets its contract: each turn takes one length byte and the request of that length.
+-- `run::handle_all`: each turn handles one request, of the length that its length byte gives.
 use borrow.Author.Needs.{needs}
 use native.Mathlib.Omega.{arith}
 use mathlib.Core.Path.{sym, _∙_}

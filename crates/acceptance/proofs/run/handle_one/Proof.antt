@@ -1,3 +1,4 @@
+-- `run::handle_one`: the state after the call.
 use borrow.Author.Needs.{needs}
 use mathlib.Core.Path.{ap}
 use Rattle.handler.specs.Request.{CallResult}

@@ -1,3 +1,4 @@
+-- `run::handle_output`: the length bytes and the requests are the two parts of the output.
 use borrow.Author.Needs.{needs}
 use mathlib.Core.Path.{ap, _∙_}
 use mathlib.Core.List.{List}

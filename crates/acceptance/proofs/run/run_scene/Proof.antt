@@ -1,3 +1,4 @@
+-- `run::run_scene`: the tests of node and memories, the compiler, then the requests.
 use borrow.Author.Needs.{needs}
 use mathlib.Core.Path.{_≡_, ap, sym, _∙_}
 use borrow.Author.Tests.{not-true, not-false}

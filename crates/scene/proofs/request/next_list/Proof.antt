@@ -6,6 +6,7 @@ use native.Mathlib.Omega.{arith}
 use lib.ListN.{length, length-set}
 use borrow.Author.Needs.{needs}
 use Rattle.dpa.specs.Frame.{headerBytes}
+use Rattle.batch.specs.Batch.{closingZero}
 use Rattle.book.proofs.Writing.{two-writes}
 use Rattle.scene.proofs.Remaining.{list-open, list-full}
 use Rattle.scene.proofs.request.next_list.Statement.{statement}
@@ -41,7 +42,7 @@ returns-2 c =
     let a = s .args in
     let t = list-full (a .limit) (prefix s) 0 (a .size) (a .pdata) (c .before .before .before .before .if1 .left) in
     let w = c .before .before .write-prefix .ensures in
-    let both = two-writes (a .out .now) _ _ (0 ∷ []) (prefix s) (0 ∷ prefix s) (a .at) _ _ refl refl (w .1) (w .0) refl in
+    let both = two-writes (a .out .now) _ _ (closingZero ∷ []) (prefix s) (closingZero ∷ prefix s) (a .at) _ _ refl refl (w .1) (w .0) refl in
     rw (t .0, t .2) (both .0, refl, both .1)
 
 pub next-list-spec : {M : Type 1} → statement M

@@ -7,7 +7,7 @@ use lib.ListN.{length, drop, length-append, length-drop, length-set}
 use lib.Seq.{sets, drop-drop}
 use borrow.Author.Needs.{needs}
 use Rattle.dpa.specs.Frame.{headerBytes, pdataMax}
-use Rattle.batch.specs.Batch.{entryBytes}
+use Rattle.batch.specs.Batch.{closingZero, entryBytes}
 use Rattle.book.specs.declared.step.Step.{Step}
 use Rattle.book.specs.Book.{stepsIn}
 use Rattle.book.specs.Group.{concat}
@@ -183,7 +183,7 @@ loop-again c =
 
 -- only the closing zero remains
 last : (c : tie.After-loop Inv-loop μ-loop) → let w = c .before .before .before .before .write-prefix in
-    Remaining (w .last .1 .1 .0) (w .result) (all (start (c .before .before))) (c .before .loop .out) (c .before .loop .end) (0 ∷ [])
+    Remaining (w .last .1 .1 .0) (w .result) (all (start (c .before .before))) (c .before .loop .out) (c .before .loop .end) (closingZero ∷ [])
 last c =
     let s = start (c .before .before) in
     let w = c .before .before .before .before .write-prefix in
