@@ -1,4 +1,4 @@
--- Entries that each do their own steps do all their steps in a batch.
+-- A batch: if each entry does what its own steps do, the batch does what all steps do.
 use mathlib.Core.Path.{_≡_, refl, sym, ap, _∙_}
 use mathlib.Core.List.{List, [], _∷_}
 use mathlib.Core.Bool.{true}
@@ -8,35 +8,35 @@ use Rattle.dpa.specs.Reply.{reply}
 use Rattle.dpa.specs.declared.settings.Settings.{Settings}
 use Rattle.batch.specs.Batch.{listBytes, Reading, runItems, errorsOf}
 use Rattle.dpa.specs.Lists.{All}
-use Rattle.batch.proofs.RoundTrip.{round-trip, list-some}
-use Rattle.handler.specs.Request.{State, StateRule, hwpidMatches, executeEntry, entryAfter, entryError, noReport, Outcome, outcome, batchOutcome, batchRequest}
+use Rattle.batch.proofs.RoundTrip.{round-trip, list-nonempty}
+use Rattle.handler.specs.Request.{State, SoundState, hwpidMatches, executeEntry, entryAfter, entryError, noReport, Outcome, outcome, batchOutcome, batchRequest}
 use Rattle.handler.proofs.Soundness.{entry-sound}
-use Rattle.handler.proofs.Executing.{batch-runs}
+use Rattle.handler.proofs.Outcomes.{batch-runs}
 use Rattle.book.specs.declared.step.Step.{Step}
-use Rattle.book.specs.Group.{joined}
+use Rattle.book.specs.Group.{concat}
 use Rattle.book.specs.Machine.{machine}
 use Rattle.book.specs.Entry.{joinedItem}
 use Rattle.scene.specs.Compile.{joinedItems}
-use Rattle.book.proofs.Places.{machine-append, machine-stays}
+use Rattle.book.proofs.MachineLaws.{machine-append, machine-stays}
 
--- carried out without an error of its own or data, with nothing to report
-abbrev pub finished : State → List ℕ → Outcome
-finished end errors = outcome (reply end 0 []) errors noReport
+-- an outcome without an error, PData or a report of its own
+abbrev pub noErrorOutcome : State → List ℕ → Outcome
+noErrorOutcome end errors = outcome (reply end 0 []) errors noReport
 
--- the entry of these steps has no error and leaves what they leave
+-- the entry of this group has no error, and ends in the state that the step machine reaches
 abbrev pub Performs : ℕ → List Step → State → Type 0
-Performs h run st = (executeEntry (joinedItem h run) st .error ≡ 0) × (executeEntry (joinedItem h run) st .after ≡ machine run st)
+Performs h group st = (executeEntry (joinedItem h group) st .error ≡ 0) × (executeEntry (joinedItem h group) st .after ≡ machine group st)
 
--- the entries of these steps, at any sound node that takes their profile
+-- so do the entries of all groups of a kind, at any sound node that accepts the profile
 abbrev pub AllPerform : ℕ → (List Step → Type 0) → Type 0
-AllPerform h Run =
-    (run : List Step) (st : State) → Run run → StateRule st → hwpidMatches (st .node .settings) h ≡ true → Performs h run st
+AllPerform h EntryGroup =
+    (group : List Step) (st : State) → EntryGroup group → SoundState st → hwpidMatches (st .node .settings) h ≡ true → Performs h group st
 
-module _ (h : ℕ) (Run : List Step → Type 0) (performs : AllPerform h Run) where
-  -- in order, each from what the last one left
-  pub entries-perform : (runs : List (List Step)) (st : State) → All Run runs → StateRule st → hwpidMatches (st .node .settings) h ≡ true
-      → All (λ (e : ℕ). e ≡ 0) (errorsOf entryError entryAfter (joinedItems h runs) st)
-      × (runItems entryAfter (joinedItems h runs) st ≡ machine (joined runs) st)
+module _ (h : ℕ) (EntryGroup : List Step → Type 0) (performs : AllPerform h EntryGroup) where
+  -- all entries in order
+  pub entries-perform : (groups : List (List Step)) (st : State) → All EntryGroup groups → SoundState st → hwpidMatches (st .node .settings) h ≡ true
+      → All (λ (e : ℕ). e ≡ 0) (errorsOf entryError entryAfter (joinedItems h groups) st)
+      × (runItems entryAfter (joinedItems h groups) st ≡ machine (concat groups) st)
   unfolding runItems errorsOf
   entries-perform [] st a k f = (tt, refl)
   entries-perform (r ∷ rs) st a k f =
@@ -44,15 +44,15 @@ module _ (h : ℕ) (Run : List Step → Type 0) (performs : AllPerform h Run) wh
       let next = entryAfter (joinedItem h r) st in
       let same : next .node .settings ≡ st .node .settings = ap (λ (t : State). t .node .settings) (first .1) ∙ machine-stays r st .settings in
       let rest = entries-perform rs next (a .1) (entry-sound (joinedItem h r) st k) (ap (λ (s : Settings). hwpidMatches s h) same ∙ f) in
-      ((first .0, rest .0), rest .1 ∙ ap (machine (joined rs)) (first .1) ∙ sym (machine-append r (joined rs) st))
+      ((first .0, rest .0), rest .1 ∙ ap (machine (concat rs)) (first .1) ∙ sym (machine-append r (concat rs) st))
 
-  -- their list is read back and runs
-  pub batch-performs : (runs : List (List Step)) (st : State) → All Run runs → StateRule st → hwpidMatches (st .node .settings) h ≡ true
-      → batchRequest (listBytes (joinedItems h runs)) st
-      ≡ finished (machine (joined runs) st) (errorsOf entryError entryAfter (joinedItems h runs) st)
-  batch-performs runs st a k f =
-      let is = joinedItems h runs in
+  -- a batch request of these entries
+  pub batch-performs : (groups : List (List Step)) (st : State) → All EntryGroup groups → SoundState st → hwpidMatches (st .node .settings) h ≡ true
+      → batchRequest (listBytes (joinedItems h groups)) st
+      ≡ noErrorOutcome (machine (concat groups) st) (errorsOf entryError entryAfter (joinedItems h groups) st)
+  batch-performs groups st a k f =
+      let is = joinedItems h groups in
       let back = round-trip is in
-      batch-runs (listBytes is) st (λ z. omega (arith, list-some is)) (ap (λ (r : Reading). r .check) back)
+      batch-runs (listBytes is) st (λ z. omega (arith, list-nonempty is)) (ap (λ (r : Reading). r .check) back)
       ∙ ap (λ (r : Reading). batchOutcome (r .items) st) back
-      ∙ ap (λ (t : State). finished t (errorsOf entryError entryAfter is st)) (entries-perform runs st a k f .1)
+      ∙ ap (λ (t : State). noErrorOutcome t (errorsOf entryError entryAfter is st)) (entries-perform groups st a k f .1)

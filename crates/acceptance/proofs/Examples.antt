@@ -1,4 +1,4 @@
--- The worked examples, computed from the definitions.
+-- The worked examples, proved by computation.
 use mathlib.Core.Path.{refl}
 use lib.ListN.{length}
 use borrow.Author.Tests.{le-ltb}
@@ -6,18 +6,19 @@ use Rattle.lights.specs.Bits.{bits, bitmap}
 use Rattle.lights.specs.Lamp.{actualLevel}
 use Rattle.lights.specs.Lights.{powerOk, timeOk, secondsOf, lampAfter, lampsAfter, levelsBefore, changeLamps, lightsRequest}
 use Rattle.checksum.specs.Sums.{addWithCarry, addByte, sums}
-use Rattle.batch.specs.Batch.{entryBytes, entriesBytes, nextEntry, readFrom, runItems, errorsOf}
+use Rattle.batch.specs.Batch.{entryBytes, entriesBytes, nextEntry, readingFrom, runItems, errorsOf}
 use Rattle.timing.specs.Slot.{baseSlot, networkExtra, slotOf, directionTime, earliestOf, sendOf}
-use Rattle.handler.specs.Request.{perform, hwpidMatches, executeEntry, batchRequest, osRequest, execute}
+use Rattle.handler.specs.Request.{peripheralRequest, hwpidMatches, executeEntry, batchRequest, osRequest, execute}
 use Rattle.book.specs.Book.{chained, bookOk, sceneOf}
 use Rattle.book.specs.Step.{stepTimeOk, lampFault, byteFault, stepFault}
 use Rattle.book.specs.Entry.{powerBytes, entryData, pnumOf, pcmdOf}
 use Rattle.book.specs.Join.{follows}
-use Rattle.scene.specs.Call.{minOutput, addressOk, compileScene, compileOf}
+use Rattle.scene.specs.Call.{minOutput, addressOk, compileScene, compileFor}
 use Rattle.acceptance.specs.Examples.{WorkedExamples, OwnExamples}
 
+-- those of document 01
 pub worked-examples : WorkedExamples
-unfolding bits bitmap actualLevel powerOk timeOk secondsOf lampAfter lampsAfter levelsBefore changeLamps lightsRequest addWithCarry addByte sums nextEntry readFrom baseSlot networkExtra slotOf directionTime earliestOf sendOf perform hwpidMatches batchRequest osRequest execute entryBytes entriesBytes chained bookOk sceneOf stepTimeOk lampFault byteFault stepFault powerBytes entryData pnumOf pcmdOf follows addressOk compileScene compileOf
+unfolding bits bitmap actualLevel powerOk timeOk secondsOf lampAfter lampsAfter levelsBefore changeLamps lightsRequest addWithCarry addByte sums nextEntry readingFrom baseSlot networkExtra slotOf directionTime earliestOf sendOf peripheralRequest hwpidMatches batchRequest osRequest execute entryBytes entriesBytes chained bookOk sceneOf stepTimeOk lampFault byteFault stepFault powerBytes entryData pnumOf pcmdOf follows addressOk compileScene compileFor
 worked-examples =
     record {
       set-answers = refl;
@@ -39,8 +40,9 @@ worked-examples =
       book-compiles = λ out room. rw (le-ltb (length out) minOutput room);
     }
 
+-- those of our own
 pub own-examples : OwnExamples
-unfolding bits bitmap actualLevel powerOk timeOk secondsOf lampAfter lampsAfter levelsBefore changeLamps lightsRequest nextEntry readFrom runItems errorsOf perform hwpidMatches executeEntry batchRequest osRequest execute
+unfolding bits bitmap actualLevel powerOk timeOk secondsOf lampAfter lampsAfter levelsBefore changeLamps lightsRequest nextEntry readingFrom runItems errorsOf peripheralRequest hwpidMatches executeEntry batchRequest osRequest execute
 own-examples =
     record {
       entry-errors = refl;

@@ -1,5 +1,5 @@
--- What condition 3 is given can be met: by a node with lit lamps, running timers and filled memories, and a book with steps
--- of every kind. Then what it says of them, in figures.
+-- The assumptions of condition 3 can be met: by a node with lit lamps, running timers and filled memories, and a book with
+-- steps of every kind. Then what condition 3 says about them, in numbers.
 use mathlib.Core.Path.{_≡_, refl, _∙_}
 use mathlib.Core.Logic.{inl, inr}
 use mathlib.Core.List.{List, [], _∷_, _++_, map}
@@ -15,19 +15,19 @@ use Rattle.batch.specs.Batch.{entryBytes, entriesBytes}
 use Rattle.lights.specs.declared.lamp.Lamp.{Lamp}
 use Rattle.lights.specs.Lamp.{lamp, off, lampOk, lampZero, lampFits}
 use Rattle.node.specs.Node.{shapeOk, lampsOk, nodeOk}
-use Rattle.handler.specs.Request.{State, state}
+use Rattle.handler.specs.Request.{State, state, batchPcmd}
 use Rattle.book.specs.Book.{chained, bookOk, sceneOf}
 use Rattle.book.specs.Step.{stepTimeOk, lampFault, byteFault, stepFault}
 use Rattle.book.specs.Machine.{wellFormed, machineLevel, machineSeconds, machineLamps, machineEffect, machineStep, machine}
 use Rattle.book.specs.Entry.{powerBytes, entryData, pnumOf, pcmdOf}
 use Rattle.book.specs.Join.{follows, entryLimit}
-use Rattle.scene.specs.Compile.{listLimit, batchesOf, compiled}
-use Rattle.scene.specs.Call.{minOutput, requestsIn, compileOf}
-use Rattle.acceptance.specs.SceneTheorem.{Addressable, SceneRule, Given, DoneAsSteps, afterCalls}
+use Rattle.scene.specs.Compile.{listLimit, batchesOf, sceneRequests}
+use Rattle.scene.specs.Call.{minOutput, requestsIn, compileFor}
+use Rattle.acceptance.specs.Condition3.{Addressable, SceneRule, Given, MatchesMachine, afterCalls}
 use Rattle.acceptance.proofs.Refusals.{compile-refusals}
 use Rattle.acceptance.proofs.Scenes.{condition-3}
 
--- five lamps on step 10; the RAM's and the EEPROM's last bytes stand apart
+-- five lamps, step 10; the parameters are what the scene changes
 abbrev nodeWith : List Lamp → List ℕ → List ℕ → State
 nodeWith lamps ram eeprom =
     state (record {
@@ -41,8 +41,8 @@ before =
     nodeWith (lamp 30 90 ∷ lamp 0 0 ∷ lamp 100 7620 ∷ lamp 15 0 ∷ lamp 1 1 ∷ [])
     (1 ∷ 2 ∷ 3 ∷ 4 ∷ []) (5 ∷ 6 ∷ [])
 
--- a book with an empty scene and one of ten steps: +80 at lamp 0; +5 for 2 minutes at lamp 2; lamp 2 to 0 for 5 seconds;
--- lamps 3 and 31 to 40 for 7 seconds; -1 at lamp 4; two RAM bytes next to each other; two EEPROM bytes, the later one first
+-- a book with an empty scene and a scene of ten steps: +80 at lamp 0; +5 for 2 minutes at lamp 2; lamp 2 to 0 for 5 seconds;
+-- lamps 3 and 31 to 40 for 7 seconds; -1 at lamp 4; two adjacent RAM bytes; two EEPROM bytes, the later one first
 abbrev book : List ℕ
 book =
     0x02 ∷ 0x07 ∷ 0x00 ∷ 0x00 ∷ 0x07 ∷ 0x00 ∷ 0x0A
@@ -50,11 +50,11 @@ book =
     ∷ 0 ∷ 3 ∷ 40 ∷ 0x87 ∷ 0 ∷ 31 ∷ 40 ∷ 0x87 ∷ 2 ∷ 4 ∷ 1 ∷ 0
     ∷ 3 ∷ 45 ∷ 0x21 ∷ 0 ∷ 3 ∷ 46 ∷ 0x22 ∷ 0 ∷ 4 ∷ 191 ∷ 0x23 ∷ 0 ∷ 4 ∷ 190 ∷ 0x24 ∷ 0 ∷ []
 
--- a buffer for each call, no two alike
+-- a different response buffer for each call
 abbrev buffers : ℕ → List ℕ
 buffers k = k ∷ replicate 63 0xEE
 
--- every hypothesis holds, for its own address and profile
+-- the assumptions hold for the node's address and profile
 pub given-own : Given before buffers 7 0x2471
 unfolding nodeOk shapeOk settingsOk stepOk lampsOk allBelow lampFits lampOk lampZero
 given-own =
@@ -65,10 +65,11 @@ given-own =
       profile = inl refl;
     }
 
--- and for those of all nodes
+-- and for broadcast and any profile
 pub given-all : Given before buffers broadcastNadr anyHwpid
 given-all = let g = given-own in record { sound = g .sound; room = g .room; address = inr refl; profile = inr refl }
 
+-- the scene has no fault
 pub faultless : SceneRule book 1
 unfolding bookOk chained sceneOf stepFault lampFault byteFault stepTimeOk
 faultless =
@@ -78,23 +79,24 @@ faultless =
       no-fault = (refl, (refl, (refl, (refl, (refl, (refl, (refl, (refl, (refl, (refl, tt))))))))));
     }
 
--- an output buffer that held other bytes; both compile calls are accepted
+-- an output buffer with other bytes in it; no compile call is refused
 abbrev out : List ℕ
 out = replicate minOutput 0xCC
 
-accepted : (a h : ℕ) → Addressable a → compileOf book 1 a h out .refusal ≡ 0
+accepted : (a h : ℕ) → Addressable a → compileFor book 1 a h out .refusal ≡ 0
 accepted a h ad = compile-refusals book 1 a h out .none .1 (ad, faultless, omega (arith, length-replicate {A = ℕ} minOutput 0xCC))
 
--- it compiles to two requests, of five entries and of one
-pub two-requests : length (compiled 7 0x2471 (sceneOf book 1)) ≡ 2
+-- the scene is compiled into two requests
+pub two-requests : length (sceneRequests 7 0x2471 (sceneOf book 1)) ≡ 2
 unfolding sceneOf powerBytes entryData pnumOf pcmdOf follows entryBytes entriesBytes
 two-requests = refl
 
+-- of five entries and of one
 pub several-entries : map length (batchesOf entryLimit listLimit 0x2471 (sceneOf book 1)) ≡ 5 ∷ 1 ∷ []
 unfolding sceneOf powerBytes entryData pnumOf pcmdOf follows entryBytes entriesBytes
 several-entries = refl
 
--- what the step machine leaves
+-- the state that the step machine reaches
 abbrev afterwards : State
 afterwards =
     nodeWith (lamp 100 0 ∷ lamp 0 0 ∷ lamp 0 0 ∷ lamp 40 7 ∷ lamp 0 0 ∷ [])
@@ -104,20 +106,22 @@ machine-leaves : machine (sceneOf book 1) before ≡ afterwards
 unfolding sceneOf stepTimeOk wellFormed machineLevel machineSeconds machineLamps machineEffect machineStep
 machine-leaves = refl
 
--- both lists of requests succeed call by call
-pub done-own : DoneAsSteps 0x05 7 buffers (compiled 7 0x2471 (sceneOf book 1)) (sceneOf book 1) before
+-- condition 3 for the requests of the compiling rule
+pub done-own : MatchesMachine batchPcmd 7 buffers (sceneRequests 7 0x2471 (sceneOf book 1)) (sceneOf book 1) before
 done-own = condition-3 .requests before buffers book 1 7 0x2471 given-own faultless
 
-pub done-all : DoneAsSteps 0x05 broadcastNadr buffers (compiled broadcastNadr anyHwpid (sceneOf book 1)) (sceneOf book 1) before
+-- at broadcast
+pub done-all : MatchesMachine batchPcmd broadcastNadr buffers (sceneRequests broadcastNadr anyHwpid (sceneOf book 1)) (sceneOf book 1) before
 done-all = condition-3 .requests before buffers book 1 broadcastNadr anyHwpid given-all faultless
 
--- and so do those in the output buffer
-pub buffer-own : DoneAsSteps 0x05 7 buffers (requestsIn (compileOf book 1 7 0x2471 out .buffer)) (sceneOf book 1) before
+-- and for those in the output buffer
+pub buffer-own : MatchesMachine batchPcmd 7 buffers (requestsIn (compileFor book 1 7 0x2471 out .buffer)) (sceneOf book 1) before
 buffer-own = condition-3 .buffer before buffers book 1 7 0x2471 out given-own (accepted 7 0x2471 (inl (omega arith, omega arith)))
 
-pub buffer-all : DoneAsSteps 0x05 broadcastNadr buffers (requestsIn (compileOf book 1 broadcastNadr anyHwpid out .buffer)) (sceneOf book 1) before
+-- at broadcast
+pub buffer-all : MatchesMachine batchPcmd broadcastNadr buffers (requestsIn (compileFor book 1 broadcastNadr anyHwpid out .buffer)) (sceneOf book 1) before
 buffer-all = condition-3 .buffer before buffers book 1 broadcastNadr anyHwpid out given-all (accepted broadcastNadr anyHwpid (inr refl))
 
--- and the node ends with these lamps, timers and bytes
-pub calls-leave : afterCalls buffers (compiled 7 0x2471 (sceneOf book 1)) before ≡ afterwards
+-- the node ends with these lamps, timers and bytes
+pub calls-leave : afterCalls buffers (sceneRequests 7 0x2471 (sceneOf book 1)) before ≡ afterwards
 calls-leave = done-own .final ∙ machine-leaves

@@ -1,4 +1,4 @@
--- A lights request whose bitmap marks ascending lamps: each of these lamps takes its own entry, one after the other.
+-- A lights request of a group of lamp steps: it changes the lamps as the step machine does, one step after another.
 use mathlib.Core.Path.{_≡_, refl, sym, ap, _∙_}
 use mathlib.Core.Bool.{true, cond}
 use mathlib.Core.List.{List, [], _∷_, _++_, map}
@@ -16,19 +16,19 @@ use Rattle.dpa.specs.declared.settings.Settings.{Settings}
 use Rattle.dpa.proofs.Bool.{by-test}
 use Rattle.lights.specs.Bits.{bits, count, bitmap}
 use Rattle.lights.specs.Lamp.{off}
-use Rattle.lights.specs.Lights.{powerOk, timeOk, secondsOf, change, good, entries, newLevel, lampAfter, lampsAfter, levelsBefore, changeLamps, lightsRequest}
+use Rattle.lights.specs.Lights.{powerOk, timeOk, secondsOf, change, allValid, powerEntries, newLevel, lampAfter, lampsAfter, levelsBefore, changeLamps, lightsRequest}
 use Rattle.lights.proofs.Bits.{bits-mask}
 use Rattle.lights.specs.declared.apply.Command.{Command}
 use Rattle.lights.specs.declared.apply.Command.the-variants.{Set, Raise, Lower}
 use Rattle.lights.specs.declared.lamp.Lamp.{Lamp}
-use Rattle.lights.specs.declared.entry.LampChange.{LampChange}
+use Rattle.lights.specs.declared.power.LampChange.{LampChange}
 use Rattle.node.specs.Node.{withLamps}
-use Rattle.handler.specs.Request.{State, withNode, perform}
-use Rattle.handler.proofs.Performing.{perform-lights}
+use Rattle.handler.specs.Request.{State, withNode, peripheralRequest}
+use Rattle.handler.proofs.Peripherals.{peripheral-lights}
 use Rattle.book.specs.declared.step.Step.{Step}
 use Rattle.book.specs.Step.{stepTimeOk}
 use Rattle.book.specs.Machine.{machineLevel, machineSeconds, machineLamp, machineLamps, machineEffect, machineStep, machine}
-use Rattle.book.specs.Entry.{bitmapOf, fourBytes, powerBytes, powersBytes, pnumOf, pcmdOf}
+use Rattle.book.specs.Entry.{bitmapOf, bitmapBytes, powerBytes, powersBytes, pnumOf, pcmdOf}
 use Rattle.book.proofs.Faults.{Good, LampGood, lamp-good, good-formed}
 
 -- ---- binary digits
@@ -48,12 +48,12 @@ digit-zero n m h e =
     rw (q, r)
 
 module _ {A : Type 0} (target : A → ℕ) where
-  -- targets that ascend from i on and are below 32
+  -- targets that ascend from i and are below 32
   abbrev pub Ascending : ℕ → List A → Type 0
   Ascending i [] = Unit {0}
   Ascending i (s ∷ ss) = (i ≤ target s) × (target s < 32) × Ascending (suc (target s)) ss
 
-  -- the number whose one-digits are the targets; lamp i has the lowest digit
+  -- the number whose 1 bits are the targets, lamp i having the lowest bit
   abbrev pub maskFrom : ℕ → List A → ℕ
   maskFrom i [] = 0
   maskFrom i (s ∷ ss) = 2 ^ (target s - i) + maskFrom i ss
@@ -64,7 +64,7 @@ module _ {A : Type 0} (target : A → ℕ) where
       let e : target s - i ≡ suc (target s - suc i) = omega (arith, a .0) in
       rw (e, mask-double i (suc (target s)) ss (omega (arith, a .0)) (a .2)) (omega arith)
 
-  -- the digits from lamp i on
+  -- its bits from lamp i on
   digits-none : (n i : ℕ) → bits (suc n) (maskFrom i []) ≡ 0 ∷ bits n (maskFrom (suc i) [])
   digits-none n i = digit-zero n 0 0 refl
 
@@ -79,7 +79,7 @@ module _ {A : Type 0} (target : A → ℕ) where
   digits-later n i s ss h a =
       digit-zero n (maskFrom i (s ∷ ss)) (maskFrom (suc i) (s ∷ ss)) (mask-double i (target s) (s ∷ ss) h (le-refl (target s), a .1, a .2))
 
-  -- as many ones as targets
+  -- as many 1 bits as targets
   pub mask-count : (n i : ℕ) (ss : List A) → n + i ≡ 32 → Ascending i ss → count (bits n (maskFrom i ss)) ≡ length ss
   unfolding bits
   mask-count zero i [] h a = refl
@@ -92,69 +92,70 @@ module _ {A : Type 0} (target : A → ℕ) where
       (λ t. let l : i < target s = omega (arith, eqb-false (target s) i t, a .0) in
       ap count (digits-later n i s ss l a) ∙ mask-count n (suc i) (s ∷ ss) (omega arith) (l, a .1, a .2))
 
-  -- thirty-two digits hold the mask
+  -- the mask fits 32 bits
   mask-room : (ss : List A) (j : ℕ) → Ascending j ss → j ≤ 32 → maskFrom 0 ss + 2 ^ j ≤ 2 ^ 32
   mask-room [] j a h = omega (arith, pow-mono h)
   mask-room (s ∷ ss) j a h =
       rw (sub-zero (target s)) (omega (arith, pow-mono (a .0), mask-room ss (suc (target s)) (a .2) (a .1), two-pow-succ (target s)))
 
+  -- and is below 2 ^ 32
   pub mask-max : (ss : List A) → Ascending 0 ss → maskFrom 0 ss < 2 ^ 32
   mask-max ss a = omega (arith, mask-room ss 0 a (omega arith))
 
   module _ (change : A → LampChange) (c : Command) where
-    -- lamp `target s - i` of n implemented ones takes its entry
-    abbrev pub taken : ℕ → ℕ → A → List Lamp → List Lamp
-    taken n i s ls =
+    -- one change: lamp `target s - i`, if it is one of the n implemented lamps
+    abbrev pub applyOne : ℕ → ℕ → A → List Lamp → List Lamp
+    applyOne n i s ls =
         cond (ltb (target s - i) n)
         (set ls (target s - i) (lampAfter c (getD ls (target s - i) off) (change s .power) (change s .seconds)))
         ls
 
-    -- the entries one after the other
-    abbrev pub inTurn : ℕ → ℕ → List A → List Lamp → List Lamp
-    inTurn n i [] ls = ls
-    inTurn n i (s ∷ ss) ls = inTurn n i ss (taken n i s ls)
+    -- the changes one after another
+    abbrev pub applyAll : ℕ → ℕ → List A → List Lamp → List Lamp
+    applyAll n i [] ls = ls
+    applyAll n i (s ∷ ss) ls = applyAll n i ss (applyOne n i s ls)
 
-    taken-later : (n i : ℕ) (s : A) (l : Lamp) (ls : List Lamp) → i < target s → taken n i s (l ∷ ls) ≡ l ∷ taken (n - 1) (suc i) s ls
-    taken-later n i s l ls h =
+    one-later : (n i : ℕ) (s : A) (l : Lamp) (ls : List Lamp) → i < target s → applyOne n i s (l ∷ ls) ≡ l ∷ applyOne (n - 1) (suc i) s ls
+    one-later n i s l ls h =
         let e : target s - i ≡ suc (target s - suc i) = omega arith in
         by-test (ltb (target s - suc i) (n - 1))
         (λ t. rw (e, t, lt-ltb (suc (target s - suc i)) n (omega (arith, ltb-true (target s - suc i) (n - 1) t))))
         (λ t. rw (e, t, le-ltb (suc (target s - suc i)) n (omega (arith, ltb-false (target s - suc i) (n - 1) t))))
 
-    -- entries of later lamps leave the first
-    turns-later : (n i j : ℕ) (ss : List A) (l : Lamp) (ls : List Lamp) → i < j → Ascending j ss → inTurn n i ss (l ∷ ls) ≡ l ∷ inTurn (n - 1) (suc i) ss ls
-    turns-later n i j [] l ls h a = refl
-    turns-later n i j (s ∷ ss) l ls h a =
-        ap (inTurn n i ss) (taken-later n i s l ls (omega (arith, a .0)))
-        ∙ turns-later n i (suc (target s)) ss l (taken (n - 1) (suc i) s ls) (omega (arith, a .0)) (a .2)
+    -- changes of later lamps leave the first lamp
+    all-later : (n i j : ℕ) (ss : List A) (l : Lamp) (ls : List Lamp) → i < j → Ascending j ss → applyAll n i ss (l ∷ ls) ≡ l ∷ applyAll (n - 1) (suc i) ss ls
+    all-later n i j [] l ls h a = refl
+    all-later n i j (s ∷ ss) l ls h a =
+        ap (applyAll n i ss) (one-later n i s l ls (omega (arith, a .0)))
+        ∙ all-later n i (suc (target s)) ss l (applyOne (n - 1) (suc i) s ls) (omega (arith, a .0)) (a .2)
 
-    -- all entries at once are the entries in turn
-    pub lamps-in-turn : (m n i : ℕ) (ss : List A) (ls : List Lamp) → m + i ≡ 32 → length ls ≡ m → Ascending i ss
-        → lampsAfter c n (bits m (maskFrom i ss)) (map change ss) ls ≡ inTurn n i ss ls
+    -- changing all lamps at once is changing them one after another
+    pub lamps-one-by-one : (m n i : ℕ) (ss : List A) (ls : List Lamp) → m + i ≡ 32 → length ls ≡ m → Ascending i ss
+        → lampsAfter c n (bits m (maskFrom i ss)) (map change ss) ls ≡ applyAll n i ss ls
     unfolding lampsAfter bits
-    lamps-in-turn zero n i [] ls h k a = refl
-    lamps-in-turn zero n i (s ∷ ss) ls h k a = absurd (omega (arith, a .0, a .1))
-    lamps-in-turn (suc m) n i ss [] h k a = absurd (omega arith)
-    lamps-in-turn (suc m) n i [] (l ∷ ls) h k a =
+    lamps-one-by-one zero n i [] ls h k a = refl
+    lamps-one-by-one zero n i (s ∷ ss) ls h k a = absurd (omega (arith, a .0, a .1))
+    lamps-one-by-one (suc m) n i ss [] h k a = absurd (omega arith)
+    lamps-one-by-one (suc m) n i [] (l ∷ ls) h k a =
         ap (λ (bs : List ℕ). lampsAfter c n bs [] (l ∷ ls)) (digits-none m i)
-        ∙ ap (λ (xs : List Lamp). l ∷ xs) (lamps-in-turn m (n - 1) (suc i) [] ls (omega arith) (omega arith) tt)
-    lamps-in-turn (suc m) n i (s ∷ ss) (l ∷ ls) h k a =
+        ∙ ap (λ (xs : List Lamp). l ∷ xs) (lamps-one-by-one m (n - 1) (suc i) [] ls (omega arith) (omega arith) tt)
+    lamps-one-by-one (suc m) n i (s ∷ ss) (l ∷ ls) h k a =
         by-test (eqb (target s) i)
         (λ t. let e : target s ≡ i = eqb-true (target s) i t in
         let z : target s - i ≡ 0 = omega arith in
         let x = cond (ltb 0 n) (lampAfter c l (change s .power) (change s .seconds)) l in
         ap (λ (bs : List ℕ). lampsAfter c n bs (map change (s ∷ ss)) (l ∷ ls)) (digits-first m i s ss e a)
-        ∙ ap (λ (xs : List Lamp). x ∷ xs) (lamps-in-turn m (n - 1) (suc i) ss ls (omega arith) (omega arith) (rw e at (a .2)))
-        ∙ sym (turns-later n i (suc (target s)) ss x ls (omega arith) (a .2))
-        ∙ ap (inTurn n i ss) (sym (taken-first n i s l ls z)))
+        ∙ ap (λ (xs : List Lamp). x ∷ xs) (lamps-one-by-one m (n - 1) (suc i) ss ls (omega arith) (omega arith) (rw e at (a .2)))
+        ∙ sym (all-later n i (suc (target s)) ss x ls (omega arith) (a .2))
+        ∙ ap (applyAll n i ss) (sym (one-first n i s l ls z)))
         (λ t. let g : i < target s = omega (arith, eqb-false (target s) i t, a .0) in
         ap (λ (bs : List ℕ). lampsAfter c n bs (map change (s ∷ ss)) (l ∷ ls)) (digits-later m i s ss g a)
-        ∙ ap (λ (xs : List Lamp). l ∷ xs) (lamps-in-turn m (n - 1) (suc i) (s ∷ ss) ls (omega arith) (omega arith) (g, a .1, a .2))
-        ∙ sym (turns-later n i (target s) (s ∷ ss) l ls g (le-refl (target s), a .1, a .2)))
+        ∙ ap (λ (xs : List Lamp). l ∷ xs) (lamps-one-by-one m (n - 1) (suc i) (s ∷ ss) ls (omega arith) (omega arith) (g, a .1, a .2))
+        ∙ sym (all-later n i (target s) (s ∷ ss) l ls g (le-refl (target s), a .1, a .2)))
       where
-        taken-first : (n i : ℕ) (s : A) (l : Lamp) (ls : List Lamp) → target s - i ≡ 0
-            → taken n i s (l ∷ ls) ≡ cond (ltb 0 n) (lampAfter c l (change s .power) (change s .seconds)) l ∷ ls
-        taken-first n i s l ls z = rw z (by-test (ltb 0 n) (λ t. rw t) (λ t. rw t))
+        one-first : (n i : ℕ) (s : A) (l : Lamp) (ls : List Lamp) → target s - i ≡ 0
+            → applyOne n i s (l ∷ ls) ≡ cond (ltb 0 n) (lampAfter c l (change s .power) (change s .seconds)) l ∷ ls
+        one-first n i s l ls z = rw z (by-test (ltb 0 n) (λ t. rw t) (λ t. rw t))
 
 -- ---- bytes
 
@@ -172,16 +173,16 @@ unfolding bitmap
 bitmap-bytes m a b d e rest p q r s w =
     sym (bits-mask (a ∷ b ∷ d ∷ e ∷ []) (four-bytes a b d e p q r s)) ∙ ap (bits 32) (sym w)
 
--- a level without a time, in front of entries that are all valid
-pub entry-level : (n v : ℕ) (xs : List ℕ) (es : List LampChange) → v ≤ 100 → entries n xs ≡ good es → entries (suc n) (v ∷ xs) ≡ good (change v 0 ∷ es)
+-- a power without a time, before valid power entries
+pub entry-level : (n v : ℕ) (xs : List ℕ) (es : List LampChange) → v ≤ 100 → powerEntries n xs ≡ allValid es → powerEntries (suc n) (v ∷ xs) ≡ allValid (change v 0 ∷ es)
 unfolding powerOk
 entry-level n v xs es h e =
     let q : v % 128 ≡ v = omega arith in
     rw (q, le-leb v 100 h, lt-ltb v 128 (omega arith), e)
 
--- a level with a time
-pub entry-timed : (n v t : ℕ) (xs : List ℕ) (es : List LampChange) → v ≤ 100 → timeOk t ≡ true → entries n xs ≡ good es
-    → entries (suc n) ((v + 128) ∷ t ∷ xs) ≡ good (change v (secondsOf t) ∷ es)
+-- a power with a time
+pub entry-timed : (n v t : ℕ) (xs : List ℕ) (es : List LampChange) → v ≤ 100 → timeOk t ≡ true → powerEntries n xs ≡ allValid es
+    → powerEntries (suc n) ((v + 128) ∷ t ∷ xs) ≡ allValid (change v (secondsOf t) ∷ es)
 unfolding powerOk
 entry-timed n v t xs es h k e =
     let q : (v + 128) % 128 ≡ v = omega arith in
@@ -189,15 +190,15 @@ entry-timed n v t xs es h k e =
 
 -- ---- steps
 
--- good steps of a lamp kind, on lamps that ascend from i on
-abbrev pub LampRun : ℕ → ℕ → List Step → Type 0
-LampRun k i [] = Unit {0}
-LampRun k i (s ∷ ss) = Good s × (s .kind ≡ k) × (i ≤ s .target) × LampRun k (suc (s .target)) ss
+-- good steps of lamp kind k whose targets ascend from i
+abbrev pub LampGroup : ℕ → ℕ → List Step → Type 0
+LampGroup k i [] = Unit {0}
+LampGroup k i (s ∷ ss) = Good s × (s .kind ≡ k) × (i ≤ s .target) × LampGroup k (suc (s .target)) ss
 
 abbrev targetOf : Step → ℕ
 targetOf s = s .target
 
--- the entry of a step
+-- the change of a step
 abbrev changeOf : Step → LampChange
 changeOf s = change (s .value) (secondsOf (s .time))
 
@@ -232,41 +233,41 @@ module _ (k : ℕ) (lamp : k < 3) where
       rw (e, machine-level k (l .level) (s .value) lamp, machine-seconds, ne-eqb (s .value) 127 (omega (arith, parts s g e .value-max)))
 
   machine-lamp-step : (s : Step) (st : State) → Good s → s .kind ≡ k
-      → machineStep s st ≡ withNode st (withLamps (st .node) (taken targetOf changeOf (commandOf k) (st .node .settings .«lamp_count») 0 s (st .node .lamps)))
+      → machineStep s st ≡ withNode st (withLamps (st .node) (applyOne targetOf changeOf (commandOf k) (st .node .settings .«lamp_count») 0 s (st .node .lamps)))
   unfolding machineStep machineEffect machineLamps
   machine-lamp-step s st g e =
       rw (good-formed s .0 g, machine-lamp s (getD (st .node .lamps) (s .target) off) g e, e, lt-ltb k 3 lamp, sub-zero (s .target))
 
-  -- the step machine over such steps
-  pub machine-lamp-run : (i : ℕ) (ss : List Step) (st : State) → LampRun k i ss
-      → machine ss st ≡ withNode st (withLamps (st .node) (inTurn targetOf changeOf (commandOf k) (st .node .settings .«lamp_count») 0 ss (st .node .lamps)))
-  machine-lamp-run i [] st r = refl
-  machine-lamp-run i (s ∷ ss) st r = rw (machine-lamp-step s st (r .0) (r .1)) (machine-lamp-run (suc (s .target)) ss _ (r .3))
+  -- the step machine over a group
+  pub machine-lamp-group : (i : ℕ) (ss : List Step) (st : State) → LampGroup k i ss
+      → machine ss st ≡ withNode st (withLamps (st .node) (applyAll targetOf changeOf (commandOf k) (st .node .settings .«lamp_count») 0 ss (st .node .lamps)))
+  machine-lamp-group i [] st r = refl
+  machine-lamp-group i (s ∷ ss) st r = rw (machine-lamp-step s st (r .0) (r .1)) (machine-lamp-group (suc (s .target)) ss _ (r .3))
 
-  run-ascends : (i : ℕ) (ss : List Step) → LampRun k i ss → Ascending targetOf i ss
-  run-ascends i [] r = tt
-  run-ascends i (s ∷ ss) r = (r .2, parts s (r .0) (r .1) .target-max, run-ascends (suc (s .target)) ss (r .3))
+  group-ascends : (i : ℕ) (ss : List Step) → LampGroup k i ss → Ascending targetOf i ss
+  group-ascends i [] r = tt
+  group-ascends i (s ∷ ss) r = (r .2, parts s (r .0) (r .1) .target-max, group-ascends (suc (s .target)) ss (r .3))
 
   bitmap-mask : (ss : List Step) → bitmapOf ss ≡ maskFrom targetOf 0 ss
   bitmap-mask [] = refl
   bitmap-mask (s ∷ ss) = rw (sub-zero (s .target), bitmap-mask ss)
 
-  -- the entry's bitmap has a one-digit for each step
-  run-digits : (ss : List Step) (rest : List ℕ) → LampRun k 0 ss → bitmap (fourBytes (bitmapOf ss) ++ rest) ≡ bits 32 (maskFrom targetOf 0 ss)
-  run-digits ss rest r =
+  -- the bitmap of the entry has a 1 bit for each step
+  group-digits : (ss : List Step) (rest : List ℕ) → LampGroup k 0 ss → bitmap (bitmapBytes (bitmapOf ss) ++ rest) ≡ bits 32 (maskFrom targetOf 0 ss)
+  group-digits ss rest r =
       let m = bitmapOf ss in
-      let max : m < 2 ^ 32 = omega (arith, bitmap-mask ss, mask-max targetOf ss (run-ascends 0 ss r)) in
+      let max : m < 2 ^ 32 = omega (arith, bitmap-mask ss, mask-max targetOf ss (group-ascends 0 ss r)) in
       bitmap-bytes m (low m) (low (high m)) (low (high (high m))) (low (high (high (high m)))) rest
       (omega arith) (omega arith) (omega arith) (omega arith) (omega arith)
       ∙ ap (bits 32) (bitmap-mask ss)
 
-  -- the power bytes are read as the steps' entries
-  run-entries : (i : ℕ) (ss : List Step) → LampRun k i ss → entries (length ss) (powersBytes ss) ≡ good (map changeOf ss)
+  -- the power bytes are read back as the changes of the steps
+  group-entries : (i : ℕ) (ss : List Step) → LampGroup k i ss → powerEntries (length ss) (powersBytes ss) ≡ allValid (map changeOf ss)
   unfolding powerBytes stepTimeOk timeOk secondsOf
-  run-entries i [] r = refl
-  run-entries i (s ∷ ss) r =
+  group-entries i [] r = refl
+  group-entries i (s ∷ ss) r =
       let fine = parts s (r .0) (r .1) in
-      let ih = run-entries (suc (s .target)) ss (r .3) in
+      let ih = group-entries (suc (s .target)) ss (r .3) in
       by-test (eqb (s .time) 0)
       (λ t. let z : s .time ≡ 0 = eqb-true (s .time) 0 t in
       rw (t, z) (entry-level (length ss) (s .value) (powersBytes ss) (map changeOf ss) (fine .value-max) ih))
@@ -283,30 +284,30 @@ module _ (k : ℕ) (lamp : k < 3) where
       go (suc (suc (suc j))) h = absurd (omega arith)
 
   entry-lights : (d : List ℕ) (st : State)
-      → perform (pnumOf k) (pcmdOf k) d st
+      → peripheralRequest (pnumOf k) (pcmdOf k) d st
       ≡ mapState (withNode st) (mapState (withLamps (st .node)) (changeLamps (st .node .settings) (commandOf k) d (st .node .lamps)))
   unfolding pnumOf pcmdOf
-  entry-lights d st = rw (lt-ltb k 3 lamp) (perform-lights 0x71 k d st refl ∙ rw (request-command (st .node .settings) d (st .node .lamps)))
+  entry-lights d st = rw (lt-ltb k 3 lamp) (peripheral-lights 0x71 k d st refl ∙ rw (request-command (st .node .settings) d (st .node .lamps)))
 
-  -- the request of such steps
-  request-run : (s : Settings) (ss : List Step) (ls : List Lamp) → length ls ≡ 32 → LampRun k 0 ss
-      → changeLamps s (commandOf k) (fourBytes (bitmapOf ss) ++ powersBytes ss) ls
-      ≡ reply (inTurn targetOf changeOf (commandOf k) (s .«lamp_count») 0 ss ls) 0 (levelsBefore s (s .«lamp_count») (bits 32 (maskFrom targetOf 0 ss)) ls)
+  -- the lights request of a group
+  request-group : (s : Settings) (ss : List Step) (ls : List Lamp) → length ls ≡ 32 → LampGroup k 0 ss
+      → changeLamps s (commandOf k) (bitmapBytes (bitmapOf ss) ++ powersBytes ss) ls
+      ≡ reply (applyAll targetOf changeOf (commandOf k) (s .«lamp_count») 0 ss ls) 0 (levelsBefore s (s .«lamp_count») (bits 32 (maskFrom targetOf 0 ss)) ls)
   unfolding changeLamps
-  request-run s ss ls full r =
-      let a = run-ascends 0 ss r in
+  request-group s ss ls full r =
+      let a = group-ascends 0 ss r in
       rw (
         le-ltb (suc (suc (suc (suc (length (powersBytes ss)))))) 4 (omega arith),
-        run-digits ss (powersBytes ss) r,
+        group-digits ss (powersBytes ss) r,
         mask-count targetOf 32 0 ss refl a,
-        run-entries 0 ss r,
-        lamps-in-turn targetOf changeOf (commandOf k) 32 (s .«lamp_count») 0 ss ls refl full a,
+        group-entries 0 ss r,
+        lamps-one-by-one targetOf changeOf (commandOf k) 32 (s .«lamp_count») 0 ss ls refl full a,
       )
 
-  -- an entry of such steps: no error, and the step machine's state
-  pub entry-lamp-run : (ss : List Step) (st : State) → length (st .node .lamps) ≡ 32 → LampRun k 0 ss
-      → perform (pnumOf k) (pcmdOf k) (fourBytes (bitmapOf ss) ++ powersBytes ss) st
+  -- the entry of a group: no error, and the state that the step machine reaches
+  pub entry-lamp-group : (ss : List Step) (st : State) → length (st .node .lamps) ≡ 32 → LampGroup k 0 ss
+      → peripheralRequest (pnumOf k) (pcmdOf k) (bitmapBytes (bitmapOf ss) ++ powersBytes ss) st
       ≡ reply (machine ss st) 0 (levelsBefore (st .node .settings) (st .node .settings .«lamp_count») (bits 32 (maskFrom targetOf 0 ss)) (st .node .lamps))
-  entry-lamp-run ss st full r =
-      entry-lights (fourBytes (bitmapOf ss) ++ powersBytes ss) st
-      ∙ rw (request-run (st .node .settings) ss (st .node .lamps) full r, machine-lamp-run 0 ss st r)
+  entry-lamp-group ss st full r =
+      entry-lights (bitmapBytes (bitmapOf ss) ++ powersBytes ss) st
+      ∙ rw (request-group (st .node .settings) ss (st .node .lamps) full r, machine-lamp-group 0 ss st r)

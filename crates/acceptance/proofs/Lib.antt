@@ -1,12 +1,12 @@
 pub mod Lamps
 pub mod Memories
-pub mod Runs
+pub mod Entries
 pub mod Batches
-pub mod Calls
-pub mod Sessions
+pub mod OneRequest
+pub mod AllRequests
 pub mod Refusals
 pub mod Scenes
 pub mod Instance
 pub mod Examples
-pub mod Taken
+pub mod OutputRequests
 pub mod Running

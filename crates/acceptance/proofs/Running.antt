@@ -1,4 +1,4 @@
--- A scene run on a node ends as the step machine does.
+-- `run_scene`: the state after it is the one that the step machine reaches.
 use mathlib.Core.Path.{_≡_, refl, sym, ap, _∙_, subst}
 use mathlib.Core.Logic.{inl}
 use mathlib.Core.Bool.{true, false}
@@ -12,42 +12,45 @@ use Rattle.dpa.proofs.Bool.{by-cond}
 use Rattle.memory.specs.declared.block.Memory.the-variants.{Eeprom, External}
 use Rattle.memory.specs.Block.{sizeOf}
 use Rattle.node.specs.Node.{nodeOk}
-use Rattle.handler.specs.Request.{State, StateRule, handleRequest}
-use Rattle.handler.proofs.Soundness.{request-rule}
+use Rattle.handler.specs.Request.{State, SoundState, handleRequest}
+use Rattle.handler.proofs.Soundness.{request-sound}
 use Rattle.book.specs.Book.{sceneOf}
 use Rattle.book.specs.Machine.{machine}
-use Rattle.scene.specs.Compile.{compiled}
-use Rattle.scene.specs.Call.{CompileResult, output, requestsIn, compileOf}
+use Rattle.scene.specs.Compile.{sceneRequests}
+use Rattle.scene.specs.Call.{CompileResult, output, requestsIn, compileFor}
 use Rattle.scene.proofs.Outputs.{compile-refused}
-use Rattle.acceptance.specs.SceneTheorem.{Given, afterCalls}
-use Rattle.acceptance.specs.RunScene.{cleared, Holds, Ran, notRun, afterCompile, runScene}
+use Rattle.acceptance.specs.Condition3.{Given, afterCalls}
+use Rattle.acceptance.specs.RunScene.{zeroBuffer, CompleteOutput, SceneResult, result, afterCompile, runScene}
 use Rattle.acceptance.proofs.Refusals.{accepted-answer, compile-refusals}
 use Rattle.acceptance.proofs.Scenes.{buffer-theorem}
-use Rattle.acceptance.proofs.Taken.{output-holds}
+use Rattle.acceptance.proofs.OutputRequests.{output-complete}
 
--- what the theorem asks of a sound node, for its own address and profile
-own-given : (st : State) → StateRule st → Given st (λ _. cleared) (st .node .settings .address) (st .node .settings .hwpid)
+-- the assumptions of the theorem hold for a sound state, its own address and its own profile
+own-given : (st : State) → SoundState st → Given st (λ _. zeroBuffer) (st .node .settings .address) (st .node .settings .hwpid)
 own-given st r = record { sound = r; room = λ _. omega arith; address = inl refl; profile = inl refl }
 
 module _ (book : List ℕ) (k : ℕ) (st : State) (out : List ℕ) where
-  pub run-broken : nodeOk (st .node) ≡ false → notRun 1 0 st out ≡ runScene book k st out
+  -- refused for the node
+  pub run-unsound : nodeOk (st .node) ≡ false → result 1 0 st out ≡ runScene book k st out
   unfolding runScene
-  run-broken e = rw e
+  run-unsound e = rw e
 
   module _ (ok : nodeOk (st .node) ≡ true) where
-    pub run-eeprom : (length (st .eeprom) ≡ sizeOf Eeprom → ⊥) → notRun 4 0 st out ≡ runScene book k st out
+    -- refused for the EEPROM
+    pub run-eeprom : (length (st .eeprom) ≡ sizeOf Eeprom → ⊥) → result 4 0 st out ≡ runScene book k st out
     unfolding runScene
     run-eeprom n = rw (ok, ne-eqb (length (st .eeprom)) (sizeOf Eeprom) n)
 
     module _ (e : length (st .eeprom) ≡ sizeOf Eeprom) where
-      pub run-external : (length (st .external) ≡ sizeOf External → ⊥) → notRun 4 0 st out ≡ runScene book k st out
+      -- refused for the external memory
+      pub run-external : (length (st .external) ≡ sizeOf External → ⊥) → result 4 0 st out ≡ runScene book k st out
       unfolding runScene
       run-external n = rw (ok, eq-eqb (length (st .eeprom)) (sizeOf Eeprom) e, ne-eqb (length (st .external)) (sizeOf External) n)
 
-      -- what the compiler answered, with node and memories as they are to be
+      -- a sound state, and the result of the compiler
       module _ (x : length (st .external) ≡ sizeOf External) (c : CompileResult)
-          (q : c ≡ compileOf book k (st .node .settings .address) (st .node .settings .hwpid) out) where
-        rule : StateRule st
+          (q : c ≡ compileFor book k (st .node .settings .address) (st .node .settings .hwpid) out) where
+        rule : SoundState st
         rule = record { node-ok = ok; eeprom-size = e; external-size = x }
 
         compiled-first : runScene book k st out ≡ afterCompile c st (machine (sceneOf book k) st)
@@ -56,76 +59,77 @@ module _ (book : List ℕ) (k : ℕ) (st : State) (out : List ℕ) where
             rw (ok, eq-eqb (length (st .eeprom)) (sizeOf Eeprom) e, eq-eqb (length (st .external)) (sizeOf External) x)
             (ap (λ (d : CompileResult). afterCompile d st (machine (sceneOf book k) st)) (sym q))
 
-        pub run-refused : (c .refusal ≡ 0 → ⊥) → notRun (c .refusal) (c .step) st (c .buffer) ≡ runScene book k st out
+        -- refused by the compiler
+        pub run-refused : (c .refusal ≡ 0 → ⊥) → result (c .refusal) (c .step) st (c .buffer) ≡ runScene book k st out
         unfolding afterCompile
         run-refused n = sym (compiled-first ∙ rw (ne-eqb (c .refusal) 0 n))
 
         module _ (z : c .refusal ≡ 0) where
-          accepted : compileOf book k (st .node .settings .address) (st .node .settings .hwpid) out .refusal ≡ 0
+          accepted : compileFor book k (st .node .settings .address) (st .node .settings .hwpid) out .refusal ≡ 0
           accepted = sym (ap (λ (d : CompileResult). d .refusal) q) ∙ z
 
-          -- the buffer holds the requests
-          pub run-holds : Holds (c .buffer)
-          run-holds =
+          -- the buffer holds all requests
+          pub run-complete : CompleteOutput (c .buffer)
+          run-complete =
               let a = st .node .settings .address in
               let h = st .node .settings .hwpid in
-              let rs = compiled a h (sceneOf book k) in
+              let rs = sceneRequests a h (sceneOf book k) in
               let w : c .buffer ≡ output rs ++ drop (length (output rs)) out =
               ap (λ (d : CompileResult). d .buffer) (q ∙ accepted-answer book k a h out (compile-refusals book k a h out .none .0 accepted)) in
-              rw w (output-holds rs (drop (length (output rs)) out))
+              rw w (output-complete rs (drop (length (output rs)) out))
 
-          -- node and memories after the requests are those of the step machine
-          pub run-done : (done : State) → done ≡ afterCalls (λ _. cleared) (requestsIn (c .buffer)) st → notRun 0 0 done (c .buffer) ≡ runScene book k st out
+          -- the state after the requests is the one that the step machine reaches
+          pub run-done : (done : State) → done ≡ afterCalls (λ _. zeroBuffer) (requestsIn (c .buffer)) st → result 0 0 done (c .buffer) ≡ runScene book k st out
           unfolding afterCompile
           run-done done d =
               let a = st .node .settings .address in
               let h = st .node .settings .hwpid in
               let end : done ≡ machine (sceneOf book k) st =
               d
-              ∙ ap (λ (y : CompileResult). afterCalls (λ _. cleared) (requestsIn (y .buffer)) st) q
-              ∙ buffer-theorem st (λ _. cleared) book k a h out (own-given st rule) accepted .final in
-              sym (compiled-first ∙ rw (eq-eqb (c .refusal) 0 z) (ap (λ (y : State). notRun 0 0 y (c .buffer)) (sym end)))
+              ∙ ap (λ (y : CompileResult). afterCalls (λ _. zeroBuffer) (requestsIn (y .buffer)) st) q
+              ∙ buffer-theorem st (λ _. zeroBuffer) book k a h out (own-given st rule) accepted .final in
+              sym (compiled-first ∙ rw (eq-eqb (c .refusal) 0 z) (ap (λ (y : State). result 0 0 y (c .buffer)) (sym end)))
 
--- a sound node with memories of their sizes stays so under any calls
-calls-rule : (buffers : ℕ → List ℕ) (rs : List (List ℕ)) (st : State) → StateRule st → StateRule (afterCalls buffers rs st)
+-- a sound state stays sound under any calls
+calls-rule : (buffers : ℕ → List ℕ) (rs : List (List ℕ)) (st : State) → SoundState st → SoundState (afterCalls buffers rs st)
 calls-rule buffers [] st r = r
 calls-rule buffers (f ∷ fs) st r =
-    calls-rule (λ i. buffers (suc i)) fs (handleRequest f st (buffers 0) .after) (request-rule f st (buffers 0) r)
+    calls-rule (λ i. buffers (suc i)) fs (handleRequest f st (buffers 0) .after) (request-sound f st (buffers 0) r)
 
 module _ (book : List ℕ) (k : ℕ) (st : State) (out : List ℕ) where
-  abbrev Unrun : Ran → Type 0
-  Unrun r = (r .refusal ≡ 0 → ⊥) → (r .after ≡ st) × (r .out ≡ out)
+  abbrev Unchanged : SceneResult → Type 0
+  Unchanged r = (r .refusal ≡ 0 → ⊥) → (r .after ≡ st) × (r .out ≡ out)
 
-  -- a refused run leaves the node, both memories and the buffer as they were
+  -- a refused call leaves the node, both memories and the buffer unchanged
   pub scene-refused : (runScene book k st out .refusal ≡ 0 → ⊥) → (runScene book k st out .after ≡ st) × (runScene book k st out .out ≡ out)
   unfolding runScene afterCompile
   scene-refused =
       let a = st .node .settings .address in
       let h = st .node .settings .hwpid in
-      by-cond Unrun (nodeOk (st .node)) _ _
-      (λ _. by-cond Unrun (eqb (length (st .eeprom)) (sizeOf Eeprom)) _ _
-      (λ _. by-cond Unrun (eqb (length (st .external)) (sizeOf External)) _ _
-      (λ _. by-cond Unrun (eqb (compileOf book k a h out .refusal) 0) _ _
+      by-cond Unchanged (nodeOk (st .node)) _ _
+      (λ _. by-cond Unchanged (eqb (length (st .eeprom)) (sizeOf Eeprom)) _ _
+      (λ _. by-cond Unchanged (eqb (length (st .external)) (sizeOf External)) _ _
+      (λ _. by-cond Unchanged (eqb (compileFor book k a h out .refusal) 0) _ _
       (λ _ n. absurd (n refl))
       (λ _ n. (refl, compile-refused book k a h out n .1)))
       (λ _ _. (refl, refl)))
       (λ _ _. (refl, refl)))
       (λ _ _. (refl, refl))
 
-  -- a run keeps the rules of node and memories
-  pub scene-rule : StateRule st → StateRule (runScene book k st out .after)
+  -- running a scene keeps a state sound
+  pub scene-rule : SoundState st → SoundState (runScene book k st out .after)
   unfolding runScene afterCompile
   scene-rule r =
       let a = st .node .settings .address in
       let h = st .node .settings .hwpid in
-      let c = compileOf book k a h out in
-      let Kept : Ran → Type 0 = λ (x : Ran). StateRule (x .after) in
-      by-cond Kept (nodeOk (st .node)) _ _
-      (λ _. by-cond Kept (eqb (length (st .eeprom)) (sizeOf Eeprom)) _ _
-      (λ _. by-cond Kept (eqb (length (st .external)) (sizeOf External)) _ _
-      (λ _. by-cond Kept (eqb (c .refusal) 0) _ _
-      (λ z. subst StateRule (buffer-theorem st (λ _. cleared) book k a h out (own-given st r) (eqb-true _ _ z) .final)
-      (calls-rule (λ _. cleared) (requestsIn (c .buffer)) st r))
+      let c = compileFor book k a h out in
+      let Sound : SceneResult → Type 0 = λ (x : SceneResult). SoundState (x .after) in
+      by-cond Sound (nodeOk (st .node)) _ _
+      (λ _. by-cond Sound (eqb (length (st .eeprom)) (sizeOf Eeprom)) _ _
+      (λ _. by-cond Sound (eqb (length (st .external)) (sizeOf External)) _ _
+      (λ _. by-cond Sound (eqb (c .refusal) 0) _ _
+      (λ z. subst SoundState (buffer-theorem st (λ _. zeroBuffer) book k a h out (own-given st r) (eqb-true _ _ z) .final)
+      (calls-rule (λ _. zeroBuffer) (requestsIn (c .buffer)) st r))
       (λ _. r))
       (λ _. r))
       (λ _. r))

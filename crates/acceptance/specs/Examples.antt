@@ -1,5 +1,5 @@
--- Document 01, "Worked examples": all that are marked P, of the meanings that the contracts give the calls, under one
--- statement. Then examples that are ours. proofs/Examples computes them.
+-- Document 01, "Worked examples": all that are marked P as one statement about what the contracts say that the calls compute.
+-- Then examples of our own. Proved by computation in proofs/Examples.
 use Prim.Native.Nat.{ℕ, _≤_}
 use mathlib.Core.Path.{_≡_}
 use mathlib.Core.Bool.{false}
@@ -12,16 +12,16 @@ use Rattle.checksum.specs.Sums.{sums, start, checksum}
 use Rattle.batch.specs.Batch.{item}
 use Rattle.timing.specs.declared.slot.Network.the-variants.{Std}
 use Rattle.timing.specs.Slot.{sendOf}
-use Rattle.handler.specs.Request.{State, Outcome, execute}
+use Rattle.handler.specs.Request.{State, Outcome, batchPcmd, execute}
 use Rattle.book.specs.Examples.{settings, freshState, book}
-use Rattle.scene.specs.Call.{minOutput, written, compileOf}
+use Rattle.scene.specs.Call.{minOutput, outputInBuffer, compileFor}
 
--- a lights request and a batch at node 1 as it is started
+-- a lights request, and a batch, with the HWPID of the example node
 abbrev pub lights : ℕ → List ℕ → State → Outcome
 lights pcmd pdata st = execute (item lightsPnum pcmd 0x2471 pdata) st
 
 abbrev pub batch : List ℕ → State → Outcome
-batch pdata st = execute (item osPnum 0x05 0x2471 pdata) st
+batch pdata st = execute (item osPnum batchPcmd 0x2471 pdata) st
 
 -- three lamps, step 1: a set, then a raise
 abbrev pub afterSet : Outcome
@@ -30,15 +30,15 @@ afterSet = lights 0x00 (0x05 ∷ 0x00 ∷ 0x00 ∷ 0x00 ∷ 0x0A ∷ 0xE4 ∷ 0x
 abbrev pub afterRaise : Outcome
 afterRaise = lights 0x01 (0x03 ∷ 0x00 ∷ 0x00 ∷ 0x00 ∷ 0x8A ∷ 0x03 ∷ 0x32 ∷ []) (afterSet .after)
 
--- one lamp, step 10: a PCMD and a power byte each, in order, and the requested level after each
-pub record Ask : Type 0 where
+-- one lamp, step 10: requests of a PCMD and a power byte each, and the requested level after each of them
+pub record PowerRequest : Type 0 where
   pub pcmd : ℕ
   pub power : ℕ
 
-abbrev ask : ℕ → ℕ → Ask
-ask c p = record { pcmd = c; power = p }
+abbrev powerRequest : ℕ → ℕ → PowerRequest
+powerRequest c p = record { pcmd = c; power = p }
 
-abbrev pub levelsAfter : List Ask → State → List ℕ
+abbrev pub levelsAfter : List PowerRequest → State → List ℕ
 levelsAfter [] st = []
 levelsAfter (a ∷ rest) st =
     let next = lights (a .pcmd) (0x01 ∷ 0x00 ∷ 0x00 ∷ 0x00 ∷ a .power ∷ []) st .after in
@@ -46,17 +46,17 @@ levelsAfter (a ∷ rest) st =
 
 -- set 15, +6, -10, -9, -100, +0
 abbrev pub sixLevels : List ℕ
-sixLevels = levelsAfter (ask 0 15 ∷ ask 1 6 ∷ ask 2 10 ∷ ask 2 9 ∷ ask 2 100 ∷ ask 1 0 ∷ []) (freshState 1 10)
+sixLevels = levelsAfter (powerRequest 0 15 ∷ powerRequest 1 6 ∷ powerRequest 2 10 ∷ powerRequest 2 9 ∷ powerRequest 2 100 ∷ powerRequest 1 0 ∷ []) (freshState 1 10)
 
--- the ErrN of a set at lamp 0 with these bytes behind the bitmap
+-- the ErrN of a set request for lamp 0 with these bytes after the bitmap
 abbrev pub setError : List ℕ → ℕ
 setError entry = lights 0x00 (0x01 ∷ 0x00 ∷ 0x00 ∷ 0x00 ∷ entry) (freshState 3 1) .error
 
--- the checksum of bytes from a first value
+-- the checksum of bytes with an initial value
 abbrev pub sumFrom : ℕ → List ℕ → ℕ
 sumFrom first bytes = checksum (sums (start first) bytes)
 
--- scene 0 of the book, compiled
+-- the output of scene 0 of the book
 abbrev pub bookOutput : List ℕ
 bookOutput =
     0x01 ∷ 0x13 ∷ 0x01 ∷ 0x00 ∷ 0x02 ∷ 0x05 ∷ 0xFF ∷ 0xFF ∷ 0x0C ∷ 0x71 ∷ 0x00 ∷ 0xFF ∷ 0xFF
@@ -80,12 +80,12 @@ pub record WorkedExamples : Type 0 where
   pub batch-04-00 : batch (0x04 ∷ 0x00 ∷ []) (freshState 3 1) .error ≡ 6
   -- hops 2 and 3, PData 5 and 20, delay 20
   pub wait-340 : sendOf 2 5 20 3 20 Std false ≡ record { refusal = 0; milliseconds = 340 }
-  -- scene 0 for address 1, HWPID left out, in any buffer with room
-  pub book-compiles : (out : List ℕ) → minOutput ≤ length out → compileOf book 0 1 anyHwpid out ≡ written bookOutput out
+  -- scene 0 for address 1 and the default HWPID, in any buffer with room
+  pub book-compiles : (out : List ℕ) → minOutput ≤ length out → compileFor book 0 1 anyHwpid out ≡ outputInBuffer bookOutput out
 
--- ---- examples that are ours, not document 01's
+-- ---- examples of our own, not in document 01
 
--- a batch of three entries: OS 02 inside a batch, a profile that is not the node's, a set with power byte 65 hex
+-- a batch of three entries: an OS request inside a batch, the profile of another node, a set with power byte 65 hex
 abbrev pub refusedEntries : Outcome
 refusedEntries =
     batch (
@@ -96,7 +96,7 @@ refusedEntries =
     ) (freshState 3 1)
 
 pub record OwnExamples : Type 0 where
-  -- each entry's error is seen where the batch's own is 0, so "no entry is refused" says more than the batch's answer
+  -- the entries have errors although the batch has none: that no entry has an error says more than the batch's ErrN
   pub entry-errors : refusedEntries .entries ≡ 3 ∷ 7 ∷ 6 ∷ []
   pub batch-error : refusedEntries .error ≡ 0
   pub unchanged : refusedEntries .after ≡ freshState 3 1

@@ -1,3 +1,3 @@
-pub mod SceneTheorem
+pub mod Condition3
 pub mod Examples
 pub mod RunScene

@@ -1,4 +1,4 @@
--- A scene run on a node: compiled for the node's own address and profile, its requests taken one after the other.
+-- `run_scene`: compiles a scene for the node's own address and profile, then handles its requests in order.
 use Prim.Native.Nat.{ℕ, suc, _+_, _≤_}
 use mathlib.Core.List.{List, [], _∷_}
 use mathlib.Core.Bool.{cond}
@@ -11,46 +11,48 @@ use Rattle.node.specs.Node.{nodeOk}
 use Rattle.handler.specs.Request.{State, state}
 use Rattle.book.specs.Book.{sceneOf}
 use Rattle.book.specs.Machine.{machine}
-use Rattle.scene.specs.Call.{CompileResult, compileOf}
+use Rattle.scene.specs.Call.{CompileResult, compileFor}
 use Rattle.acceptance.specs.declared.run.SceneAnswer.{SceneAnswer}
 
--- the response buffer of each call
-abbrev pub cleared : List ℕ
-cleared = replicate longestResponse 0
+-- the response buffer of each call: a scratch buffer of zeros
+abbrev pub zeroBuffer : List ℕ
+zeroBuffer = replicate longestResponse 0
 
-abbrev pub total : List ℕ → ℕ
-total [] = 0
-total (n ∷ ns) = n + total ns
+-- the sum of length bytes
+abbrev pub totalLength : List ℕ → ℕ
+totalLength [] = 0
+totalLength (n ∷ ns) = n + totalLength ns
 
--- an output that is as long as its length bytes say
-pub record Holds (o : List ℕ) : Type 0 where
+-- an output that has all the bytes that its count and its length bytes announce
+pub record CompleteOutput (o : List ℕ) : Type 0 where
   pub counted : suc (getD o 0 0) ≤ length o
-  pub whole : total (take (getD o 0 0) (drop 1 o)) ≤ length (drop (suc (getD o 0 0)) o)
+  pub whole : totalLength (take (getD o 0 0) (drop 1 o)) ≤ length (drop (suc (getD o 0 0)) o)
 
--- what running a scene leaves: the refusal, a bad step's number, node and memories, and the compiler's buffer
-pub record Ran : Type 0 where
+-- the result: the refusal, the number of a bad step, the state, and the output buffer
+pub record SceneResult : Type 0 where
   pub refusal : ℕ
   pub step : ℕ
   pub after : State
   pub out : List ℕ
 
-abbrev pub ranAs : SceneAnswer → List ℕ → List ℕ → List ℕ → Ran
-ranAs r e x o = record { refusal = r .refusal; step = r .step; after = state (r .node) e x; out = o }
+-- the result of a call that returned r and left these memories and this output buffer
+abbrev pub sceneResult : SceneAnswer → List ℕ → List ℕ → List ℕ → SceneResult
+sceneResult r e x o = record { refusal = r .refusal; step = r .step; after = state (r .node) e x; out = o }
 
-abbrev pub notRun : ℕ → ℕ → State → List ℕ → Ran
-notRun refusal step st out = record { refusal = refusal; step = step; after = st; out = out }
+abbrev pub result : ℕ → ℕ → State → List ℕ → SceneResult
+result refusal step st out = record { refusal = refusal; step = step; after = st; out = out }
 
--- refused by the compiler, or done as the step machine does the scene's steps
-unfoldable pub afterCompile : CompileResult → State → State → Ran
-afterCompile c st done = cond (eqb (c .refusal) 0) (notRun 0 0 done (c .buffer)) (notRun (c .refusal) (c .step) st (c .buffer))
+-- after compiling: a refusal of the compiler leaves the state unchanged, otherwise it is `done`
+unfoldable pub afterCompile : CompileResult → State → State → SceneResult
+afterCompile c st done = cond (eqb (c .refusal) 0) (result 0 0 done (c .buffer)) (result (c .refusal) (c .step) st (c .buffer))
 
--- the node and the memories are tested first: 1, 4
-unfoldable pub runScene : List ℕ → ℕ → State → List ℕ → Ran
+-- the node and the memories are tested before compiling (refusals 1 and 4); a scene that is run ends as the step machine does
+unfoldable pub runScene : List ℕ → ℕ → State → List ℕ → SceneResult
 runScene book k st out =
     cond (nodeOk (st .node))
     (cond (eqb (length (st .eeprom)) (sizeOf Eeprom))
     (cond (eqb (length (st .external)) (sizeOf External))
-    (afterCompile (compileOf book k (st .node .settings .address) (st .node .settings .hwpid) out) st (machine (sceneOf book k) st))
-    (notRun 4 0 st out))
-    (notRun 4 0 st out))
-    (notRun 1 0 st out)
+    (afterCompile (compileFor book k (st .node .settings .address) (st .node .settings .hwpid) out) st (machine (sceneOf book k) st))
+    (result 4 0 st out))
+    (result 4 0 st out))
+    (result 1 0 st out)

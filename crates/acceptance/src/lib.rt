@@ -1,2 +1,2 @@
-// The scene theorem, the worked examples under one statement, and scenes run on a node.
+// The scene theorem and the worked examples; runs scenes on a node.
 pub mod run;

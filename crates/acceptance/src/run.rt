@@ -1,4 +1,4 @@
-// A scene run on a node: compiled into a lent buffer, and its requests taken one after the other.
+// Runs a scene on a node: compiles it into the caller's buffer, then handles its requests in order.
 use dpa::frame::Frame;
 use dpa::number::wide;
 use dpa::refusal;
@@ -13,10 +13,10 @@ ghost use Prim.Native.Nat.{_≤_};
 ghost use lib.ListN.{length};
 ghost use Rattle.scene.specs.Call.{splitBy, requestsIn};
 ghost use Rattle.handler.specs.Request.{state, handleRequest};
-ghost use Rattle.acceptance.specs.SceneTheorem.{afterCalls};
-ghost use Rattle.acceptance.specs.RunScene.{cleared, total, Holds, runScene, ranAs};
+ghost use Rattle.acceptance.specs.Condition3.{afterCalls};
+ghost use Rattle.acceptance.specs.RunScene.{zeroBuffer, totalLength, CompleteOutput, runScene, sceneResult};
 
-// A refusal's number, or 0; with 8 the number of the bad step; the node afterwards.
+// `step` is the number of the bad step with refusal 8, and 0 otherwise. `node` is the node afterwards.
 #[repr(C)]
 pub struct SceneAnswer {
     pub refusal: u8,
@@ -24,44 +24,44 @@ pub struct SceneAnswer {
     pub node: Node,
 }
 
-// One request. Its answer goes to an array of its own.
-fn take_request(node: Node, frame: &[u8], eeprom: &mut [u8], external: &mut [u8]) -> Node
+// Handles one request; its response goes to a scratch buffer.
+fn handle_one(node: Node, frame: &[u8], eeprom: &mut [u8], external: &mut [u8]) -> Node
     ensures { λ r. ⌜ state r (now (eeprom .exit)) (now (external .exit))
-        ≡ handleRequest (now (frame .entry)) (state node (now (eeprom .entry)) (now (external .entry))) cleared .after ⌝ }
+        ≡ handleRequest (now (frame .entry)) (state node (now (eeprom .entry)) (now (external .entry))) zeroBuffer .after ⌝ }
 {
     let mut response = [0u8; Frame::RESPONSE_LONGEST];
-    let taken = handle_request(node, frame, eeprom, external, &mut response);
-    taken.node
+    let handled = handle_request(node, frame, eeprom, external, &mut response);
+    handled.node
 }
 
-// Requests of these lengths, one behind the other.
-fn take_requests(
+// Handles requests that follow one another, with these lengths.
+fn handle_all(
     node: Node,
     lengths: &[u8],
     requests: &[u8],
     eeprom: &mut [u8],
     external: &mut [u8],
 ) -> Node
-    requires { ⌜ total (now lengths) ≤ length (now requests) ⌝ }
+    requires { ⌜ totalLength (now lengths) ≤ length (now requests) ⌝ }
     ensures { λ r. ⌜ state r (now (eeprom .exit)) (now (external .exit))
-        ≡ afterCalls (λ _. cleared) (splitBy (now (lengths .entry)) (now (requests .entry))) (state node (now (eeprom .entry)) (now (external .entry))) ⌝ }
+        ≡ afterCalls (λ _. zeroBuffer) (splitBy (now (lengths .entry)) (now (requests .entry))) (state node (now (eeprom .entry)) (now (external .entry))) ⌝ }
 {
     if lengths.len() == 0 {
         return node;
     }
     let len = wide(lengths[0]);
-    let next = take_request(node, &requests[..len], eeprom, external);
-    take_requests(next, &lengths[1..], &requests[len..], eeprom, external)
+    let next = handle_one(node, &requests[..len], eeprom, external);
+    handle_all(next, &lengths[1..], &requests[len..], eeprom, external)
 }
 
-// The requests that a compiled output holds.
-fn take_output(node: Node, output: &[u8], eeprom: &mut [u8], external: &mut [u8]) -> Node
-    requires { ⌜ Holds (now output) ⌝ }
+// Handles the requests of a compiled output.
+fn handle_output(node: Node, output: &[u8], eeprom: &mut [u8], external: &mut [u8]) -> Node
+    requires { ⌜ CompleteOutput (now output) ⌝ }
     ensures { λ r. ⌜ state r (now (eeprom .exit)) (now (external .exit))
-        ≡ afterCalls (λ _. cleared) (requestsIn (now (output .entry))) (state node (now (eeprom .entry)) (now (external .entry))) ⌝ }
+        ≡ afterCalls (λ _. zeroBuffer) (requestsIn (now (output .entry))) (state node (now (eeprom .entry)) (now (external .entry))) ⌝ }
 {
-    let from = 1 + wide(output[0]);
-    take_requests(node, &output[1..from], &output[from..], eeprom, external)
+    let start = 1 + wide(output[0]);
+    handle_all(node, &output[1..start], &output[start..], eeprom, external)
 }
 
 fn answer(refusal: u8, step: u8, node: Node) -> SceneAnswer
@@ -83,7 +83,7 @@ pub fn run_scene(
     external: &mut [u8],
     out: &mut [u8],
 ) -> SceneAnswer
-    ensures { λ r. ⌜ ranAs r (now (eeprom .exit)) (now (external .exit)) (now (out .exit))
+    ensures { λ r. ⌜ sceneResult r (now (eeprom .exit)) (now (external .exit)) (now (out .exit))
         ≡ runScene (now (book .entry)) scene (state node (now (eeprom .entry)) (now (external .entry))) (now (out .entry)) ⌝ }
 {
     if !node_ok(node) {
@@ -100,6 +100,6 @@ pub fn run_scene(
     if compiled.refusal != refusal::NONE {
         return answer(compiled.refusal, compiled.step, node);
     }
-    let next = take_output(node, out, eeprom, external);
+    let next = handle_output(node, out, eeprom, external);
     answer(refusal::NONE, 0, next)
 }

@@ -1,4 +1,4 @@
--- Laws of running entries over any state S, for any effect f of an entry.
+-- Laws of running entries, for any state S and any effect f of an entry.
 use mathlib.Core.Path.{_≡_, refl, sym, ap, _∙_}
 use mathlib.Core.List.{List, [], _∷_, _++_}
 use mathlib.Core.Bool.{true}
@@ -6,57 +6,58 @@ use Prim.Native.Nat.{ℕ, suc, _-_}
 use lib.ListN.{length, drop}
 use Rattle.dpa.specs.Lists.{slice}
 use Rattle.dpa.proofs.Bool.{by-test}
-use Rattle.dpa.proofs.Lists.{to-end}
+use Rattle.dpa.proofs.Lists.{slice-to-end}
 use Rattle.batch.specs.declared.entry.NextEntry.the-variants.{Entry, Fault}
-use Rattle.batch.specs.Batch.{closing, nextEntry, Item, Reading, reading, item, runItems, errorsOf}
-use Rattle.batch.proofs.Lists.{reading-closed, reading-entry, reading-fault}
+use Rattle.batch.specs.Batch.{entryHead, atEnd, nextEntry, Item, Reading, reading, item, runItems, errorsOf}
+use Rattle.batch.proofs.Lists.{reading-end, reading-entry, reading-fault}
 
 module _ {S : Type 0} (f : Item → S → S) (s : List ℕ) (st : S) where
-  none-left : {r : Reading} → reading s ≡ r → r .items ≡ [] → st ≡ runItems f ((reading s) .items) st
+  no-items : {r : Reading} → reading s ≡ r → r .items ≡ [] → st ≡ runItems f ((reading s) .items) st
   unfolding runItems
-  none-left e n = sym (ap (λ (is : List Item). runItems f is st) (ap (λ (x : Reading). x .items) e ∙ n))
+  no-items e n = sym (ap (λ (is : List Item). runItems f is st) (ap (λ (x : Reading). x .items) e ∙ n))
 
-  -- where the zero closes the list, no entry runs
-  pub items-closed : closing s ≡ true → st ≡ runItems f ((reading s) .items) st
-  items-closed o = none-left (reading-closed s o) refl
+  -- at the end of the list no entry runs
+  pub items-end : atEnd s ≡ true → st ≡ runItems f ((reading s) .items) st
+  items-end o = no-items (reading-end s o) refl
 
-  -- where a fault stands, no entry runs
+  -- at a fault no entry runs
   pub items-fault : {k a : ℕ} → nextEntry s ≡ Fault k a → st ≡ runItems f ((reading s) .items) st
-  items-fault e = by-test (closing s) items-closed (λ o. none-left (reading-fault s o e) refl)
+  items-fault e = by-test (atEnd s) items-end (λ o. no-items (reading-fault s o e) refl)
 
-  -- the first entry runs, and then the rest with what that left
-  pub items-more : {l p c h : ℕ} {m r : S} → nextEntry s ≡ Entry l p c h
-      → m ≡ f (item p c h (slice s 5 (l - 5))) st
+  -- the first entry runs, then the rest on the state that it left
+  pub items-entry : {l p c h : ℕ} {m r : S} → nextEntry s ≡ Entry l p c h
+      → m ≡ f (item p c h (slice s entryHead (l - entryHead))) st
       → r ≡ runItems f ((reading (slice s l (length s - l))) .items) m
       → r ≡ runItems f ((reading s) .items) st
   unfolding runItems
-  items-more {l} {p} {c} {h} {m} {r} e d g =
+  items-entry {l} {p} {c} {h} {m} {r} e d g =
       g
-      ∙ ap (λ (x : List ℕ). runItems f ((reading x) .items) m) (to-end l s)
+      ∙ ap (λ (x : List ℕ). runItems f ((reading x) .items) m) (slice-to-end l s)
       ∙ ap (runItems f ((reading (drop l s)) .items)) d
       ∙ sym (ap (λ (x : Reading). runItems f (x .items) st) (reading-entry s e))
 
 module _ {S : Type 0} (f : Item → S → S) where
-  -- what each entry keeps, a list of them keeps
+  -- a property that every entry keeps is kept by a list of entries
   pub items-keep : (P : S → Type 0) → ((i : Item) (st : S) → P st → P (f i st)) → (is : List Item) (st : S) → P st → P (runItems f is st)
   unfolding runItems
   items-keep P k [] st h = h
   items-keep P k (i ∷ is) st h = items-keep P k is (f i st) (k i st h)
 
-  -- a list may run in parts
+  -- two lists run as one
   pub items-append : (is js : List Item) (st : S) → runItems f (is ++ js) st ≡ runItems f js (runItems f is st)
   unfolding runItems
   items-append [] js st = refl
   items-append (i ∷ is) js st = items-append is js (f i st)
 
   module _ (e : Item → S → ℕ) where
+    -- the ErrN of two lists that run as one
     pub errors-append : (is js : List Item) (st : S)
         → errorsOf e f (is ++ js) st ≡ errorsOf e f is st ++ errorsOf e f js (runItems f is st)
     unfolding runItems errorsOf
     errors-append [] js st = refl
     errors-append (i ∷ is) js st = ap (λ (es : List ℕ). e i st ∷ es) (errors-append is js (f i st))
 
-    -- each entry has its ErrN
+    -- there is one ErrN for each entry
     pub errors-length : (is : List Item) (st : S) → length (errorsOf e f is st) ≡ length is
     unfolding errorsOf
     errors-length [] st = refl

@@ -1,4 +1,4 @@
--- Document 01, "Taking a request", OS 02, batch: entries and their bytes, how a list is read, and how entries run.
+-- Document 01, "Taking a request", OS 02, batch: the bytes of a list of entries, how they are read, and running entries in order.
 use Prim.Native.Nat.{ℕ, zero, suc, _+_, _-_, _≤_, _<_}
 use mathlib.Core.List.{List, [], _∷_, _++_}
 use mathlib.Core.Bool.{Bool, cond, _&&_}
@@ -12,7 +12,9 @@ use Rattle.batch.specs.declared.entry.NextEntry.the-variants.{Entry, Fau
 use Rattle.batch.specs.declared.list.ListCheck.{ListCheck}
 use Rattle.batch.specs.declared.list.ListCheck.the-variants.{Sound, Broken}
 
--- an entry taken apart
+-- ---- entries and their bytes
+
+-- a request without an address: a batch entry, or a frame without NADR
 pub record Item : Type 0 where
   pub pnum : ℕ
   pub pcmd : ℕ
@@ -22,37 +24,47 @@ pub record Item : Type 0 where
 abbrev pub item : ℕ → ℕ → ℕ → List ℕ → Item
 item p c h d = record { pnum = p; pcmd = c; hwpid = h; pdata = d }
 
--- an entry's bytes: a length that counts itself, PNUM, PCMD, HWPID, PData
+-- size of an entry's head: length, PNUM, PCMD and HWPID
+abbrev pub entryHead : ℕ
+entryHead = 5
+
+-- the byte that ends a list, in place of an entry's length
+abbrev pub closingZero : ℕ
+closingZero = 0
+
+-- an entry: its length including this byte, PNUM, PCMD, HWPID, PData
 unfoldable pub entryBytes : Item → List ℕ
-entryBytes i = (5 + length (i .pdata)) ∷ i .pnum ∷ i .pcmd ∷ low (i .hwpid) ∷ high (i .hwpid) ∷ i .pdata
+entryBytes i = (entryHead + length (i .pdata)) ∷ i .pnum ∷ i .pcmd ∷ low (i .hwpid) ∷ high (i .hwpid) ∷ i .pdata
 
 unfoldable pub entriesBytes : List Item → List ℕ
 entriesBytes [] = []
 entriesBytes (i ∷ is) = entryBytes i ++ entriesBytes is
 
--- a list: entries, then one zero
+-- a list: its entries, then the closing zero
 abbrev pub listBytes : List Item → List ℕ
-listBytes is = entriesBytes is ++ (0 ∷ [])
+listBytes is = entriesBytes is ++ (closingZero ∷ [])
 
--- an entry whose bytes are bytes
+-- an entry whose fields fit their bytes
 pub record Sendable (i : Item) : Type 0 where
   pub pnum-byte : i .pnum < 256
   pub pcmd-byte : i .pcmd < 256
   pub hwpid-word : i .hwpid < 65536
   pub pdata-bytes : Bytes (i .pdata)
-  pub size : 5 + length (i .pdata) ≤ 255
+  pub size : entryHead + length (i .pdata) ≤ 255
 
--- the remaining bytes are the closing zero alone
-abbrev pub closing : List ℕ → Bool
-closing s = eqb (length s) 1 && eqb (getD s 0 0) 0
+-- ---- reading a list
 
--- the reasons of a fault
+-- only the closing zero is left
+abbrev pub atEnd : List ℕ → Bool
+atEnd s = eqb (length s) 1 && eqb (getD s 0 0) closingZero
+
+-- why no entry can be read:
 
 -- a length of 1 to 4
 abbrev pub shortReason : ℕ
 shortReason = 1
 
--- a length over the list's end
+-- an entry that runs past the end of the list
 abbrev pub pastEndReason : ℕ
 pastEndReason = 2
 
@@ -60,87 +72,88 @@ pastEndReason = 2
 abbrev pub unclosedReason : ℕ
 unclosedReason = 3
 
--- bytes after the zero
+-- bytes after the closing zero
 abbrev pub trailingReason : ℕ
 trailingReason = 4
 
--- What stands first in the remaining bytes, where they are not the closing zero alone: an entry, or the reason why none
--- can be taken apart and a place, counted from the first of these bytes.
+-- The front of a list that is not at its end: an entry, or a reason and a position, counted from the first of these bytes.
 unfoldable pub nextEntry : List ℕ → NextEntry
 nextEntry s =
     cond (eqb (length s) 0) (Fault unclosedReason 0)
-    (cond (eqb (getD s 0 0) 0) (Fault trailingReason 1)
-    (cond (ltb (getD s 0 0) 5) (Fault shortReason 0)
+    (cond (eqb (getD s 0 0) closingZero) (Fault trailingReason 1)
+    (cond (ltb (getD s 0 0) entryHead) (Fault shortReason 0)
     (cond (ltb (length s) (getD s 0 0)) (Fault pastEndReason 0)
     (Entry (getD s 0 0) (getD s 1 0) (getD s 2 0) (wordAt s 3)))))
 
--- the ErrN of each case: an entry can be taken apart, a fault cannot
+-- the ErrN of a batch at this point: an entry is no error, a fault is ErrN 6
 abbrev pub nextEntryError : NextEntry → ℕ
 nextEntryError (Entry l p c h) = 0
 nextEntryError (Fault r a) = 6
 
--- what a list reads as: the entries up to its end or its first fault, and which of the two came
+-- a list that was read: the entries before its end or its first fault, and which of the two came
 pub record Reading : Type 0 where
   pub items : List Item
   pub check : ListCheck
 
--- no entries, and how the list came out
-abbrev pub stopped : ListCheck → Reading
-stopped x = record { items = []; check = x }
+-- a list without entries
+abbrev pub emptyReading : ListCheck → Reading
+emptyReading x = record { items = []; check = x }
 
--- the bytes that the next entry takes
+-- the number of bytes of the next entry
 abbrev pub entryLength : NextEntry → ℕ
 entryLength (Entry l p c h) = l
 entryLength (Fault r a) = 0
 
--- a fault's place, counted from l bytes before
+-- the result for a list whose first l bytes were left out of the check
 abbrev pub shiftFault : ℕ → ListCheck → ListCheck
 shiftFault l Sound = Sound
 shiftFault l (Broken r a) = Broken r (l + a)
 
--- the fault that makes a list broken; an entry does not
+-- a fault breaks the list; an entry does not
 abbrev pub faultOf : NextEntry → ListCheck
 faultOf (Entry l p c h) = Sound
 faultOf (Fault r a) = Broken r a
 
--- what stands first in s, and a rest that reads as r
-abbrev pub andRest : NextEntry → List ℕ → Reading → Reading
-andRest (Entry l p c h) s r =
+-- the entry at the front of s, then the reading r of the rest; a fault ends the reading
+abbrev pub prependEntry : NextEntry → List ℕ → Reading → Reading
+prependEntry (Entry l p c h) s r =
     record {
-      items = item p c h (slice s 5 (l - 5)) ∷ r .items;
+      items = item p c h (slice s entryHead (l - entryHead)) ∷ r .items;
       check = shiftFault l (r .check);
     }
-andRest (Fault k a) s r = stopped (faultOf (Fault k a))
+prependEntry (Fault k a) s r = emptyReading (faultOf (Fault k a))
 
--- s read from its byte k on: the zero ends it; else an entry is read, its bytes are passed over, then the rest is read
-unfoldable pub readFrom : List ℕ → ℕ → Reading
-readFrom [] k = stopped (Broken unclosedReason 0)
-readFrom (b ∷ s) (suc k) = readFrom s k
-readFrom (b ∷ s) zero =
-    cond (closing (b ∷ s)) (stopped Sound)
-    (andRest (nextEntry (b ∷ s)) (b ∷ s) (readFrom s (entryLength (nextEntry (b ∷ s)) - 1)))
+-- Reads s from position k: skips k bytes, stops at the closing zero, else reads an entry and then the rest after it.
+unfoldable pub readingFrom : List ℕ → ℕ → Reading
+readingFrom [] k = emptyReading (Broken unclosedReason 0)
+readingFrom (b ∷ s) (suc k) = readingFrom s k
+readingFrom (b ∷ s) zero =
+    cond (atEnd (b ∷ s)) (emptyReading Sound)
+    (prependEntry (nextEntry (b ∷ s)) (b ∷ s) (readingFrom s (entryLength (nextEntry (b ∷ s)) - 1)))
 
 abbrev pub reading : List ℕ → Reading
-reading s = readFrom s 0
+reading s = readingFrom s 0
 
--- the ErrN of a batch with such a list
+-- the ErrN of a batch whose list gave this result
 abbrev pub listError : ListCheck → ℕ
 listError Sound = 0
 listError (Broken r a) = nextEntryError (Fault r a)
 
--- what a reason and a place say of a list
+-- what reason r at position a says about the list s
 pub data FaultAt (s : List ℕ) (r a : ℕ) : Type 0 where
-  short : r ≡ shortReason → a < length s → 0 < getD s a 0 → getD s a 0 < 5 → FaultAt s r a
-  pastEnd : r ≡ pastEndReason → a < length s → 5 ≤ getD s a 0 → length s < a + getD s a 0 → FaultAt s r a
+  short : r ≡ shortReason → a < length s → 0 < getD s a 0 → getD s a 0 < entryHead → FaultAt s r a
+  pastEnd : r ≡ pastEndReason → a < length s → entryHead ≤ getD s a 0 → length s < a + getD s a 0 → FaultAt s r a
   unclosed : r ≡ unclosedReason → a ≡ length s → FaultAt s r a
-  trailing : r ≡ trailingReason → 0 < a → a < length s → getD s (a - 1) 0 ≡ 0 → FaultAt s r a
+  trailing : r ≡ trailingReason → 0 < a → a < length s → getD s (a - 1) 0 ≡ closingZero → FaultAt s r a
 
--- entries in order, each with the state that the one before left; f is what an entry does
+-- ---- running entries
+
+-- runs entries in order, each on the state that the previous one left; f is the effect of an entry
 unfoldable pub runItems : {S : Type 0} → (Item → S → S) → List Item → S → S
 runItems f [] st = st
 runItems f (i ∷ is) st = runItems f is (f i st)
 
--- the ErrN of each entry, in order; e is an entry's ErrN
+-- the ErrN of each entry, in order; e is the ErrN of an entry
 unfoldable pub errorsOf : {S : Type 0} → (Item → S → ℕ) → (Item → S → S) → List Item → S → List ℕ
 errorsOf e f [] st = []
 errorsOf e f (i ∷ is) st = e i st ∷ errorsOf e f is (f i st)

@@ -1,39 +1,42 @@
-// The closing zero of a list, and the entry that stands first in its remaining bytes.
+// The next entry of a list, and the closing zero at its end.
 use crate::fault;
 use dpa::number::wide;
 use dpa::number::word_of;
 ghost use mathlib.Core.Path.{_≡_};
-ghost use Rattle.batch.specs.Batch.{closing, nextEntry};
+ghost use Rattle.batch.specs.Batch.{atEnd, nextEntry};
 
-// The bytes of an entry before its PData.
+// Size of an entry's head: length, PNUM, PCMD and HWPID.
 pub const HEAD: usize = 5;
 
+// The byte that ends a list, in place of an entry's length.
+pub const CLOSING_ZERO: u8 = 0;
+
 pub enum NextEntry {
-    // An entry of len bytes; its PData are those from HEAD on.
+    // An entry of len bytes; its PData starts at HEAD.
     Entry {
         len: usize,
         pnum: u8,
         pcmd: u8,
         hwpid: u16,
     },
-    // None can be taken apart here; the place counts from the first of the remaining bytes.
+    // No entry can be read; `at` counts from the first remaining byte.
     Fault {
         reason: u8,
         at: usize,
     },
 }
 
-// Whether the remaining bytes are the closing zero alone.
+// Whether only the closing zero is left.
 pub fn at_end(s: &[u8]) -> bool
-    ensures { λ r. ⌜ r ≡ closing (now (s .entry)) ⌝ }
+    ensures { λ r. ⌜ r ≡ atEnd (now (s .entry)) ⌝ }
 {
     if s.len() != 1 {
         return false;
     }
-    s[0] == 0
+    s[0] == CLOSING_ZERO
 }
 
-// What stands first where a list has not ended.
+// Reads the entry at the front of a list that has not ended.
 pub fn next_entry(s: &[u8]) -> NextEntry
     ensures { λ r. ⌜ r ≡ nextEntry (now (s .entry)) ⌝ }
 {
@@ -43,13 +46,13 @@ pub fn next_entry(s: &[u8]) -> NextEntry
             at: 0,
         };
     }
-    let len = wide(s[0]);
-    if len == 0 {
+    if s[0] == CLOSING_ZERO {
         return NextEntry::Fault {
             reason: fault::TRAILING,
             at: 1,
         };
     }
+    let len = wide(s[0]);
     if len < HEAD {
         return NextEntry::Fault {
             reason: fault::SHORT,

@@ -1,9 +1,9 @@
-// Why a list cannot be taken apart, and which byte is named as the place.
-// A length of 1 to 4: the length byte.
+// Why a list cannot be split into entries. Each reason comes with a position in the list.
+// A length byte of 1 to 4; the position is that byte's.
 pub const SHORT: u8 = 1;
-// A length over the list's end: the length byte.
+// An entry that runs past the end of the list; the position is its length byte's.
 pub const PAST_END: u8 = 2;
-// No closing zero: the list's length.
+// No closing zero; the position is the list's length.
 pub const UNCLOSED: u8 = 3;
-// Bytes after the zero: the first of them.
+// Bytes after the closing zero; the position is that of the first of them.
 pub const TRAILING: u8 = 4;

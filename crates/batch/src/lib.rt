@@ -1,4 +1,4 @@
-// A batch's list of entries: its next entry or its end, and whether all of it can be taken apart.
+// A batch's list of entries: the next entry, the end of the list, and the check of a whole list.
 pub mod entry;
 pub mod fault;
 pub mod list;

@@ -1,4 +1,4 @@
-// A whole list: entries, then one zero which is the last byte.
+// A whole list: entries, then the closing zero as its last byte.
 use crate::entry::NextEntry;
 use crate::entry::at_end;
 use crate::entry::next_entry;
@@ -8,11 +8,11 @@ ghost use Rattle.batch.specs.Batch.{faultOf, reading, listError};
 
 pub enum ListCheck {
     Sound,
-    // The first fault in reading order; the place counts from the list's first byte.
+    // The first fault; `at` counts from the first byte of the list.
     Broken { reason: u8, at: usize },
 }
 
-// The fault that makes a list broken; an entry does not.
+// A fault breaks the list; an entry does not.
 fn fault_of(next: NextEntry) -> ListCheck
     ensures { λ r. ⌜ r ≡ faultOf next ⌝ }
 {
@@ -22,7 +22,7 @@ fn fault_of(next: NextEntry) -> ListCheck
     }
 }
 
-// The first entry, then what follows it.
+// Checks the first entry, then the rest of the list.
 pub fn check_list(rest: &[u8]) -> ListCheck
     ensures { λ r. ⌜ r ≡ (reading (now (rest .entry))) .check ⌝ }
 {
@@ -43,7 +43,7 @@ pub fn check_list(rest: &[u8]) -> ListCheck
     }
 }
 
-// The ErrN of a batch with this list.
+// The ErrN of a batch whose list gave this result.
 pub fn list_error(check: ListCheck) -> u8
     ensures { λ r. ⌜ r ≡ listError check ⌝ }
 {

@@ -13,29 +13,14 @@ use borrow.Author.Tests.{lt-ltb, le-ltb, le-leb, lt-leb, eq-eqb, ne-eqb, eqb-tru
 use Rattle.dpa.specs.Number.{word}
 use Rattle.dpa.proofs.Bool.{and-left, and-right}
 use Rattle.dpa.specs.Lists.{All}
-use Rattle.book.specs.declared.contents.SceneLocation.{SceneLocation}
+use Rattle.book.specs.declared.locations.SceneLocation.{SceneLocation}
 use Rattle.book.specs.declared.step.Step.{Step}
-use Rattle.book.specs.Book.{scenesMax, stepsMax, locationLength, stepLength, content, countOf, stepsIn, locationsIn, chained, sceneLocations, bookOk, sceneOf}
+use Rattle.book.specs.Book.{scenesMax, stepsMax, locationLength, stepLength, content, sceneCount, stepsIn, locationsIn, chained, sceneLocations, bookOk, sceneOf}
 use Rattle.book.specs.Step.{goodStep, firstBadFrom}
-use Rattle.book.specs.Run.{stepAt, locationAt, AllGood}
-use Rattle.book.proofs.Joining.{steps-length, none as noStep, steps-at, next}
+use Rattle.book.specs.Positions.{stepAt, locationAt}
+use Rattle.book.specs.Writing.{AllStepsGood}
+use Rattle.book.proofs.Positions.{steps-length, none as noStep, steps-at, next}
 use Rattle.book.proofs.Faults.{Good, no-bad}
-
-step-next : (n : ℕ) (a : List ℕ) (i : ℕ) → i < n → drop i (stepsIn n a) ≡ stepAt a i ∷ drop (suc i) (stepsIn n a)
-step-next n a i h = drop-cons (stepsIn n a) i noStep (omega (arith, steps-length n a)) ∙ rw (steps-at n a i h)
-
-pub bad-more : (n : ℕ) (a : List ℕ) (i : ℕ) (x : Step) → i < n → x ≡ stepAt a i → goodStep x ≡ true
-    → firstBadFrom i (drop i (stepsIn n a)) ≡ firstBadFrom (i + 1) (drop (i + 1) (stepsIn n a))
-bad-more n a i x h e g = rw (add-one i, step-next n a i h, ap goodStep (sym e) ∙ g)
-
-pub bad-stop : (n : ℕ) (a : List ℕ) (i : ℕ) (x : Step) → i < n → x ≡ stepAt a i → goodStep x ≡ false
-    → firstBadFrom i (drop i (stepsIn n a)) ≡ cond (ltb i n) (some i) none
-bad-stop n a i x h e g = rw (step-next n a i h, ap goodStep (sym e) ∙ g, lt-ltb i n h)
-
-pub bad-end : (n : ℕ) (a : List ℕ) (i : ℕ) → n ≤ i → firstBadFrom i (drop i (stepsIn n a)) ≡ cond (ltb n n) (some n) none
-bad-end n a i h =
-    let d : drop i (stepsIn n a) ≡ [] = drop-of-length-le (stepsIn n a) {i = i} (omega (arith, steps-length n a)) in
-    rw (d, le-ltb n n (omega arith))
 
 -- ---- the contents of a book
 
@@ -61,18 +46,18 @@ contents-length : (n : ℕ) (bs : List ℕ) → length (locationsIn n bs) ≡ n
 contents-length zero bs = refl
 contents-length (suc n) bs = ap suc (contents-length n (drop locationLength bs))
 
-pub content-is : (b : List ℕ) (i : ℕ) → i < countOf b → getD (sceneLocations b) i noContent ≡ locationAt b i
+pub content-is : (b : List ℕ) (i : ℕ) → i < sceneCount b → getD (sceneLocations b) i noContent ≡ locationAt b i
 content-is b i h =
     let e0 : locationLength * i + 1 ≡ 1 + locationLength * i = omega arith in
     let e1 : locationLength * i + 2 ≡ 1 + (locationLength * i + 1) = omega arith in
     let e2 : locationLength * i + 3 ≡ 1 + (locationLength * i + 2) = omega arith in
-    contents-at (countOf b) (drop 1 b) i h ∙ rw (e2, e1, e0, getD-drop 1 b (locationLength * i) 0, getD-drop 1 b (1 + locationLength * i) 0, getD-drop 1 b (1 + (1 + locationLength * i)) 0)
+    contents-at (sceneCount b) (drop 1 b) i h ∙ rw (e2, e1, e0, getD-drop 1 b (locationLength * i) 0, getD-drop 1 b (1 + locationLength * i) 0, getD-drop 1 b (1 + (1 + locationLength * i)) 0)
 
-content-next : (b : List ℕ) (i : ℕ) → i < countOf b → drop i (sceneLocations b) ≡ locationAt b i ∷ drop (suc i) (sceneLocations b)
-content-next b i h = drop-cons (sceneLocations b) i noContent (omega (arith, contents-length (countOf b) (drop 1 b))) ∙ rw (content-is b i h)
+content-next : (b : List ℕ) (i : ℕ) → i < sceneCount b → drop i (sceneLocations b) ≡ locationAt b i ∷ drop (suc i) (sceneLocations b)
+content-next b i h = drop-cons (sceneLocations b) i noContent (omega (arith, contents-length (sceneCount b) (drop 1 b))) ∙ rw (content-is b i h)
 
 -- ---- the loop of bodies_ok
-module _ (b : List ℕ) (i at end offset count : ℕ) (h : i < countOf b) (eo : offset ≡ locationAt b i .offset) (ec : count ≡ locationAt b i .steps) where
+module _ (b : List ℕ) (i at end offset count : ℕ) (h : i < sceneCount b) (eo : offset ≡ locationAt b i .offset) (ec : count ≡ locationAt b i .steps) where
   pub chain-more : offset ≡ at → count ≤ stepsMax → chained at (drop i (sceneLocations b)) end ≡ chained (at + stepLength * count) (drop (i + 1) (sceneLocations b)) end
   unfolding chained
   chain-more p q = rw (add-one i, content-next b i h, ← eo, ← ec, eq-eqb offset at p, le-leb count stepsMax q)
@@ -85,10 +70,10 @@ module _ (b : List ℕ) (i at end offset count : ℕ) (h : i < countOf b) (eo : 
   unfolding chained
   chain-long p q = rw (content-next b i h, ← eo, ← ec, eq-eqb offset at p, lt-leb count stepsMax q)
 
-pub chain-end : (b : List ℕ) (i at end : ℕ) → countOf b ≤ i → chained at (drop i (sceneLocations b)) end ≡ eqb at end
+pub chain-end : (b : List ℕ) (i at end : ℕ) → sceneCount b ≤ i → chained at (drop i (sceneLocations b)) end ≡ eqb at end
 unfolding chained
 chain-end b i at end h =
-    let d : drop i (sceneLocations b) ≡ [] = drop-of-length-le (sceneLocations b) {i = i} (omega (arith, contents-length (countOf b) (drop 1 b))) in
+    let d : drop i (sceneLocations b) ≡ [] = drop-of-length-le (sceneLocations b) {i = i} (omega (arith, contents-length (sceneCount b) (drop 1 b))) in
     rw d
 
 -- ---- a body is within the book
@@ -112,24 +97,24 @@ body-in at (c ∷ cs) end zero e h =
     )
 body-in at (c ∷ cs) end (suc i) e h = body-in (at + stepLength * c .steps) cs end i (and-right (eqb (c .offset) at && leb (c .steps) stepsMax) _ e) (omega arith)
 
-pub body-within : (b : List ℕ) (i : ℕ) → bookOk b ≡ true → i < countOf b
+pub body-within : (b : List ℕ) (i : ℕ) → bookOk b ≡ true → i < sceneCount b
     → (locationAt b i .offset + stepLength * locationAt b i .steps ≤ length b) × (locationAt b i .steps ≤ stepsMax)
 unfolding bookOk
 body-within b i e h =
     rw (content-is b i h) at
-    (body-in (1 + locationLength * countOf b) (sceneLocations b) (length b) i (and-right (leb 1 (length b) && leb (countOf b) scenesMax && leb (1 + locationLength * countOf b) (length b)) _ e)
-    (omega (arith, contents-length (countOf b) (drop 1 b))))
+    (body-in (1 + locationLength * sceneCount b) (sceneLocations b) (length b) i (and-right (leb 1 (length b) && leb (sceneCount b) scenesMax && leb (1 + locationLength * sceneCount b) (length b)) _ e)
+    (omega (arith, contents-length (sceneCount b) (drop 1 b))))
 
-pub book-facts : (b : List ℕ) → bookOk b ≡ true → (1 ≤ length b) × (countOf b ≤ scenesMax) × (1 + locationLength * countOf b ≤ length b)
+pub book-facts : (b : List ℕ) → bookOk b ≡ true → (1 ≤ length b) × (sceneCount b ≤ scenesMax) × (1 + locationLength * sceneCount b ≤ length b)
 unfolding bookOk
 book-facts b e =
     let f = and-left _ _ e in
     let g = and-left _ _ f in
-    (leb-true _ _ (and-left _ _ g), leb-true _ _ (and-right (leb 1 (length b)) _ g), leb-true _ _ (and-right (leb 1 (length b) && leb (countOf b) scenesMax) _ f))
+    (leb-true _ _ (and-left _ _ g), leb-true _ _ (and-right (leb 1 (length b)) _ g), leb-true _ _ (and-right (leb 1 (length b) && leb (sceneCount b) scenesMax) _ f))
 
-pub scene-is : (b : List ℕ) (i : ℕ) → i < countOf b → sceneOf b i ≡ stepsIn (locationAt b i .steps) (drop (locationAt b i .offset) b)
+pub scene-at : (b : List ℕ) (i : ℕ) → i < sceneCount b → sceneOf b i ≡ stepsIn (locationAt b i .steps) (drop (locationAt b i .offset) b)
 unfolding sceneOf
-scene-is b i h = ap (λ (c : SceneLocation). stepsIn (c .steps) (drop (c .offset) b)) (content-is b i h)
+scene-at b i h = ap (λ (c : SceneLocation). stepsIn (c .steps) (drop (c .offset) b)) (content-is b i h)
 
 -- ---- a scene of a well-formed book has at most `stepsMax` steps
 
@@ -145,18 +130,5 @@ unfolding bookOk sceneOf
 scene-length b k e =
     let c = getD (sceneLocations b) k (content 0 0) in
     rw (steps-length (c .steps) (drop (c .offset) b))
-    (chained-count (1 + locationLength * countOf b) (sceneLocations b) (length b) k
-    (and-right (leb 1 (length b) && leb (countOf b) scenesMax && leb (1 + locationLength * countOf b) (length b)) _ e))
-
--- ---- good steps
-pub good-steps : (n : ℕ) (a : List ℕ) → AllGood a n → All Good (stepsIn n a)
-good-steps zero a g = tt
-good-steps (suc n) a g = (g 0 (omega arith), good-steps n (drop stepLength a) (λ i h. rw (next a i) (g (suc i) (omega arith))))
-
-all-index : (n : ℕ) (a : List ℕ) → All Good (stepsIn n a) → AllGood a n
-all-index zero a g i h = absurd (omega arith)
-all-index (suc n) a g zero h = g .0
-all-index (suc n) a g (suc i) h = rw (← (next a i)) (all-index n (drop stepLength a) (g .1) i (omega arith))
-
-pub good-index : (n : ℕ) (a : List ℕ) → firstBadFrom 0 (stepsIn n a) ≡ none → AllGood a n
-good-index n a e = all-index n a (no-bad (stepsIn n a) .0 e)
+    (chained-count (1 + locationLength * sceneCount b) (sceneLocations b) (length b) k
+    (and-right (leb 1 (length b) && leb (sceneCount b) scenesMax && leb (1 + locationLength * sceneCount b) (length b)) _ e))

@@ -8,7 +8,7 @@ use Prim.Native.Nat.{ℕ, suc, _≤_, _<_}
 use native.Mathlib.Omega.{arith}
 use lib.Dec.{ltb, leb, eqb}
 use borrow.Author.Tests.{eqb-true, eq-eqb, ne-eqb, ltb-true, ltb-false, leb-true, leb-false, lt-ltb, le-ltb, lt-leb, le-leb}
-use Rattle.dpa.proofs.Bool.{by-test, both, and-left, and-right, second-taken, first-taken}
+use Rattle.dpa.proofs.Bool.{by-test, both, and-left, and-right, else-taken, then-taken}
 use Rattle.memory.specs.Block.{sizeOf}
 use Rattle.memory.specs.declared.block.Memory.the-variants.{Eeprom, Ram}
 use Rattle.dpa.specs.Lists.{All}
@@ -32,16 +32,16 @@ pub record ByteGood (size : ℕ) (s : Step) : Type 0 where
 lamp-parts : (s : Step) → lampFault s ≡ 0 → LampGood s
 unfolding lampFault
 lamp-parts s e =
-    let t = second-taken (leb 32 (s .target)) 2 _ 0 (λ z. omega arith) e in
-    let v = second-taken (ltb 100 (s .value)) 3 _ 0 (λ z. omega arith) (t .1) in
-    let m = first-taken (stepTimeOk (s .time)) 0 4 0 (λ z. omega arith) (v .1) in
+    let t = else-taken (leb 32 (s .target)) 2 _ 0 (λ z. omega arith) e in
+    let v = else-taken (ltb 100 (s .value)) 3 _ 0 (λ z. omega arith) (t .1) in
+    let m = then-taken (stepTimeOk (s .time)) 0 4 0 (λ z. omega arith) (v .1) in
     record { target-max = leb-false 32 (s .target) (t .0); value-max = ltb-false 100 (s .value) (v .0); time-valid = m .0 }
 
 byte-parts : (size : ℕ) (s : Step) → byteFault size s ≡ 0 → ByteGood size s
 unfolding byteFault
 byte-parts size s e =
-    let t = second-taken (leb size (s .target)) 2 _ 0 (λ z. omega arith) e in
-    let m = first-taken (eqb (s .time) 0) 0 4 0 (λ z. omega arith) (t .1) in
+    let t = else-taken (leb size (s .target)) 2 _ 0 (λ z. omega arith) e in
+    let m = then-taken (eqb (s .time) 0) 0 4 0 (λ z. omega arith) (t .1) in
     record { target-max = leb-false size (s .target) (t .0); no-time = eqb-true (s .time) 0 (m .0) }
 
 -- a good step by its kind
@@ -61,7 +61,7 @@ unfolding stepFault
 eeprom-good s g h =
     let f : stepFault s ≡ 0 = eqb-true _ _ g in
     let e = rw (le-ltb (s .kind) ramKind (omega arith), ne-eqb (s .kind) ramKind (λ z. omega arith)) at f in
-    let k = first-taken (eqb (s .kind) eepromKind) (byteFault (sizeOf Eeprom) s) 1 0 (λ z. omega arith) e in
+    let k = then-taken (eqb (s .kind) eepromKind) (byteFault (sizeOf Eeprom) s) 1 0 (λ z. omega arith) e in
     (eqb-true (s .kind) eepromKind (k .0), byte-parts (sizeOf Eeprom) s (k .1))
 
 -- ---- the step machine's rule

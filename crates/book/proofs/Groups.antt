@@ -8,25 +8,25 @@ use lib.ListN.{length, getD, take, drop}
 use lib.Seq.{take-suc, drop-cons}
 use Rattle.dpa.proofs.Bool.{by-cond}
 use Rattle.dpa.specs.Lists.{All}
-use Rattle.book.specs.Group.{joined, grow, group}
+use Rattle.book.specs.Group.{concat, grow, group}
 
 module _ {A : Type 0} where
-  pub joined-append : (xs ys : List (List A)) → joined (xs ++ ys) ≡ joined xs ++ joined ys
-  joined-append [] ys = refl
-  joined-append (x ∷ xs) ys = rw (joined-append xs ys, append-assoc x (joined xs) (joined ys))
+  pub concat-append : (xs ys : List (List A)) → concat (xs ++ ys) ≡ concat xs ++ concat ys
+  concat-append [] ys = refl
+  concat-append (x ∷ xs) ys = rw (concat-append xs ys, append-assoc x (concat xs) (concat ys))
 
 module _ {A : Type 0} (fits : List A → A → Bool) where
-  joined-grow : (cur xs : List A) → joined (grow fits cur xs) ≡ cur ++ xs
+  joined-grow : (cur xs : List A) → concat (grow fits cur xs) ≡ cur ++ xs
   joined-grow cur [] = refl
   joined-grow cur (x ∷ xs) =
-      by-cond (λ (g : List (List A)). joined g ≡ cur ++ (x ∷ xs)) (fits cur x) _ _
+      by-cond (λ (g : List (List A)). concat g ≡ cur ++ (x ∷ xs)) (fits cur x) _ _
       (λ _. joined-grow (cur ++ (x ∷ [])) xs ∙ append-assoc cur (x ∷ []) xs)
       (λ _. ap (λ (l : List A). cur ++ l) (joined-grow (x ∷ []) xs))
 
   -- the groups in order are the list
-  pub joined-group : (xs : List A) → joined (group fits xs) ≡ xs
-  joined-group [] = refl
-  joined-group (x ∷ xs) = joined-grow (x ∷ []) xs
+  pub concat-group : (xs : List A) → concat (group fits xs) ≡ xs
+  concat-group [] = refl
+  concat-group (x ∷ xs) = joined-grow (x ∷ []) xs
 
   length-grow : (cur xs : List A) → length (grow fits cur xs) ≤ suc (length xs)
   length-grow cur [] = omega arith
@@ -66,8 +66,8 @@ module _ {A : Type 0} (fits : List A → A → Bool) where
       → grow fits (take k xs) (drop k xs) ≡ take k xs ∷ group fits (drop k xs)
   left-off d xs k h e = rw (drop-cons xs k d h, e)
 
-  pub grow-in : (t : List A) (x : A) (ys : List A) → fits t x ≡ true → grow fits t (x ∷ ys) ≡ grow fits (t ++ (x ∷ [])) ys
-  grow-in t x ys e = rw e
+  pub grow-fits : (t : List A) (x : A) (ys : List A) → fits t x ≡ true → grow fits t (x ∷ ys) ≡ grow fits (t ++ (x ∷ [])) ys
+  grow-fits t x ys e = rw e
 
-  pub grow-out : (t : List A) (x : A) (ys : List A) → fits t x ≡ false → grow fits t (x ∷ ys) ≡ t ∷ group fits (x ∷ ys)
-  grow-out t x ys e = rw e
+  pub grow-not-fits : (t : List A) (x : A) (ys : List A) → fits t x ≡ false → grow fits t (x ∷ ys) ≡ t ∷ group fits (x ∷ ys)
+  grow-not-fits t x ys e = rw e

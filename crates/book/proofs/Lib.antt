@@ -1,10 +1,12 @@
 pub mod Groups
 pub mod Faults
-pub mod Places
+pub mod MachineLaws
 pub mod Sizes
-pub mod Runs
-pub mod Joining
+pub mod EntryGroups
+pub mod Positions
+pub mod FirstEntry
+pub mod GoodSteps
 pub mod Books
 pub mod Examples
-pub mod Entries
+pub mod EntryWritable
 pub mod Writing

@@ -9,7 +9,7 @@ use Rattle.dpa.proofs.Bool.{by-test}
 use Rattle.book.specs.declared.step.Step.{Step}
 use Rattle.book.specs.Step.{isLamp}
 use Rattle.book.specs.Entry.{powerBytes, powersBytes, values, entryData, groupData}
-use Rattle.book.specs.Run.{powerSize, stepSize}
+use Rattle.book.specs.EntrySize.{powerSize, stepSize}
 
 pub power-length : (s : Step) → length (powerBytes s) ≡ powerSize s
 unfolding powerBytes powerSize

@@ -13,9 +13,10 @@ use Rattle.batch.specs.Batch.{entryBytes}
 use Rattle.book.specs.declared.step.Step.{Step}
 use Rattle.book.specs.Book.{stepsIn}
 use Rattle.book.specs.Step.{isLamp}
-use Rattle.book.specs.Entry.{powerBytes, powersBytes, values, bitmapOf, fourBytes, joinedItem, entryData, groupData}
-use Rattle.book.specs.Run.{stepAt, headBytes}
-use Rattle.book.proofs.Joining.{steps-length, none, steps-at}
+use Rattle.book.specs.Entry.{powerBytes, powersBytes, values, bitmapOf, bitmapBytes, joinedItem, entryData, groupData}
+use Rattle.book.specs.Positions.{stepAt}
+use Rattle.book.specs.Writing.{headBytes}
+use Rattle.book.proofs.Positions.{steps-length, none, steps-at}
 
 pub sets-append : (l : List ℕ) (i : ℕ) (xs ys : List ℕ) → sets l i (xs ++ ys) ≡ sets (sets l i xs) (i + length xs) ys
 sets-append l i [] ys = rw (add-zero i)
@@ -130,10 +131,10 @@ map-end n a i m q h =
     rw t at (q .1)
 
 -- ---- one run of bytes after another
-pub put-two : (out out′ out″ xs ys zs : List ℕ) (at w r : ℕ) → out′ ≡ sets out at xs → w ≡ at + length xs → out″ ≡ sets out′ w ys
+pub two-writes : (out out′ out″ xs ys zs : List ℕ) (at w r : ℕ) → out′ ≡ sets out at xs → w ≡ at + length xs → out″ ≡ sets out′ w ys
     → r ≡ w + length ys → zs ≡ xs ++ ys
     → (r ≡ at + length zs) × (out″ ≡ sets out at zs)
-put-two out out′ out″ xs ys zs at w r e ew f er ez =
+two-writes out out′ out″ xs ys zs at w r e ew f er ez =
     rw ez (omega (arith, length-append xs ys), f ∙ rw (e, ew) (sym (sets-append out at xs ys)))
 
 pub sets-keep : (out out′ xs : List ℕ) (at : ℕ) → out′ ≡ sets out at xs → length out′ ≡ length out
@@ -141,7 +142,7 @@ sets-keep out out′ xs at e = ap length e ∙ length-sets out at xs
 
 -- ---- an entry's PData by its kind, and an entry's bytes
 pub data-lamp : (n : ℕ) (a : List ℕ) → 0 < n → isLamp (stepAt a 0 .kind) ≡ true
-    → groupData (stepsIn n a) ≡ fourBytes (bitmapOf (stepsIn n a)) ++ powersBytes (stepsIn n a)
+    → groupData (stepsIn n a) ≡ bitmapBytes (bitmapOf (stepsIn n a)) ++ powersBytes (stepsIn n a)
 unfolding entryData
 data-lamp zero a h k = absurd (omega arith)
 data-lamp (suc n) a h k = rw k

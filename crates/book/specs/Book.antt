@@ -5,7 +5,7 @@ use Prim.Native.Nat.{ℕ, zero, suc, _+_, _*_}
 use lib.Dec.{leb, eqb}
 use lib.ListN.{length, getD, drop}
 use Rattle.dpa.specs.Number.{wordAt}
-use Rattle.book.specs.declared.contents.SceneLocation.{SceneLocation}
+use Rattle.book.specs.declared.locations.SceneLocation.{SceneLocation}
 use Rattle.book.specs.declared.step.Step.{Step}
 
 -- at most this many scenes in a book, and steps in a scene
@@ -32,11 +32,11 @@ locationsIn zero bs = []
 locationsIn (suc n) bs = content (wordAt bs 0) (getD bs 2 0) ∷ locationsIn n (drop locationLength bs)
 
 -- the count of scenes, and their contents entries
-abbrev pub countOf : List ℕ → ℕ
-countOf b = getD b 0 0
+abbrev pub sceneCount : List ℕ → ℕ
+sceneCount b = getD b 0 0
 
 abbrev pub sceneLocations : List ℕ → List SceneLocation
-sceneLocations b = locationsIn (countOf b) (drop 1 b)
+sceneLocations b = locationsIn (sceneCount b) (drop 1 b)
 
 -- the first body starts at `start`, each next where the last ended, the last ends at `end`; none has too many steps
 unfoldable pub chained : ℕ → List SceneLocation → ℕ → Bool
@@ -46,8 +46,8 @@ chained start (c ∷ cs) end = (eqb (c .offset) start && leb (c .steps) stepsMax
 -- not too many scenes, contents that lie in the book, and bodies that fill the rest of it
 unfoldable pub bookOk : List ℕ → Bool
 bookOk b =
-    leb 1 (length b) && leb (countOf b) scenesMax && leb (1 + locationLength * countOf b) (length b)
-    && chained (1 + locationLength * countOf b) (sceneLocations b) (length b)
+    leb 1 (length b) && leb (sceneCount b) scenesMax && leb (1 + locationLength * sceneCount b) (length b)
+    && chained (1 + locationLength * sceneCount b) (sceneLocations b) (length b)
 
 -- n steps
 abbrev pub stepsIn : ℕ → List ℕ → List Step

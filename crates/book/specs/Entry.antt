@@ -17,8 +17,8 @@ bitmapOf [] = 0
 bitmapOf (s ∷ ss) = 2 ^ (s .target) + bitmapOf ss
 
 -- the four bytes of a bitmap
-abbrev pub fourBytes : ℕ → List ℕ
-fourBytes m = low m ∷ low (high m) ∷ low (high (high m)) ∷ low (high (high (high m))) ∷ []
+abbrev pub bitmapBytes : ℕ → List ℕ
+bitmapBytes m = low m ∷ low (high m) ∷ low (high (high m)) ∷ low (high (high (high m))) ∷ []
 
 -- a lamp step's power byte, and its time byte if it has one
 unfoldable pub powerBytes : Step → List ℕ
@@ -36,7 +36,7 @@ values (s ∷ ss) = s .value ∷ values ss
 unfoldable pub entryData : Step → List Step → List ℕ
 entryData s ss =
     cond (isLamp (s .kind))
-    (fourBytes (bitmapOf (s ∷ ss)) ++ powersBytes (s ∷ ss))
+    (bitmapBytes (bitmapOf (s ∷ ss)) ++ powersBytes (s ∷ ss))
     (s .target ∷ values (s ∷ ss))
 
 abbrev pub groupData : List Step → List ℕ

@@ -3,9 +3,9 @@ use mathlib.Core.Bool.{Bool, cond}
 use mathlib.Core.List.{List, [], _∷_, _++_}
 
 module _ {A : Type 0} where
-  abbrev pub joined : List (List A) → List A
-  joined [] = []
-  joined (x ∷ xs) = x ++ joined xs
+  abbrev pub concat : List (List A) → List A
+  concat [] = []
+  concat (x ∷ xs) = x ++ concat xs
 
   -- each element goes to the end of the current group where it fits, and else starts a new one
   abbrev pub grow : (List A → A → Bool) → List A → List A → List (List A)

@@ -4,5 +4,7 @@ pub mod Machine
 pub mod Group
 pub mod Entry
 pub mod Join
-pub mod Run
+pub mod Positions
+pub mod EntrySize
+pub mod Writing
 pub mod Examples

@@ -16,7 +16,7 @@ ghost use Rattle.dpa.specs.Frame.{pdataMax};
 ghost use Rattle.batch.specs.Batch.{entryBytes};
 ghost use Rattle.book.specs.Book.{stepsMax, stepLength, stepsIn};
 ghost use Rattle.book.specs.Entry.{values, groupData, pnumOf, pcmdOf, joinedItem};
-ghost use Rattle.book.specs.Run.{Writable, headBytes};
+ghost use Rattle.book.specs.Writing.{Writable, headBytes};
 
 // The values of `count` steps.
 fn write_values(body: &[u8], count: usize, out: &mut [u8], at: usize) -> usize

@@ -9,7 +9,8 @@ ghost use Prim.Native.Nat.{_+_, _*_, _-_, _≤_, _<_};
 ghost use lib.ListN.{length, drop};
 ghost use Rattle.book.specs.Book.{stepsMax, stepLength, stepsIn};
 ghost use Rattle.book.specs.Join.{follows};
-ghost use Rattle.book.specs.Run.{EntryLimit, stepAt, stepSize, firstSize, joinedSize, FirstEntry};
+ghost use Rattle.book.specs.EntrySize.{EntryLimit, stepSize, firstSize, joinedSize, FirstEntry};
+ghost use Rattle.book.specs.Positions.{stepAt};
 
 // Whether a step may join an entry whose last step is `before`.
 fn may_follow(before: Step, step: Step) -> bool
@@ -64,13 +65,13 @@ fn joined_size(body: &[u8], taken: usize, kind: u8, size: usize, most: usize) ->
 }
 
 // An entry: its steps, and the length of its PData.
-pub struct Run {
+pub struct EntrySpan {
     pub steps: usize,
     pub size: usize,
 }
 
 // The first entry of a scene, with at most `most` bytes of PData.
-pub fn first_entry(body: &[u8], count: usize, most: usize) -> Run
+pub fn first_entry(body: &[u8], count: usize, most: usize) -> EntrySpan
     requires { ⌜ (stepLength * count ≤ length (now body)) × (0 < count) × (count ≤ stepsMax) × EntryLimit most ⌝ }
     ensures { λ r. ⌜ FirstEntry most (stepsIn count (now (body .entry))) (r .steps) (r .size) ⌝ }
 {
@@ -81,16 +82,16 @@ pub fn first_entry(body: &[u8], count: usize, most: usize) -> Run
     while taken < count {
         let more = joined_size(body, taken, kind, size, most);
         if more == 0 {
-            return Run { steps: taken, size };
+            return EntrySpan { steps: taken, size };
         }
         size = more;
         taken = taken + 1;
     }
-    Run { steps: taken, size }
+    EntrySpan { steps: taken, size }
 }
 
 // The entry that begins at step `done`.
-pub fn entry_from(body: &[u8], count: usize, done: usize, most: usize) -> Run
+pub fn entry_from(body: &[u8], count: usize, done: usize, most: usize) -> EntrySpan
     requires { ⌜ (stepLength * count ≤ length (now body)) × (done < count) × (count ≤ stepsMax) × EntryLimit most ⌝ }
     ensures { λ r. ⌜ FirstEntry most (drop done (stepsIn count (now (body .entry)))) (r .steps) (r .size) ⌝ }
 {

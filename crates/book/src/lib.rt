@@ -1,8 +1,8 @@
 // Scene books: contents, steps and their faults, and the entries of joined steps.
-pub mod contents;
 pub mod entry;
 pub mod fault;
 pub mod join;
 pub mod kind;
+pub mod locations;
 pub mod power;
 pub mod step;

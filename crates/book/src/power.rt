@@ -6,8 +6,8 @@ ghost use Prim.Native.Nat.{_+_, _*_, _^_, _≤_, _<_};
 ghost use lib.ListN.{length};
 ghost use lib.Seq.{sets};
 ghost use Rattle.book.specs.Book.{stepsMax, stepLength, stepsIn};
-ghost use Rattle.book.specs.Entry.{powerBytes, powersBytes, bitmapOf, fourBytes};
-ghost use Rattle.book.specs.Run.{Lamps};
+ghost use Rattle.book.specs.Entry.{powerBytes, powersBytes, bitmapOf, bitmapBytes};
+ghost use Rattle.book.specs.Writing.{Lamps};
 
 // Writes a step's power byte, and its time byte if it has one; returns the place after them.
 fn write_power(step: Step, out: &mut [u8], at: usize) -> usize
@@ -65,7 +65,7 @@ pub fn bitmap_of(body: &[u8], count: usize) -> u64
 // The four bytes of a bitmap.
 pub fn write_bitmap(bitmap: u64, out: &mut [u8], at: usize) -> usize
     requires { ⌜ at + 4 ≤ length (now out) ⌝ }
-    ensures { λ r. ⌜ (r ≡ at + 4) × (now (out .exit) ≡ sets (now (out .entry)) at (fourBytes bitmap)) ⌝ }
+    ensures { λ r. ⌜ (r ≡ at + 4) × (now (out .exit) ≡ sets (now (out .entry)) at (bitmapBytes bitmap)) ⌝ }
 {
     out[at] = (bitmap % 256) as u8;
     out[at + 1] = (bitmap / 256 % 256) as u8;

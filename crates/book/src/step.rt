@@ -15,7 +15,7 @@ ghost use lib.Dec.{ltb};
 ghost use Rattle.memory.specs.Block.{sizeOf};
 ghost use Rattle.book.specs.Book.{stepsMax, stepLength, stepsIn};
 ghost use Rattle.book.specs.Step.{lampFault, byteFault, stepFault, firstBadFrom};
-ghost use Rattle.book.specs.Run.{stepAt};
+ghost use Rattle.book.specs.Positions.{stepAt};
 
 // The steps that a scene has at most.
 pub const STEPS_MAX: usize = 64;

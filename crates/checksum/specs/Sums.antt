@@ -10,21 +10,22 @@ use Rattle.checksum.specs.declared.sums.Sums.{Sums}
 abbrev pub byteMax : ℕ
 byteMax = 255
 
--- a byte sum, and where it passed 255 one is added: a + b less 256, plus 1
+-- a byte sum, plus 1 if it passed 255
 unfoldable pub addWithCarry : ℕ → ℕ → ℕ
 addWithCarry a b = cond (ltb byteMax (a + b)) (a + b - 256 + 1) (a + b)
 
--- for a byte: low plus byte, then high plus low
+-- one byte: low plus byte, then high plus low
 unfoldable pub addByte : Sums → ℕ → Sums
 addByte s b = record { low = addWithCarry (s .low) b; high = addWithCarry (s .high) (addWithCarry (s .low) b) }
 
+-- all bytes of a list, in order
 unfoldable pub sums : Sums → List ℕ → Sums
 sums s [] = s
 sums s (b ∷ bs) = sums (addByte s b) bs
 
--- the low sum starts at a first value, the high sum at 0
+-- the sums before the first byte
 abbrev pub start : ℕ → Sums
-start first = record { low = first; high = 0 }
+start initial = record { low = initial; high = 0 }
 
 -- the checksum as a two-byte number
 abbrev pub checksum : Sums → ℕ

@@ -1,4 +1,4 @@
-// The code check: whether a part of external memory has a checksum.
+// The code check: compares the checksum of a code image in external memory with the one in the request.
 use crate::sums::image_sums;
 use dpa::number::wide_word;
 use dpa::number::word_of;
@@ -7,19 +7,37 @@ ghost use Prim.Native.Nat.{_≤_};
 ghost use lib.ListN.{length};
 ghost use Rattle.dpa.specs.Frame.{pdataMax};
 ghost use Rattle.dpa.specs.Reply.{replySeen, replyInBuffer};
-ghost use Rattle.checksum.specs.Check.{externalSize, blockSize, initialLow, imageOf, imageError, imageMatches, codeCheck};
+ghost use Rattle.checksum.specs.Check.{externalSize, pdataLength, loadFlag, pluginFlag, reservedFlags, blockSize, initialLow, imageOf, imageError, imageMatches, codeCheck};
 
 // Bytes of external memory.
 const EXTERNAL_SIZE: usize = 16384;
 
-// What a code check tells of its answer, and whether the image is to be loaded.
+// Bytes of PData: flags, address, length, checksum.
+const PDATA_LENGTH: usize = 7;
+
+// Block sizes: an image's length is a multiple of the one for its type.
+const HEX_BLOCK: usize = 64;
+
+const PLUGIN_BLOCK: usize = 20;
+
+// Initial values of the low sum.
+const HEX_INITIAL: u8 = 1;
+
+const PLUGIN_INITIAL: u8 = 3;
+
+// The data byte of the response.
+const MATCH: u8 = 1;
+
+const MISMATCH: u8 = 0;
+
+// The reply to a code check, and whether the image is to be loaded.
 pub struct CheckReply {
     pub error: u8,
     pub length: usize,
     pub load: bool,
 }
 
-// The part of external memory that is checked, and how: the fields of PData.
+// The fields of PData: the type of the image, where it is, and its checksum.
 pub struct Image {
     pub flags: u8,
     pub address: u16,
@@ -27,29 +45,57 @@ pub struct Image {
     pub sum: u16,
 }
 
-// An image's length is a multiple of this: by flag bit 1, 64 or 20.
+fn check_reply(error: u8, size: usize, load: bool) -> CheckReply
+    ensures { λ r. ⌜ r ≡ record { error = error; length = size; load = load } ⌝ }
+{
+    CheckReply {
+        error,
+        length: size,
+        load,
+    }
+}
+
+// Flag bit 0: load the image if the checksum matches.
+fn loads_on_match(flags: u8) -> bool
+    ensures { λ r. ⌜ r ≡ loadFlag flags ⌝ }
+{
+    flags % 2 == 1
+}
+
+// Flag bit 1: the image is an IQRF plug-in; otherwise it is from a .hex file.
+fn is_plugin(flags: u8) -> bool
+    ensures { λ r. ⌜ r ≡ pluginFlag flags ⌝ }
+{
+    flags / 2 % 2 == 1
+}
+
+// Flag bits 2 to 7 must be 0.
+fn has_reserved_flags(flags: u8) -> bool
+    ensures { λ r. ⌜ r ≡ reservedFlags flags ⌝ }
+{
+    4 <= flags
+}
+
 fn block_size(flags: u8) -> usize
     ensures { λ r. ⌜ (r ≡ blockSize flags) × (1 ≤ r) ⌝ }
 {
-    if flags / 2 % 2 == 0 {
-        return 64;
+    if is_plugin(flags) {
+        return PLUGIN_BLOCK;
     }
-    20
+    HEX_BLOCK
 }
 
-// What the low sum starts at.
 fn initial_low(flags: u8) -> u8
     ensures { λ r. ⌜ r ≡ initialLow flags ⌝ }
 {
-    if flags / 2 % 2 == 0 {
-        return 1;
+    if is_plugin(flags) {
+        return PLUGIN_INITIAL;
     }
-    3
+    HEX_INITIAL
 }
 
-// The fields that seven bytes of PData hold.
 fn read_image(pdata: &[u8]) -> Image
-    requires { ⌜ length (now pdata) ≡ 7 ⌝ }
+    requires { ⌜ length (now pdata) ≡ pdataLength ⌝ }
     ensures { λ r. ⌜ r ≡ imageOf (now (pdata .entry)) ⌝ }
 {
     Image {
@@ -60,75 +106,59 @@ fn read_image(pdata: &[u8]) -> Image
     }
 }
 
-// Why an image is refused, or 0. The sum is taken in a wider type.
+// Returns ErrN for the fields of an image. Address and length are added as usize, so that the sum cannot overflow.
 fn image_error(image: Image) -> u8
     ensures { λ r. ⌜ r ≡ imageError image ⌝ }
 {
-    if 4 <= image.flags {
+    if has_reserved_flags(image.flags) {
         return dpa::error::FAIL;
     }
-    let count = wide_word(image.length);
-    if count == 0 {
+    let size = wide_word(image.length);
+    if size == 0 {
         return dpa::error::DATA;
     }
-    if count % block_size(image.flags) != 0 {
+    if size % block_size(image.flags) != 0 {
         return dpa::error::DATA;
     }
-    if EXTERNAL_SIZE < wide_word(image.address) + count {
+    if EXTERNAL_SIZE < wide_word(image.address) + size {
         return dpa::error::ADDR;
     }
-    0
+    dpa::error::NONE
 }
 
-// Whether the image has the checksum that came with it.
+// Returns whether the image has the checksum that came with it.
 fn image_matches(external: &[u8], image: Image) -> bool
     requires { ⌜ (length (now external) ≡ externalSize) × (imageError image ≡ 0) ⌝ }
     ensures { λ r. ⌜ r ≡ imageMatches (now (external .entry)) image ⌝ }
 {
     let address = wide_word(image.address);
     let end = address + wide_word(image.length);
-    let s = image_sums(
+    let sums = image_sums(
         &external[address..end],
         initial_low(image.flags),
         block_size(image.flags),
     );
-    word_of(s.low, s.high) == image.sum
+    word_of(sums.low, sums.high) == image.sum
 }
 
-// The request. Its answer is one byte at the front of out; an error writes nothing.
+// Handles the request. The response has one data byte; an error writes none.
 pub fn code_check(external: &[u8], pdata: &[u8], out: &mut [u8]) -> CheckReply
     requires { ⌜ (length (now external) ≡ externalSize) × (pdataMax ≤ length (now out)) ⌝ }
     ensures { λ r. ⌜ replySeen (r .load) (r .error) (r .length) (now (out .exit))
         ≡ replyInBuffer (codeCheck (now (external .entry)) (now (pdata .entry))) (now (out .entry)) ⌝ }
 {
-    if pdata.len() != 7 {
-        return CheckReply {
-            error: dpa::error::DATA_LEN,
-            length: 0,
-            load: false,
-        };
+    if pdata.len() != PDATA_LENGTH {
+        return check_reply(dpa::error::DATA_LEN, 0, false);
     }
     let image = read_image(pdata);
     let error = image_error(image);
-    if error != 0 {
-        return CheckReply {
-            error,
-            length: 0,
-            load: false,
-        };
+    if error != dpa::error::NONE {
+        return check_reply(error, 0, false);
     }
     if image_matches(external, image) {
-        out[0] = 1;
-        return CheckReply {
-            error: 0,
-            length: 1,
-            load: image.flags % 2 == 1,
-        };
+        out[0] = MATCH;
+        return check_reply(dpa::error::NONE, 1, loads_on_match(image.flags));
     }
-    out[0] = 0;
-    CheckReply {
-        error: 0,
-        length: 1,
-        load: false,
-    }
+    out[0] = MISMATCH;
+    check_reply(dpa::error::NONE, 1, false)
 }

@@ -1,3 +1,3 @@
-// The checksum of a code image in external memory, and the request that checks one.
+// The checksum of a code image in external memory, and the request that checks it.
 pub mod check;
 pub mod sums;

@@ -1,4 +1,4 @@
-// Two byte sums with end-around carry.
+// The Fletcher checksum: two byte sums with end-around carry.
 use std::num::wrapping_add_u8;
 ghost use mathlib.Core.Path.{_≡_};
 ghost use Prim.Native.Nat.{_≤_};
@@ -9,7 +9,7 @@ pub struct Sums {
     pub high: u8,
 }
 
-// A byte sum; where it passed 255, one is added.
+// Adds two bytes; if the sum exceeds 255, its carry is added to it.
 fn add_with_carry(a: u8, b: u8) -> u8
     ensures { λ r. ⌜ r ≡ addWithCarry a b ⌝ }
 {
@@ -22,16 +22,16 @@ fn add_with_carry(a: u8, b: u8) -> u8
 
 impl Sums {
     // The sums before the first byte.
-    pub fn start(first: u8) -> Sums
-        ensures { λ r. ⌜ r ≡ start first ⌝ }
+    pub fn start(initial_low: u8) -> Sums
+        ensures { λ r. ⌜ r ≡ start «initial_low» ⌝ }
     {
         Sums {
-            low: first,
+            low: initial_low,
             high: 0,
         }
     }
 
-    // The sums after one byte more.
+    // Adds one byte.
     pub fn add_byte(self, byte: u8) -> Sums
         ensures { λ r. ⌜ r ≡ addByte self byte ⌝ }
     {
@@ -40,7 +40,7 @@ impl Sums {
         Sums { low, high }
     }
 
-    // The sums after a block.
+    // Adds a block of bytes.
     pub fn add_block(self, block: &[u8]) -> Sums
         ensures { λ r. ⌜ r ≡ sums self (now (block .entry)) ⌝ }
     {
@@ -63,15 +63,15 @@ fn smaller(a: usize, b: usize) -> usize
     b
 }
 
-// The sums over an image, taken in blocks of at most `unit` bytes.
-pub fn image_sums(image: &[u8], first: u8, unit: usize) -> Sums
-    requires { ⌜ 1 ≤ unit ⌝ }
-    ensures { λ r. ⌜ r ≡ sums (start first) (now (image .entry)) ⌝ }
+// The sums over an image, block by block; the last block may be shorter.
+pub fn image_sums(image: &[u8], initial_low: u8, block_size: usize) -> Sums
+    requires { ⌜ 1 ≤ «block_size» ⌝ }
+    ensures { λ r. ⌜ r ≡ sums (start «initial_low») (now (image .entry)) ⌝ }
 {
-    let mut s = Sums::start(first);
+    let mut s = Sums::start(initial_low);
     let mut at: usize = 0;
     while at < image.len() {
-        let end = at + smaller(unit, image.len() - at);
+        let end = at + smaller(block_size, image.len() - at);
         s = s.add_block(&image[at..end]);
         at = end;
     }

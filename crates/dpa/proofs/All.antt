@@ -1,16 +1,16 @@
--- Laws of `All`: every element of a list has a property.
+-- Laws of `All`: a property holds for every element of a list.
 use mathlib.Core.List.{List, [], _∷_, _++_}
 use Prim.Native.Nat.{ℕ, zero, suc}
 use lib.ListN.{drop}
 use Rattle.dpa.specs.Lists.{All}
 
 module _ {A : Type 0} where
-  -- an element more
+  -- one more element
   pub all-snoc : (P : A → Type 0) (xs : List A) (x : A) → All P xs → P x → All P (xs ++ (x ∷ []))
   all-snoc P [] x a p = (p, tt)
   all-snoc P (y ∷ ys) x a p = (a .0, all-snoc P ys x (a .1) p)
 
-  -- what P implies
+  -- a property that P implies
   pub all-weaken : (P Q : A → Type 0) → ((x : A) → P x → Q x) → (xs : List A) → All P xs → All Q xs
   all-weaken P Q f [] a = tt
   all-weaken P Q f (x ∷ xs) a = (f x (a .0), all-weaken P Q f xs (a .1))

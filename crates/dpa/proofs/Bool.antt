@@ -8,6 +8,7 @@ use lib.Dec.{eqb}
 use borrow.Author.Tests.{eqb-true, eqb-false}
 use Rattle.dpa.specs.Lists.{allBelow}
 
+-- a true conjunction gives its parts
 pub and-left : (a b : Bool) → (a && b) ≡ true → a ≡ true
 and-left true b e = refl
 and-left false b e = e
@@ -16,54 +17,61 @@ pub and-right : (a b : Bool) → (a && b) ≡ true → b ≡ true
 and-right true b e = e
 and-right false b e = cc
 
+-- two true tests give a true conjunction
 pub both : {a b : Bool} → a ≡ true → b ≡ true → (a && b) ≡ true
 both p q = rw (p, q)
 
-pub not-both : (a b : Bool) → b ≡ false → (a && b) ≡ false
-not-both true b e = e
-not-both false b e = refl
+-- a false second test gives a false conjunction
+pub and-right-false : (a b : Bool) → b ≡ false → (a && b) ≡ false
+and-right-false true b e = e
+and-right-false false b e = refl
 
+-- Bools that compare as equal are equal
 pub beq-eq : (a b : Bool) → Bool·beq a b ≡ true → a ≡ b
 beq-eq true true e = refl
 beq-eq true false e = sym e
 beq-eq false true e = e
 beq-eq false false e = refl
 
--- what holds of x where the test passes and of y where it fails holds of `cond b x y`
+-- P holds for `cond b x y` if it holds for x when b is true and for y when b is false
 pub by-cond : {A : Type 0} (P : A → Type 0) (b : Bool) (x y : A) → (b ≡ true → P x) → (b ≡ false → P y) → P (cond b x y)
 by-cond P true x y f g = f refl
 by-cond P false x y f g = g refl
 
+-- the same for a statement without a `cond`
 pub by-test : {R : Type 0} (b : Bool) → (b ≡ true → R) → (b ≡ false → R) → R
 by-test true f g = f refl
 by-test false f g = g refl
 
--- a choice that came out as no k is the other side
-pub second-taken : (b : Bool) (k m n : ℕ) → (k ≡ n → ⊥) → cond b k m ≡ n → (b ≡ false) × (m ≡ n)
-second-taken true k m n h e = absurd (h e)
-second-taken false k m n h e = (refl, e)
+-- a `cond` whose value cannot be its first side took its second one
+pub else-taken : (b : Bool) (k m n : ℕ) → (k ≡ n → ⊥) → cond b k m ≡ n → (b ≡ false) × (m ≡ n)
+else-taken true k m n h e = absurd (h e)
+else-taken false k m n h e = (refl, e)
 
-pub first-taken : (b : Bool) (k m n : ℕ) → (m ≡ n → ⊥) → cond b k m ≡ n → (b ≡ true) × (k ≡ n)
-first-taken true k m n h e = (refl, e)
-first-taken false k m n h e = absurd (h e)
+-- and the other way round
+pub then-taken : (b : Bool) (k m n : ℕ) → (m ≡ n → ⊥) → cond b k m ≡ n → (b ≡ true) × (k ≡ n)
+then-taken true k m n h e = (refl, e)
+then-taken false k m n h e = absurd (h e)
 
--- `allBelow`
+-- Laws of `allBelow`
 
--- one number more
-pub all-more : (i : ℕ) (f : ℕ → Bool) (a b : Bool) → a ≡ allBelow i f → b ≡ f i → (a && b) ≡ allBelow (i + 1) f
+-- the test over one more number
+pub all-below-next : (i : ℕ) (f : ℕ → Bool) (a b : Bool) → a ≡ allBelow i f → b ≡ f i → (a && b) ≡ allBelow (i + 1) f
 unfolding allBelow
-all-more i f a b p q = rw (add-one, p, q)
+all-below-next i f a b p q = rw (add-one, p, q)
 
-pub all-intro : (n : ℕ) (f : ℕ → Bool) → ((k : ℕ) → k < n → f k ≡ true) → allBelow n f ≡ true
+-- a test that holds for each number below n
+pub all-below-intro : (n : ℕ) (f : ℕ → Bool) → ((k : ℕ) → k < n → f k ≡ true) → allBelow n f ≡ true
 unfolding allBelow
-all-intro zero f h = refl
-all-intro (suc n) f h = both (all-intro n f (λ k l. h k (omega arith))) (h n (omega arith))
+all-below-intro zero f h = refl
+all-below-intro (suc n) f h = both (all-below-intro n f (λ k l. h k (omega arith))) (h n (omega arith))
 
 last-or : (n k : ℕ) (f : ℕ → Bool) (b : Bool) → eqb k n ≡ b → k < suc n → f n ≡ true → (k < n → f k ≡ true) → f k ≡ true
 last-or n k f true e l p h = rw (eqb-true k n e) p
 last-or n k f false e l p h = h (omega (arith, eqb-false k n e))
 
-pub all-elim : (n : ℕ) (f : ℕ → Bool) → allBelow n f ≡ true → (k : ℕ) → k < n → f k ≡ true
+-- and the other way round
+pub all-below-elim : (n : ℕ) (f : ℕ → Bool) → allBelow n f ≡ true → (k : ℕ) → k < n → f k ≡ true
 unfolding allBelow
-all-elim zero f h k l = absurd (omega arith)
-all-elim (suc n) f h k l = last-or n k f (eqb k n) refl l (and-right (allBelow n f) _ h) (all-elim n f (and-left _ _ h) k)
+all-below-elim zero f h k l = absurd (omega arith)
+all-below-elim (suc n) f h k l = last-or n k f (eqb k n) refl l (and-right (allBelow n f) _ h) (all-below-elim n f (and-left _ _ h) k)

@@ -1,4 +1,4 @@
--- Document 01, "Frames": sizes, the header, and the response's header.
+-- Document 01, "Frames": sizes, the header of a frame, and the header of a response.
 use Prim.Native.Nat.{ℕ, _+_, _%_}
 use mathlib.Core.List.{List, [], _∷_, _++_}
 use mathlib.Core.Bool.{Bool, _&&_}
@@ -8,7 +8,7 @@ use Rattle.dpa.specs.Number.{low, high, wordAt}
 use Rattle.dpa.specs.declared.frame.Frame.{Frame}
 use Rattle.dpa.specs.declared.settings.Settings.{Settings}
 
--- bytes of a header, of the longest PData, and of the longest request
+-- sizes in bytes: the header, the longest PData, the longest request
 abbrev pub headerSize : ℕ
 headerSize = 6
 
@@ -18,14 +18,14 @@ pdataMax = 56
 abbrev pub longestFrame : ℕ
 longestFrame = headerSize + pdataMax
 
--- bytes of a response's header, and of the longest response
+-- sizes in bytes: the header of a response, the longest response
 abbrev pub responseHeaderSize : ℕ
 responseHeaderSize = 8
 
 abbrev pub longestResponse : ℕ
 longestResponse = responseHeaderSize + pdataMax
 
--- the NADR that every node takes, and the HWPID that every node takes
+-- the NADR that addresses every node, and the HWPID that every node accepts
 abbrev pub broadcastNadr : ℕ
 broadcastNadr = 0x00FF
 
@@ -39,11 +39,11 @@ frame a p c h = record { nadr = a; pnum = p; pcmd = c; hwpid = h }
 abbrev pub headerBytes : Frame → List ℕ
 headerBytes f = low (f .nadr) ∷ high (f .nadr) ∷ f .pnum ∷ f .pcmd ∷ low (f .hwpid) ∷ high (f .hwpid) ∷ []
 
--- the header that a list of bytes starts with
+-- the header at the start of a frame
 abbrev pub headerOf : List ℕ → Frame
 headerOf s = frame (wordAt s 0) (getD s 2 0) (getD s 3 0) (wordAt s 4)
 
--- the bytes behind the header
+-- the bytes after the header
 abbrev pub pdataOf : List ℕ → List ℕ
 pdataOf s = drop headerSize s
 
@@ -51,7 +51,7 @@ pdataOf s = drop headerSize s
 unfoldable pub frameFits : ℕ → Bool
 frameFits n = leb headerSize n && leb n longestFrame
 
--- a response's header: the node's address, PNUM, PCMD with bit 7 set, the node's HWPID, ErrN, DpaValue
+-- the header of a response: the node's address, PNUM, PCMD with bit 7 set, the node's HWPID, ErrN, DpaValue
 abbrev pub responseHeader : Settings → ℕ → ℕ → ℕ → List ℕ
 responseHeader s pnum pcmd error =
     headerBytes (frame (s .address) pnum (pcmd % 128 + 128) (s .hwpid)) ++ (error ∷ s .«dpa_value» ∷ [])

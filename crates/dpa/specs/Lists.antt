@@ -1,14 +1,14 @@
--- Lists of bytes, and tests over an index.
+-- Lists of bytes, and conditions on all elements or indices.
 use Prim.Native.Nat.{ℕ, zero, suc, _<_}
 use mathlib.Core.List.{List, [], _∷_, _++_}
 use mathlib.Core.Bool.{Bool, true, _&&_}
 use lib.ListN.{length, take, drop, getD}
 
--- xs at the front of ys; the later bytes of ys stay
+-- ys with its first bytes replaced by xs
 abbrev pub overwriteFront : List ℕ → List ℕ → List ℕ
 overwriteFront xs ys = xs ++ drop (length xs) ys
 
--- n bytes of a list from a start
+-- the n bytes of a list from a start
 abbrev pub slice : List ℕ → ℕ → ℕ → List ℕ
 slice xs start n = take n (drop start xs)
 
@@ -16,12 +16,12 @@ slice xs start n = take n (drop start xs)
 abbrev pub Bytes : List ℕ → Type 0
 Bytes s = (i : ℕ) → getD s i 0 < 256
 
--- the test holds at every number below n
+-- the test f holds for every number below n
 unfoldable pub allBelow : ℕ → (ℕ → Bool) → Bool
 allBelow zero f = true
 allBelow (suc n) f = allBelow n f && f n
 
--- every element has P
+-- P holds for every element
 abbrev pub All : {A : Type 0} → (A → Type 0) → List A → Type 0
 All P [] = Unit
 All P (x ∷ xs) = P x × All P xs

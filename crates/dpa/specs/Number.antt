@@ -1,4 +1,4 @@
--- Document 01, "Frames": two-byte numbers stand low byte first.
+-- Document 01, "Frames": two-byte numbers are stored low byte first.
 use Prim.Native.Nat.{ℕ, _+_, _*_, _/_, _%_}
 use mathlib.Core.List.{List}
 use lib.ListN.{getD}
@@ -9,10 +9,10 @@ low x = x % 256
 abbrev pub high : ℕ → ℕ
 high x = x / 256
 
--- the number of two bytes
+-- the number with a given low and high byte
 abbrev pub word : ℕ → ℕ → ℕ
-word a b = a + 256 * b
+word low high = low + 256 * high
 
--- the number of the two bytes at a place of a list
+-- the two-byte number at place i of a list
 abbrev pub wordAt : List ℕ → ℕ → ℕ
 wordAt s i = word (getD s i 0) (getD s (i + 1) 0)

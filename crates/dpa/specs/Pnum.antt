@@ -1,4 +1,4 @@
--- Document 01, "Taking a request": the peripheral numbers that no enum case stands for.
+-- Document 01, "Taking a request": the peripheral numbers other than those of the memories.
 use Prim.Native.Nat.{ℕ}
 
 abbrev pub osPnum : ℕ

@@ -5,26 +5,30 @@ use mathlib.Core.Bool.{Bool, true, _&&_, _||_}
 use lib.Dec.{leb, eqb}
 use Rattle.dpa.specs.declared.settings.Settings.{Settings}
 
--- the dimming steps
+-- the valid dimming steps
 unfoldable pub stepOk : ℕ → Bool
 stepOk s = eqb s 1 || eqb s 2 || eqb s 4 || eqb s 5 || eqb s 10 || eqb s 20 || eqb s 25 || eqb s 50 || eqb s 100
 
--- the addresses of nodes: from 1 to the last
+-- node addresses: 1 to 239
 abbrev pub lastAddress : ℕ
 lastAddress = 239
+
+-- the highest number of lamps that a node can have
+abbrev pub maxLamps : ℕ
+maxLamps = 32
 
 abbrev pub nodeAddress : ℕ → Bool
 nodeAddress a = leb 1 a && leb a lastAddress
 
--- a node's address, lamp count 1 to 32, a dimming step; HWPID and DpaValue are any
+-- a node address, a lamp count of 1 to 32, a valid dimming step; any HWPID and DpaValue
 unfoldable pub settingsOk : Settings → Bool
 settingsOk s =
-    nodeAddress (s .address) && leb 1 (s .«lamp_count») && leb (s .«lamp_count») 32 && stepOk (s .step)
+    nodeAddress (s .address) && leb 1 (s .«lamp_count») && leb (s .«lamp_count») maxLamps && stepOk (s .step)
 
 -- the same ranges as facts (proofs/Ranges: `settings-facts`, `settings-test`)
 pub record SettingsRule (s : Settings) : Type 0 where
   pub address-min : 1 ≤ s .address
   pub address-max : s .address ≤ lastAddress
   pub count-min : 1 ≤ s .«lamp_count»
-  pub count-max : s .«lamp_count» ≤ 32
+  pub count-max : s .«lamp_count» ≤ maxLamps
   pub step-valid : stepOk (s .step) ≡ true

@@ -1,4 +1,4 @@
-// ErrN of a response. Other values do not occur.
+// ErrN of a response. No other values are used.
 pub const NONE: u8 = 0;
 
 pub const FAIL: u8 = 1;

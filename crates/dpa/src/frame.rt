@@ -1,4 +1,4 @@
-// A frame's fixed fields; PData follows them. Requests and responses share the first six bytes.
+// The header of a frame. PData follows it. Requests and responses share the first six bytes.
 use crate::number::word_of;
 use crate::settings::Settings;
 ghost use mathlib.Core.Path.{_≡_};
@@ -29,7 +29,7 @@ impl Frame {
 
     pub const ANY_HWPID: u16 = 0xFFFF;
 
-    // The header's bytes.
+    // Returns the bytes of a header.
     pub fn header(nadr: u16, pnum: u8, pcmd: u8, hwpid: u16) -> [u8; Frame::HEADER]
         ensures { λ r. ⌜ r ≡ headerBytes (frame nadr pnum pcmd hwpid) ⌝ }
     {
@@ -43,7 +43,7 @@ impl Frame {
         ]
     }
 
-    // The header that a list of bytes starts with.
+    // Reads the header at the start of a frame.
     pub fn read(s: &[u8]) -> Frame
         requires { ⌜ headerSize ≤ length (now s) ⌝ }
         ensures { λ r. ⌜ r ≡ headerOf (now (s .entry)) ⌝ }
@@ -56,7 +56,7 @@ impl Frame {
         }
     }
 
-    // Whether a frame of n bytes is neither too short nor too long.
+    // Returns whether n bytes are a valid frame length.
     pub fn fits(n: usize) -> bool
         ensures { λ r. ⌜ r ≡ frameFits n ⌝ }
     {
@@ -67,18 +67,13 @@ impl Frame {
     }
 }
 
-// The eight header bytes of a response, at the front of its buffer.
+// Writes the eight header bytes of a response to the front of its buffer.
 pub fn write_header(response: &mut [u8], settings: Settings, pnum: u8, pcmd: u8, error: u8)
     requires { ⌜ responseHeaderSize ≤ length (now response) ⌝ }
     ensures { λ _. ⌜ now (response .exit) ≡ responseHeader settings pnum pcmd error ++ drop responseHeaderSize (now (response .entry)) ⌝ }
 {
-    let h = Frame::header(settings.address, pnum, pcmd % 128 + 128, settings.hwpid);
-    response[0] = h[0];
-    response[1] = h[1];
-    response[2] = h[2];
-    response[3] = h[3];
-    response[4] = h[4];
-    response[5] = h[5];
-    response[6] = error;
-    response[7] = settings.dpa_value;
+    let header = Frame::header(settings.address, pnum, pcmd % 128 + 128, settings.hwpid);
+    bytes::copy(&header, response);
+    response[Frame::HEADER] = error;
+    response[Frame::HEADER + 1] = settings.dpa_value;
 }

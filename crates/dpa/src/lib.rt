@@ -1,5 +1,4 @@
-// The DPA frame: two-byte numbers, the header, ErrN and refusal numbers, the settings that answers are made from,
-// and what a peripheral tells of its answer.
+// The DPA frame: two-byte numbers, headers, ErrN and refusal numbers, a node's settings, and the reply of a peripheral.
 pub mod error;
 pub mod frame;
 pub mod number;

@@ -1,4 +1,4 @@
-// Numbers and their bytes, low byte first.
+// Two-byte numbers, low byte first, and conversions to usize.
 ghost use mathlib.Core.Path.{_≡_};
 ghost use Prim.Native.Nat.{_+_, _*_, _<_};
 ghost use Rattle.dpa.specs.Number.{word};

@@ -1,11 +1,11 @@
-// What a node is started with.
+// The settings that a node is started with.
 ghost use mathlib.Core.Path.{_≡_};
 ghost use Rattle.dpa.specs.Settings.{stepOk, settingsOk};
 
-// The largest address of a node.
+// The highest address that a node can have.
 pub const LAST_ADDRESS: u16 = 239;
 
-// The most lamps that a node can have.
+// The highest number of lamps that a node can have.
 pub const MAX_LAMPS: u8 = 32;
 
 #[repr(C)]

@@ -7,7 +7,7 @@ use timing::slot::SlotAnswer;
 use timing::slot::earliest_send;
 use timing::slot::timeslot;
 ghost use mathlib.Core.Path.{_≡_};
-ghost use Rattle.timing.specs.Confirm.{confirmed, confirmOf};
+ghost use Rattle.timing.specs.Confirm.{confirmResult, confirmOf};
 ghost use Rattle.timing.specs.Slot.{timeslotOf, sendOf};
 ghost use Rattle.grelfint.specs.Network.{networkOf};
 
@@ -30,7 +30,7 @@ pub extern "C" fn grelfint_confirm(
     lp: bool,
     out: &mut [u8],
 ) -> LengthAnswer
-    ensures { λ r. ⌜ confirmed r (now (out .exit)) ≡ confirmOf (now (frame .entry)) «dpa_value» hops «response_hops» (networkOf lp) (now (out .entry)) ⌝ }
+    ensures { λ r. ⌜ confirmResult r (now (out .exit)) ≡ confirmOf (now (frame .entry)) «dpa_value» hops «response_hops» (networkOf lp) (now (out .entry)) ⌝ }
 {
     confirm(frame, dpa_value, hops, response_hops, network_of(lp), out)
 }

@@ -5,7 +5,8 @@ use memory::view::view_status;
 use node::record::Node;
 ghost use mathlib.Core.Path.{_≡_};
 ghost use Rattle.memory.specs.View.{viewStatus};
-ghost use Rattle.handler.specs.Request.{state, callResult, handleRequest};
+ghost use Rattle.handler.specs.Request.{state, handleRequest};
+ghost use Rattle.handler.specs.Seen.{callResult};
 
 #[no_mangle]
 pub extern "C" fn grelfint_handle_request(

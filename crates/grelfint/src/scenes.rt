@@ -4,7 +4,7 @@ use scene::compile::compile;
 use scene::compile::compile_default;
 ghost use mathlib.Core.Path.{_≡_};
 ghost use Rattle.dpa.specs.Frame.{anyHwpid};
-ghost use Rattle.scene.specs.Call.{compileOf, compiledAs};
+ghost use Rattle.scene.specs.Call.{compileFor, compileResult};
 
 #[no_mangle]
 pub extern "C" fn grelfint_compile(
@@ -14,7 +14,7 @@ pub extern "C" fn grelfint_compile(
     hwpid: u16,
     out: &mut [u8],
 ) -> CompileAnswer
-    ensures { λ r. ⌜ compiledAs r (now (out .exit)) ≡ compileOf (now (book .entry)) scene address hwpid (now (out .entry)) ⌝ }
+    ensures { λ r. ⌜ compileResult r (now (out .exit)) ≡ compileFor (now (book .entry)) scene address hwpid (now (out .entry)) ⌝ }
 {
     compile(book, scene, address, hwpid, out)
 }
@@ -26,7 +26,7 @@ pub extern "C" fn grelfint_compile_default(
     address: u16,
     out: &mut [u8],
 ) -> CompileAnswer
-    ensures { λ r. ⌜ compiledAs r (now (out .exit)) ≡ compileOf (now (book .entry)) scene address anyHwpid (now (out .entry)) ⌝ }
+    ensures { λ r. ⌜ compileResult r (now (out .exit)) ≡ compileFor (now (book .entry)) scene address anyHwpid (now (out .entry)) ⌝ }
 {
     compile_default(book, scene, address, out)
 }

@@ -1,4 +1,4 @@
--- A request whose ErrN is not 0, and a call that is refused, leave the node and both memories as they were.
+-- A request with an error and a refused call leave the node and both memories as they were.
 use mathlib.Core.Path.{_≡_, refl, ap, sym, _∙_}
 use mathlib.Core.List.{List, []}
 use Prim.Native.Nat.{ℕ}
@@ -13,29 +13,29 @@ use Rattle.checksum.specs.Check.{codeCheck}
 use Rattle.checksum.proofs.Checks.{check-harmless}
 use Rattle.batch.specs.Batch.{Item, reading, listError}
 use Rattle.node.specs.Node.{withLamps}
-use Rattle.handler.specs.Request.{State, withNode, memoryOf, withMemory, perform, hwpidMatches, executeEntry, loadReport, noReport, Outcome, plain, batchRequest, codeCheckRequest, execute, itemOf, CallResult, noResponse, refusalOf, handleRequest}
-use Rattle.handler.proofs.Performing.{memory-same, perform-cases}
-use Rattle.handler.proofs.Executing.{os-cases, execute-cases}
-use Rattle.handler.proofs.Handling.{call-refused, call-cases}
+use Rattle.handler.specs.Request.{State, withNode, memoryOf, withMemory, peripheralRequest, hwpidMatches, executeEntry, loadReport, noReport, Outcome, replyOnly, batchRequest, codeCheckRequest, execute, frameItem, CallResult, unhandledResult, callRefusal, handleRequest}
+use Rattle.handler.proofs.Peripherals.{memory-same, peripheral-cases}
+use Rattle.handler.proofs.Outcomes.{os-cases, execute-cases}
+use Rattle.handler.proofs.Calls.{call-refused, call-cases}
 
--- seen on a larger state, a harmless request is harmless
-harmless-within : {S T : Type 0} (put : S → T) (s : S) (t : T) (a : Reply S) → put s ≡ t → Harmless s a → Harmless t (mapState put a)
-harmless-within put s t a e h n = (ap put (h n .0) ∙ e, h n .1)
+-- a harmless request to a part of a state is harmless to the state
+harmless-mapped : {S T : Type 0} (put : S → T) (s : S) (t : T) (a : Reply S) → put s ≡ t → Harmless s a → Harmless t (mapState put a)
+harmless-mapped put s t a e h n = (ap put (h n .0) ∙ e, h n .1)
 
--- a request to a peripheral that has an error changes nothing and has no data
-pub perform-harmless : (pnum pcmd : ℕ) (d : List ℕ) (st : State) → Harmless st (perform pnum pcmd d st)
-perform-harmless pnum pcmd d st =
-    perform-cases pnum pcmd d st (λ (a : Reply State). Harmless st a)
-    (λ m. harmless-within (withMemory m st) (memoryOf m st) st _ (memory-same m st) (request-harmless m d (memoryOf m st) pcmd))
-    (harmless-within (λ ls. withNode st (withLamps (st .node) ls)) (st .node .lamps) st _ refl (lights.request-harmless (st .node .settings) d (st .node .lamps) pcmd))
+-- a request to a peripheral with an error changes nothing and has no data
+pub peripheral-harmless : (pnum pcmd : ℕ) (d : List ℕ) (st : State) → Harmless st (peripheralRequest pnum pcmd d st)
+peripheral-harmless pnum pcmd d st =
+    peripheral-cases pnum pcmd d st (λ (a : Reply State). Harmless st a)
+    (λ m. harmless-mapped (withMemory m st) (memoryOf m st) st _ (memory-same m st) (request-harmless m d (memoryOf m st) pcmd))
+    (harmless-mapped (λ ls. withNode st (withLamps (st .node) ls)) (st .node .lamps) st _ refl (lights.request-harmless (st .node .settings) d (st .node .lamps) pcmd))
     (λ e n. (refl, refl))
 
--- an entry of a batch that has an error changes nothing and has no data
+-- an entry of a batch with an error changes nothing and has no data
 pub entry-harmless : (i : Item) (st : State) → Harmless st (executeEntry i st)
 unfolding executeEntry
 entry-harmless i st =
     by-cond (λ (a : Reply State). Harmless st a) (hwpidMatches (st .node .settings) (i .hwpid)) _ _
-    (λ _. perform-harmless (i .pnum) (i .pcmd) (i .pdata) st) (λ _ n. (refl, refl))
+    (λ _. peripheral-harmless (i .pnum) (i .pcmd) (i .pdata) st) (λ _ n. (refl, refl))
 
 -- a batch that cannot be read runs nothing
 pub batch-unread : (d : List ℕ) (st : State) → (listError (reading d .check) ≡ 0 → ⊥) → (batchRequest d st .after ≡ st) × (batchRequest d st .entries ≡ [])
@@ -44,34 +44,34 @@ batch-unread d st n =
     by-cond (λ (a : Outcome). (a .after ≡ st) × (a .entries ≡ [])) (eqb (length d) 0) _ _ (λ _. (refl, refl))
     (λ _. rw (ne-eqb (listError (reading d .check)) 0 n) (refl, refl))
 
--- an outcome with an error: nothing changed, no data, no entry run, nothing to report
-abbrev Clean : State → Outcome → Type 0
-Clean st a = (a .error ≡ 0 → ⊥) → a ≡ plain (refused st (a .error))
+-- an outcome with an error: nothing changed, no data, no entry ran, nothing to report
+abbrev HarmlessOutcome : State → Outcome → Type 0
+HarmlessOutcome st a = (a .error ≡ 0 → ⊥) → a ≡ replyOnly (refused st (a .error))
 
-check-clean : (d : List ℕ) (st : State) → Clean st (codeCheckRequest d st)
+check-outcome-harmless : (d : List ℕ) (st : State) → HarmlessOutcome st (codeCheckRequest d st)
 unfolding codeCheckRequest
-check-clean d st n =
+check-outcome-harmless d st n =
     let h = check-harmless (st .external) d n in
     λ j. record { after = st; error = codeCheck (st .external) d .error; bytes = h .1 j; entries = []; report = loadReport (h .0 j) }
 
-perform-clean : (pnum pcmd : ℕ) (d : List ℕ) (st : State) → Clean st (plain (perform pnum pcmd d st))
-perform-clean pnum pcmd d st n =
-    let h = perform-harmless pnum pcmd d st n in
-    λ j. record { after = h .0 j; error = perform pnum pcmd d st .error; bytes = h .1 j; entries = []; report = noReport }
+peripheral-outcome-harmless : (pnum pcmd : ℕ) (d : List ℕ) (st : State) → HarmlessOutcome st (replyOnly (peripheralRequest pnum pcmd d st))
+peripheral-outcome-harmless pnum pcmd d st n =
+    let h = peripheral-harmless pnum pcmd d st n in
+    λ j. record { after = h .0 j; error = peripheralRequest pnum pcmd d st .error; bytes = h .1 j; entries = []; report = noReport }
 
 -- a request with an error changes nothing, has no data, ran no entry and has nothing to report
-pub execute-harmless : (i : Item) (st : State) → (execute i st .error ≡ 0 → ⊥) → execute i st ≡ plain (refused st (execute i st .error))
+pub execute-harmless : (i : Item) (st : State) → (execute i st .error ≡ 0 → ⊥) → execute i st ≡ replyOnly (refused st (execute i st .error))
 execute-harmless i st =
-    execute-cases (Clean st) st (λ e n. refl) i
-    (os-cases (Clean st) st (λ e n. refl) (i .pcmd) (i .pdata) (λ n. absurd (n refl)) (check-clean (i .pdata) st))
-    (perform-clean (i .pnum) (i .pcmd) (i .pdata) st)
+    execute-cases (HarmlessOutcome st) st (λ e n. refl) i
+    (os-cases (HarmlessOutcome st) st (λ e n. refl) (i .pcmd) (i .pdata) (λ n. absurd (n refl)) (check-outcome-harmless (i .pdata) st))
+    (peripheral-outcome-harmless (i .pnum) (i .pcmd) (i .pdata) st)
 
--- sent or not, a frame whose request has an error leaves the state as it was
-pub error-keeps : (f : List ℕ) (st : State) (o : List ℕ) → (execute (itemOf f) st .error ≡ 0 → ⊥) → handleRequest f st o .after ≡ st
+-- a call whose request has an error leaves the state as it was, whether the ErrN is sent or not
+pub error-keeps : (f : List ℕ) (st : State) (o : List ℕ) → (execute (frameItem f) st .error ≡ 0 → ⊥) → handleRequest f st o .after ≡ st
 error-keeps f st o n =
-    let e : execute (itemOf f) st .after ≡ st = ap (λ (a : Outcome). a .after) (execute-harmless (itemOf f) st n) in
+    let e : execute (frameItem f) st .after ≡ st = ap (λ (a : Outcome). a .after) (execute-harmless (frameItem f) st n) in
     call-cases (λ (a : CallResult). a .after ≡ st) f st o (λ k. refl) (λ _. e) (λ _. e)
 
--- a refused call hands everything back as it came
-pub refused-keeps : (f : List ℕ) (st : State) (o : List ℕ) → (refusalOf f st o ≡ 0 → ⊥) → handleRequest f st o ≡ noResponse st (refusalOf f st o) o
+-- a refused call changes nothing
+pub refused-keeps : (f : List ℕ) (st : State) (o : List ℕ) → (callRefusal f st o ≡ 0 → ⊥) → handleRequest f st o ≡ unhandledResult st (callRefusal f st o) o
 refused-keeps f st o n = sym (call-refused f st o refl n)

@@ -1,8 +1,8 @@
-pub mod Performing
-pub mod Entering
-pub mod Executing
-pub mod Handling
+pub mod Peripherals
+pub mod BatchEntries
+pub mod Outcomes
+pub mod Calls
 pub mod Soundness
-pub mod Listing
+pub mod Batches
 pub mod Sizes
 pub mod Errors

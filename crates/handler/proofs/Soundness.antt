@@ -1,4 +1,4 @@
--- A sound node with memories of their sizes stays so under every request.
+-- Every request keeps the state sound.
 use mathlib.Core.Path.{_≡_, _∙_}
 use mathlib.Core.List.{List}
 use mathlib.Core.Bool.{true}
@@ -15,71 +15,71 @@ use Rattle.batch.proofs.Running.{items-keep}
 use Rattle.lights.specs.Lights.{lightsRequest}
 use Rattle.node.specs.declared.record.Node.{Node}
 use Rattle.node.specs.Node.{nodeOk, withLamps}
-use Rattle.handler.specs.Request.{State, StateRule, withNode, memoryOf, withMemory, perform, hwpidMatches, executeEntry, entryAfter, Outcome, codeCheckRequest, execute, itemOf, CallResult, refusalOf, handleRequest}
-use Rattle.handler.proofs.Performing.{perform-cases}
-use Rattle.handler.proofs.Executing.{os-cases, execute-cases}
-use Rattle.handler.proofs.Handling.{call-cases, accepted-rule}
+use Rattle.handler.specs.Request.{State, SoundState, withNode, memoryOf, withMemory, peripheralRequest, hwpidMatches, executeEntry, entryAfter, Outcome, codeCheckRequest, execute, frameItem, CallResult, callRefusal, handleRequest}
+use Rattle.handler.proofs.Peripherals.{peripheral-cases}
+use Rattle.handler.proofs.Outcomes.{os-cases, execute-cases}
+use Rattle.handler.proofs.Calls.{call-cases, accepted-sound}
 use Rattle.node.proofs.Nodes.{node-ram, ram-sound, lamps-sound, node-lamps, node-fits}
 
--- a sound node in the place of another
-node-rule : (st : State) → StateRule st → {n : Node} → nodeOk n ≡ true → StateRule (withNode st n)
-node-rule st h e = record { node-ok = e; eeprom-size = h .eeprom-size; external-size = h .external-size }
+-- with another sound node
+with-node-sound : (st : State) → SoundState st → {n : Node} → nodeOk n ≡ true → SoundState (withNode st n)
+with-node-sound st h e = record { node-ok = e; eeprom-size = h .eeprom-size; external-size = h .external-size }
 
--- other lamps of a sound node, by a lights request
+-- a lights request keeps the node sound
 lights-sound : (n : Node) (pcmd : ℕ) (d : List ℕ) → nodeOk n ≡ true → nodeOk (withLamps n (lightsRequest (n .settings) pcmd d (n .lamps) .after)) ≡ true
 lights-sound n pcmd d e =
     lamps-sound n (lightsRequest (n .settings) pcmd d (n .lamps) .after) e (lamps-stay (n .settings) d (n .lamps) pcmd ∙ node-lamps n e)
     (λ k h. request-keeps (n .settings) d (n .lamps) (node-lamps n e) pcmd k (node-fits n e k h))
 
-abbrev Kept : Reply State → Type 0
-Kept a = StateRule (a .after)
+abbrev ReplySound : Reply State → Type 0
+ReplySound a = SoundState (a .after)
 
-abbrev RuleAfter : Outcome → Type 0
-RuleAfter a = StateRule (a .after)
+abbrev OutcomeSound : Outcome → Type 0
+OutcomeSound a = SoundState (a .after)
 
--- the memories have their sizes
-memory-size : (m : Memory) (st : State) → StateRule st → length (memoryOf m st) ≡ sizeOf m
+-- in a sound state each memory has its size
+memory-size : (m : Memory) (st : State) → SoundState st → length (memoryOf m st) ≡ sizeOf m
 memory-size Memory.Eeprom st h = h .eeprom-size
 memory-size Memory.Ram st h = node-ram (st .node) (h .node-ok)
 memory-size Memory.External st h = h .external-size
 
--- and keep the rule with other bytes of that size in one of them
-memory-rule : (m : Memory) (st : State) → StateRule st → (bytes : List ℕ) → length bytes ≡ sizeOf m → StateRule (withMemory m st bytes)
-memory-rule Memory.Eeprom st h bytes e = record { node-ok = h .node-ok; eeprom-size = e; external-size = h .external-size }
-memory-rule Memory.Ram st h bytes e = node-rule st h (ram-sound (st .node) bytes (h .node-ok) e)
-memory-rule Memory.External st h bytes e = record { node-ok = h .node-ok; eeprom-size = h .eeprom-size; external-size = e }
+-- with other bytes of the same size in a memory
+with-memory-sound : (m : Memory) (st : State) → SoundState st → (bytes : List ℕ) → length bytes ≡ sizeOf m → SoundState (withMemory m st bytes)
+with-memory-sound Memory.Eeprom st h bytes e = record { node-ok = h .node-ok; eeprom-size = e; external-size = h .external-size }
+with-memory-sound Memory.Ram st h bytes e = with-node-sound st h (ram-sound (st .node) bytes (h .node-ok) e)
+with-memory-sound Memory.External st h bytes e = record { node-ok = h .node-ok; eeprom-size = h .eeprom-size; external-size = e }
 
--- under a request to a peripheral
-pub perform-sound : (pnum pcmd : ℕ) (d : List ℕ) (st : State) → StateRule st → Kept (perform pnum pcmd d st)
-perform-sound pnum pcmd d st h =
-    perform-cases pnum pcmd d st Kept
-    (λ m. let size = memory-size m st h in memory-rule m st h _ (request-length m d (memoryOf m st) pcmd size ∙ size))
-    (node-rule st h (lights-sound (st .node) pcmd d (h .node-ok)))
+-- a request to a peripheral keeps the state sound
+pub peripheral-sound : (pnum pcmd : ℕ) (d : List ℕ) (st : State) → SoundState st → ReplySound (peripheralRequest pnum pcmd d st)
+peripheral-sound pnum pcmd d st h =
+    peripheral-cases pnum pcmd d st ReplySound
+    (λ m. let size = memory-size m st h in with-memory-sound m st h _ (request-length m d (memoryOf m st) pcmd size ∙ size))
+    (with-node-sound st h (lights-sound (st .node) pcmd d (h .node-ok)))
     (λ e. h)
 
--- under an entry of a batch
-pub entry-sound : (i : Item) (st : State) → StateRule st → StateRule (entryAfter i st)
+-- an entry of a batch keeps the state sound
+pub entry-sound : (i : Item) (st : State) → SoundState st → SoundState (entryAfter i st)
 unfolding executeEntry
 entry-sound i st h =
-    by-cond Kept (hwpidMatches (st .node .settings) (i .hwpid)) _ _ (λ _. perform-sound (i .pnum) (i .pcmd) (i .pdata) st h) (λ _. h)
+    by-cond ReplySound (hwpidMatches (st .node .settings) (i .hwpid)) _ _ (λ _. peripheral-sound (i .pnum) (i .pcmd) (i .pdata) st h) (λ _. h)
 
--- under every request that is carried out
-pub execute-sound : (i : Item) (st : State) → StateRule st → RuleAfter (execute i st)
+-- executing a request keeps the state sound
+pub execute-sound : (i : Item) (st : State) → SoundState st → OutcomeSound (execute i st)
 unfolding codeCheckRequest
 execute-sound i st h =
-    execute-cases RuleAfter st (λ e. h) i
-    (os-cases RuleAfter st (λ e. h) (i .pcmd) (i .pdata) (items-keep entryAfter StateRule entry-sound (reading (i .pdata) .items) st h) h)
-    (perform-sound (i .pnum) (i .pcmd) (i .pdata) st h)
+    execute-cases OutcomeSound st (λ e. h) i
+    (os-cases OutcomeSound st (λ e. h) (i .pcmd) (i .pdata) (items-keep entryAfter SoundState entry-sound (reading (i .pdata) .items) st h) h)
+    (peripheral-sound (i .pnum) (i .pcmd) (i .pdata) st h)
 
--- a sound node with memories of their sizes stays so under every call
-pub request-rule : (f : List ℕ) (st : State) (o : List ℕ) → StateRule st → StateRule (handleRequest f st o .after)
-request-rule f st o h =
-    let k = execute-sound (itemOf f) st h in
-    call-cases (λ (a : CallResult). StateRule (a .after)) f st o (λ _. h) (λ _. k) (λ _. k)
+-- every call keeps the state sound
+pub request-sound : (f : List ℕ) (st : State) (o : List ℕ) → SoundState st → SoundState (handleRequest f st o .after)
+request-sound f st o h =
+    let k = execute-sound (frameItem f) st h in
+    call-cases (λ (a : CallResult). SoundState (a .after)) f st o (λ _. h) (λ _. k) (λ _. k)
 
--- a sound node stays sound under every call, also where a memory has another size
-pub request-sound : (f : List ℕ) (st : State) (o : List ℕ) → nodeOk (st .node) ≡ true → nodeOk (handleRequest f st o .after .node) ≡ true
-request-sound f st o e =
-    let sound : refusalOf f st o ≡ 0 → nodeOk (execute (itemOf f) st .after .node) ≡ true =
-    λ z. execute-sound (itemOf f) st (accepted-rule (st .node) (st .eeprom) (st .external) (length f) (length o) z) .node-ok in
+-- every call keeps the node sound, also if a memory has another size
+pub request-node-sound : (f : List ℕ) (st : State) (o : List ℕ) → nodeOk (st .node) ≡ true → nodeOk (handleRequest f st o .after .node) ≡ true
+request-node-sound f st o e =
+    let sound : callRefusal f st o ≡ 0 → nodeOk (execute (frameItem f) st .after .node) ≡ true =
+    λ z. execute-sound (frameItem f) st (accepted-sound (st .node) (st .eeprom) (st .external) (length f) (length o) z) .node-ok in
     call-cases (λ (a : CallResult). nodeOk (a .after .node) ≡ true) f st o (λ _. e) sound sound

@@ -1,4 +1,5 @@
-// What a call reports of a request.
+// What `handle_request` returns.
+use crate::reply::Report;
 use dpa::refusal;
 use lights::lamp::LAMPS;
 use lights::lamp::Lamp;
@@ -8,9 +9,11 @@ use node::record::node_from_parts;
 ghost use mathlib.Core.Path.{_≡_};
 ghost use mathlib.Core.Bool.{true, false};
 ghost use Rattle.node.specs.Node.{nodeFromParts};
-ghost use Rattle.handler.specs.Request.{noReport, answerOf};
+ghost use Rattle.handler.specs.Request.{noReport};
+ghost use Rattle.handler.specs.Seen.{requestAnswer};
 
-// The refusal, the response's length, the load mark, whether the request was for this node or for all, and the node afterwards.
+// The refusal, the length of the response, the load mark, whether the frame was addressed to this node or to all, and the node
+// after the call.
 #[repr(C)]
 pub struct RequestAnswer {
     pub refusal: u8,
@@ -20,31 +23,22 @@ pub struct RequestAnswer {
     pub node: Node,
 }
 
-// What is reported of a request beside its answer: the load mark.
-pub struct Report {
-    pub load: bool,
-}
-
-impl Report {
-    pub const NONE: Report = Report { load: false };
-}
-
-// The report, the response's length, and the lamps afterwards.
+// A request that was executed: its report, the length of the response, and the lamps after it.
 pub struct Handled {
     pub report: Report,
     pub length: usize,
     pub lamps: [Lamp; LAMPS],
 }
 
-// The call's answer has the report's fields among its own.
-fn answer_of(
+// The C struct has the fields of the report among its own.
+fn request_answer(
     refusal: u8,
     length: usize,
     report: Report,
     addressed: bool,
     node: Node,
 ) -> RequestAnswer
-    ensures { λ r. ⌜ r ≡ answerOf refusal length report addressed node ⌝ }
+    ensures { λ r. ⌜ r ≡ requestAnswer refusal length report addressed node ⌝ }
 {
     RequestAnswer {
         refusal,
@@ -55,18 +49,18 @@ fn answer_of(
     }
 }
 
-// Nothing done: not this node's, or refused.
+// Refused, or addressed to another node: nothing was done.
 pub fn answer_unhandled(node: Node, refusal: u8) -> RequestAnswer
-    ensures { λ r. ⌜ r ≡ answerOf refusal 0 noReport false node ⌝ }
+    ensures { λ r. ⌜ r ≡ requestAnswer refusal 0 noReport false node ⌝ }
 {
-    answer_of(refusal, 0, Report::NONE, false, node)
+    request_answer(refusal, 0, Report::NONE, false, node)
 }
 
-// Carried out: not refused, and the node put together again.
+// Executed: the node is put together again from its parts.
 pub fn answer_handled(fixed: ReadOnly, done: Handled, ram: [u8; 48]) -> RequestAnswer
-    ensures { λ r. ⌜ r ≡ answerOf 0 (done .length) (done .report) true (nodeFromParts fixed (done .lamps) ram) ⌝ }
+    ensures { λ r. ⌜ r ≡ requestAnswer 0 (done .length) (done .report) true (nodeFromParts fixed (done .lamps) ram) ⌝ }
 {
     let lamps = done.lamps;
     let node = node_from_parts(fixed, lamps, ram);
-    answer_of(refusal::NONE, done.length, done.report, true, node)
+    request_answer(refusal::NONE, done.length, done.report, true, node)
 }

@@ -1,29 +1,20 @@
-// The entries of a batch, one after the other.
+// Runs the entries of a batch in order.
+use crate::hwpid::hwpid_matches;
 use crate::peripheral::peripheral;
 use batch::entry::HEAD;
 use batch::entry::NextEntry;
 use batch::entry::at_end;
 use batch::entry::next_entry;
 use dpa::frame::Frame;
-use dpa::settings::Settings;
 use lights::lamp::LAMPS;
 use lights::lamp::Lamp;
 use node::record::ReadOnly;
 ghost use mathlib.Core.Path.{_≡_};
 ghost use Rattle.batch.specs.Batch.{item, reading, runItems};
-ghost use Rattle.handler.specs.Request.{stateFromParts, StateRule, hwpidMatches, entryAfter};
+ghost use Rattle.handler.specs.Request.{SoundState, entryAfter};
+ghost use Rattle.handler.specs.Seen.{stateFromParts};
 
-// Whether a request's HWPID is the node's or the wildcard.
-pub fn hwpid_matches(settings: Settings, hwpid: u16) -> bool
-    ensures { λ r. ⌜ r ≡ hwpidMatches settings hwpid ⌝ }
-{
-    if hwpid == settings.hwpid {
-        return true;
-    }
-    hwpid == Frame::ANY_HWPID
-}
-
-// One entry. Its answer is not sent: the data goes to a scratch buffer.
+// Runs one entry. Entries get no response, so the data goes to a scratch buffer.
 fn run_entry(
     fixed: ReadOnly,
     lamps: [Lamp; LAMPS],
@@ -35,7 +26,7 @@ fn run_entry(
     eeprom: &mut [u8],
     external: &mut [u8],
 ) -> [Lamp; LAMPS]
-    requires { ⌜ StateRule (stateFromParts fixed lamps (now ram) (now eeprom) (now external)) ⌝ }
+    requires { ⌜ SoundState (stateFromParts fixed lamps (now ram) (now eeprom) (now external)) ⌝ }
     ensures { λ r. ⌜ stateFromParts fixed r (now (ram .exit)) (now (eeprom .exit)) (now (external .exit))
         ≡ entryAfter (item pnum pcmd hwpid (now (pdata .entry))) (stateFromParts fixed lamps (now (ram .entry)) (now (eeprom .entry)) (now (external .entry))) ⌝ }
 {
@@ -57,7 +48,7 @@ fn run_entry(
     lamps
 }
 
-// The entries that a list reads as, each with the lamps and the memories that the one before left.
+// Runs the entries of a list, each on the lamps and memories that the previous one left.
 pub fn run_list(
     fixed: ReadOnly,
     mut lamps: [Lamp; LAMPS],
@@ -66,7 +57,7 @@ pub fn run_list(
     eeprom: &mut [u8],
     external: &mut [u8],
 ) -> [Lamp; LAMPS]
-    requires { ⌜ StateRule (stateFromParts fixed lamps (now ram) (now eeprom) (now external)) ⌝ }
+    requires { ⌜ SoundState (stateFromParts fixed lamps (now ram) (now eeprom) (now external)) ⌝ }
     ensures { λ r. ⌜ stateFromParts fixed r (now (ram .exit)) (now (eeprom .exit)) (now (external .exit))
         ≡ runItems entryAfter (reading (now (list .entry)) .items) (stateFromParts fixed lamps (now (ram .entry)) (now (eeprom .entry)) (now (external .entry))) ⌝ }
 {

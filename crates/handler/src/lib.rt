@@ -1,6 +1,8 @@
-// Taking a request: the peripherals, the entries of a batch, OS requests, and the call from frame to response.
+// Handling a request: from the frame through the peripherals and the entries of a batch to the response.
 pub mod answer;
 pub mod entries;
+pub mod hwpid;
 pub mod os;
 pub mod peripheral;
+pub mod reply;
 pub mod request;

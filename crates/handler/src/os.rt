@@ -1,6 +1,8 @@
 // OS 02: batch and code check.
-use crate::answer::Report;
 use crate::entries::run_list;
+use crate::reply::Report;
+use crate::reply::RequestReply;
+use crate::reply::without_data;
 use batch::list::ListCheck;
 use batch::list::check_list;
 use batch::list::list_error;
@@ -14,33 +16,15 @@ ghost use mathlib.Core.List.{List};
 ghost use Prim.Native.Nat.{ℕ, _≤_};
 ghost use lib.ListN.{length};
 ghost use Rattle.dpa.specs.Frame.{pdataMax};
-ghost use Rattle.handler.specs.Request.{noReport, stateFromParts, StateRule, outcomeSeen, outcomeInBuffer, batchRequest, osRequest};
+ghost use Rattle.handler.specs.Request.{SoundState, batchRequest, osRequest};
+ghost use Rattle.handler.specs.Seen.{stateFromParts, outcomeSeen, outcomeInBuffer};
 
-pub const BATCH: u8 = 5;
+// PCMDs.
+pub const BATCH: u8 = 0x05;
 
 pub const CODE_CHECK: u8 = 0x0A;
 
-// ErrN, the report, the length of the answer's data, and the lamps after a request.
-pub struct RequestReply {
-    pub error: u8,
-    pub report: Report,
-    pub length: usize,
-    pub lamps: [Lamp; LAMPS],
-}
-
-// A request that answers no data.
-pub fn without_data(lamps: [Lamp; LAMPS], error: u8) -> RequestReply
-    ensures { λ r. ⌜ r ≡ record { error = error; report = noReport; length = 0; lamps = lamps } ⌝ }
-{
-    RequestReply {
-        error,
-        report: Report::NONE,
-        length: 0,
-        lamps,
-    }
-}
-
-// A list that cannot be read runs nothing.
+// Checks the whole list before the first entry runs, so a broken list changes nothing.
 fn run_batch(
     fixed: ReadOnly,
     lamps: [Lamp; LAMPS],
@@ -49,7 +33,7 @@ fn run_batch(
     eeprom: &mut [u8],
     external: &mut [u8],
 ) -> RequestReply
-    requires { ⌜ StateRule (stateFromParts fixed lamps (now ram) (now eeprom) (now external)) ⌝ }
+    requires { ⌜ SoundState (stateFromParts fixed lamps (now ram) (now eeprom) (now external)) ⌝ }
     ensures { λ r. ⌜ ((o : List ℕ) → outcomeSeen fixed r (now (ram .exit)) (now (eeprom .exit)) (now (external .exit)) o
         ≡ outcomeInBuffer (batchRequest (now (pdata .entry)) (stateFromParts fixed lamps (now (ram .entry)) (now (eeprom .entry)) (now (external .entry)))) o) ⌝ }
 {
@@ -64,6 +48,7 @@ fn run_batch(
     without_data(after, error::NONE)
 }
 
+// Executes an OS request.
 pub fn os(
     fixed: ReadOnly,
     lamps: [Lamp; LAMPS],
@@ -74,7 +59,7 @@ pub fn os(
     external: &mut [u8],
     out: &mut [u8],
 ) -> RequestReply
-    requires { ⌜ StateRule (stateFromParts fixed lamps (now ram) (now eeprom) (now external)) × (pdataMax ≤ length (now out)) ⌝ }
+    requires { ⌜ SoundState (stateFromParts fixed lamps (now ram) (now eeprom) (now external)) × (pdataMax ≤ length (now out)) ⌝ }
     ensures { λ r. ⌜ outcomeSeen fixed r (now (ram .exit)) (now (eeprom .exit)) (now (external .exit)) (now (out .exit))
         ≡ outcomeInBuffer (osRequest pcmd (now (pdata .entry)) (stateFromParts fixed lamps (now (ram .entry)) (now (eeprom .entry)) (now (external .entry)))) (now (out .entry)) ⌝ }
 {

@@ -1,7 +1,7 @@
-// A request to a memory or to the lights, from PNUM on.
+// Requests to the memories and the lights.
+use crate::reply::memory_reply;
 use dpa::error;
 use dpa::pnum;
-use dpa::reply::Reply;
 use lights::lamp::LAMPS;
 use lights::lamp::Lamp;
 use lights::request::LampsReply;
@@ -12,20 +12,10 @@ ghost use Prim.Native.Nat.{_≤_};
 ghost use lib.ListN.{length};
 ghost use Rattle.dpa.specs.Frame.{pdataMax};
 ghost use Rattle.dpa.specs.Reply.{replySeen, replyInBuffer};
-ghost use Rattle.handler.specs.Request.{stateFromParts, StateRule, perform};
+ghost use Rattle.handler.specs.Request.{SoundState, peripheralRequest};
+ghost use Rattle.handler.specs.Seen.{stateFromParts};
 
-// A request to a memory leaves the lamps alone.
-fn memory_reply(lamps: [Lamp; LAMPS], reply: Reply) -> LampsReply
-    ensures { λ r. ⌜ r ≡ record { error = reply .error; length = reply .length; lamps = lamps } ⌝ }
-{
-    LampsReply {
-        error: reply.error,
-        length: reply.length,
-        lamps,
-    }
-}
-
-// The answer's data goes to the front of `out`.
+// Executes a request to the peripheral of this PNUM and writes the response data to the front of `out`.
 pub fn peripheral(
     fixed: ReadOnly,
     lamps: [Lamp; LAMPS],
@@ -37,9 +27,9 @@ pub fn peripheral(
     external: &mut [u8],
     out: &mut [u8],
 ) -> LampsReply
-    requires { ⌜ StateRule (stateFromParts fixed lamps (now ram) (now eeprom) (now external)) × (pdataMax ≤ length (now out)) ⌝ }
+    requires { ⌜ SoundState (stateFromParts fixed lamps (now ram) (now eeprom) (now external)) × (pdataMax ≤ length (now out)) ⌝ }
     ensures { λ r. ⌜ replySeen (stateFromParts fixed (r .lamps) (now (ram .exit)) (now (eeprom .exit)) (now (external .exit))) (r .error) (r .length) (now (out .exit))
-        ≡ replyInBuffer (perform pnum pcmd (now (pdata .entry)) (stateFromParts fixed lamps (now (ram .entry)) (now (eeprom .entry)) (now (external .entry)))) (now (out .entry)) ⌝ }
+        ≡ replyInBuffer (peripheralRequest pnum pcmd (now (pdata .entry)) (stateFromParts fixed lamps (now (ram .entry)) (now (eeprom .entry)) (now (external .entry)))) (now (out .entry)) ⌝ }
 {
     if pnum == pnum::EEPROM {
         let reply = memory::request::request(Memory::Eeprom, eeprom, pcmd, pdata, out);

@@ -1,14 +1,14 @@
-// Taking a request: from the frame to the response buffer.
+// `handle_request`: refusals, the address, the HWPID, then the peripherals and the response.
 use crate::answer::Handled;
-use crate::answer::Report;
 use crate::answer::RequestAnswer;
 use crate::answer::answer_handled;
 use crate::answer::answer_unhandled;
-use crate::entries::hwpid_matches;
-use crate::os::RequestReply;
+use crate::hwpid::hwpid_matches;
 use crate::os::os;
-use crate::os::without_data;
 use crate::peripheral::peripheral;
+use crate::reply::RequestReply;
+use crate::reply::peripheral_reply;
+use crate::reply::without_data;
 use dpa::error;
 use dpa::frame::Frame;
 use dpa::frame::write_header;
@@ -16,7 +16,6 @@ use dpa::pnum;
 use dpa::refusal;
 use lights::lamp::LAMPS;
 use lights::lamp::Lamp;
-use lights::request::LampsReply;
 use memory::block::Memory;
 use memory::block::size_of;
 use node::record::Node;
@@ -29,22 +28,10 @@ ghost use Prim.Native.Nat.{ℕ, _≤_};
 ghost use lib.ListN.{length};
 ghost use Rattle.dpa.specs.Frame.{headerSize, pdataMax, longestResponse};
 ghost use Rattle.batch.specs.Batch.{item};
-ghost use Rattle.handler.specs.Request.{state, noReport, stateFromParts, StateRule, outcomeSeen, outcomeInBuffer, execute, callResult, callResultFromParts, broadcast, respond, handleFrame, requestRefusal, handleRequest};
+ghost use Rattle.handler.specs.Request.{state, SoundState, execute, broadcastResult, unicastResult, handleFrame, requestRefusal, handleRequest};
+ghost use Rattle.handler.specs.Seen.{stateFromParts, outcomeSeen, outcomeInBuffer, callResult, callResultFromParts};
 
-// A request to a peripheral has nothing to report.
-fn peripheral_reply(reply: LampsReply) -> RequestReply
-    ensures { λ r. ⌜ r ≡ record { error = reply .error; report = noReport; length = reply .length; lamps = reply .lamps } ⌝ }
-{
-    let lamps = reply.lamps;
-    RequestReply {
-        error: reply.error,
-        report: Report::NONE,
-        length: reply.length,
-        lamps,
-    }
-}
-
-// A request from HWPID on. The answer's data goes to the front of `out`.
+// Checks the HWPID, then executes the request. The response data goes to the front of `out`.
 fn execute(
     fixed: ReadOnly,
     lamps: [Lamp; LAMPS],
@@ -55,7 +42,7 @@ fn execute(
     external: &mut [u8],
     out: &mut [u8],
 ) -> RequestReply
-    requires { ⌜ StateRule (stateFromParts fixed lamps (now ram) (now eeprom) (now external)) × (pdataMax ≤ length (now out)) ⌝ }
+    requires { ⌜ SoundState (stateFromParts fixed lamps (now ram) (now eeprom) (now external)) × (pdataMax ≤ length (now out)) ⌝ }
     ensures { λ r. ⌜ outcomeSeen fixed r (now (ram .exit)) (now (eeprom .exit)) (now (external .exit)) (now (out .exit))
         ≡ outcomeInBuffer (execute (item (header .pnum) (header .pcmd) (header .hwpid) (now (pdata .entry)))
         (stateFromParts fixed lamps (now (ram .entry)) (now (eeprom .entry)) (now (external .entry)))) (now (out .entry)) ⌝ }
@@ -81,7 +68,7 @@ fn execute(
     peripheral_reply(reply)
 }
 
-// A broadcast is carried out and never answered: its data goes to a scratch buffer.
+// Executes a broadcast. It gets no response, so the data goes to a scratch buffer.
 fn handle_broadcast(
     fixed: ReadOnly,
     lamps: [Lamp; LAMPS],
@@ -91,9 +78,9 @@ fn handle_broadcast(
     eeprom: &mut [u8],
     external: &mut [u8],
 ) -> Handled
-    requires { ⌜ StateRule (stateFromParts fixed lamps (now ram) (now eeprom) (now external)) ⌝ }
+    requires { ⌜ SoundState (stateFromParts fixed lamps (now ram) (now eeprom) (now external)) ⌝ }
     ensures { λ r. ⌜ ((o : List ℕ) → callResultFromParts fixed r (now (ram .exit)) (now (eeprom .exit)) (now (external .exit)) o
-        ≡ broadcast (execute (item (header .pnum) (header .pcmd) (header .hwpid) (now (pdata .entry)))
+        ≡ broadcastResult (execute (item (header .pnum) (header .pcmd) (header .hwpid) (now (pdata .entry)))
         (stateFromParts fixed lamps (now (ram .entry)) (now (eeprom .entry)) (now (external .entry)))) o) ⌝ }
 {
     let mut scratch = [0u8; Frame::PDATA_MAX];
@@ -116,7 +103,7 @@ fn handle_broadcast(
     }
 }
 
-// A request to this node: the data part after the header is lent on, then the header is written in front of it.
+// Executes a request to this node: the data is written after the response header, then the header in front of it.
 fn handle_unicast(
     fixed: ReadOnly,
     lamps: [Lamp; LAMPS],
@@ -127,9 +114,9 @@ fn handle_unicast(
     external: &mut [u8],
     response: &mut [u8],
 ) -> Handled
-    requires { ⌜ StateRule (stateFromParts fixed lamps (now ram) (now eeprom) (now external)) × (longestResponse ≤ length (now response)) ⌝ }
+    requires { ⌜ SoundState (stateFromParts fixed lamps (now ram) (now eeprom) (now external)) × (longestResponse ≤ length (now response)) ⌝ }
     ensures { λ r. ⌜ callResultFromParts fixed r (now (ram .exit)) (now (eeprom .exit)) (now (external .exit)) (now (response .exit))
-        ≡ respond (fixed .settings) (item (header .pnum) (header .pcmd) (header .hwpid) (now (pdata .entry)))
+        ≡ unicastResult (fixed .settings) (item (header .pnum) (header .pcmd) (header .hwpid) (now (pdata .entry)))
         (execute (item (header .pnum) (header .pcmd) (header .hwpid) (now (pdata .entry)))
         (stateFromParts fixed lamps (now (ram .entry)) (now (eeprom .entry)) (now (external .entry)))) (now (response .entry)) ⌝ }
 {
@@ -160,7 +147,7 @@ fn handle_unicast(
     }
 }
 
-// A frame that passed the refusals. The node is taken apart, since only its lamps and its RAM change.
+// Handles a frame that was not refused. The node is split into parts, because only its lamps and its RAM change.
 fn handle_frame(
     node: Node,
     frame: &[u8],
@@ -168,7 +155,7 @@ fn handle_frame(
     external: &mut [u8],
     response: &mut [u8],
 ) -> RequestAnswer
-    requires { ⌜ StateRule (state node (now eeprom) (now external)) × (headerSize ≤ length (now frame)) × (longestResponse ≤ length (now response)) ⌝ }
+    requires { ⌜ SoundState (state node (now eeprom) (now external)) × (headerSize ≤ length (now frame)) × (longestResponse ≤ length (now response)) ⌝ }
     ensures { λ r. ⌜ callResult r (now (eeprom .exit)) (now (external .exit)) (now (response .exit))
         ≡ handleFrame (now (frame .entry)) (state node (now (eeprom .entry)) (now (external .entry))) (now (response .entry)) ⌝ }
 {
@@ -197,7 +184,7 @@ fn handle_frame(
     answer_unhandled(node, refusal::NONE)
 }
 
-// The refusal of a call, 0 for none.
+// The refusal of a call.
 fn request_refusal(node: Node, frame: usize, eeprom: usize, external: usize, response: usize) -> u8
     ensures { λ r. ⌜ r ≡ requestRefusal node frame eeprom external response ⌝ }
 {
@@ -219,7 +206,7 @@ fn request_refusal(node: Node, frame: usize, eeprom: usize, external: usize, res
     refusal::NONE
 }
 
-// Takes a request. A refused call changes nothing that it was lent.
+// Handles a request. A refused call changes nothing.
 pub fn handle_request(
     node: Node,
     frame: &[u8],

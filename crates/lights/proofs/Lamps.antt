@@ -9,7 +9,7 @@ use borrow.Author.Tests.{leb-true, leb-false, le-leb, eqb-true, eqb-false, eq-eq
 use Rattle.dpa.specs.declared.settings.Settings.{Settings}
 use Rattle.dpa.specs.Settings.{stepOk, settingsOk}
 use Rattle.dpa.proofs.Bool.{and-left, and-right, both, by-cond, by-test}
-use Rattle.dpa.proofs.Ranges.{step-pos, step-rem, settings-facts}
+use Rattle.dpa.proofs.Ranges.{step-positive, step-remainder, settings-facts}
 use Rattle.lights.specs.declared.lamp.Lamp.{Lamp}
 use Rattle.lights.specs.Lamp.{lamp, off, lampOk, LampRule, lampZero, lampFits, actualLevel, tickLamp}
 
@@ -102,10 +102,10 @@ module _ (s : Settings) (h : settingsOk s ≡ true) where
   step-max = step-small (s .step) (settings-facts s h .step-valid)
 
   pub step-min : 1 ≤ s .step
-  step-min = step-pos (s .step) (omega (arith, step-max)) (settings-facts s h .step-valid)
+  step-min = step-positive (s .step) (omega (arith, step-max)) (settings-facts s h .step-valid)
 
   step-of-100 : 100 % s .step ≡ 0
-  step-of-100 = step-rem (s .step) (omega (arith, step-max)) (settings-facts s h .step-valid)
+  step-of-100 = step-remainder (s .step) (omega (arith, step-max)) (settings-facts s h .step-valid)
 
   -- it is a multiple of the step
   pub actual-multiple : (level : ℕ) → actualLevel s level % s .step ≡ 0

@@ -1,10 +1,10 @@
 pub mod Lamps
 pub mod Bits
 pub mod Selected
-pub mod Entries
-pub mod Turns
-pub mod Answers
-pub mod Walk
-pub mod Places
+pub mod PowerEntries
+pub mod Remaining
+pub mod Replies
+pub mod ApplyLoop
+pub mod EachLamp
 pub mod Rule
 pub mod Requests

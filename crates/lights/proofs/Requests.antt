@@ -12,45 +12,45 @@ use Rattle.dpa.proofs.Bool.{by-cond}
 use Rattle.dpa.specs.declared.settings.Settings.{Settings}
 use Rattle.lights.specs.Bits.{count, bitmap, isOne, selected, numberBelow}
 use Rattle.lights.specs.Lamp.{off, lampFits, LampRule, actualLevel}
-use Rattle.lights.specs.Lights.{Reading, good, bad, entries, lampsAfter, levelsBefore, answered, changeLamps, enumerateLamps, lightsRequest}
+use Rattle.lights.specs.Lights.{PowerEntries, allValid, malformed, powerEntries, lampsAfter, levelsBefore, levelsReply, changeLamps, enumerateLamps, lightsRequest}
 use Rattle.lights.proofs.Lamps.{fits-test, fits-rule, fits-above, zero-facts}
 use Rattle.lights.proofs.Bits.{count-length}
 use Rattle.lights.proofs.Selected.{bitmap-length, count-selected, rank-selected, selected-digit}
-use Rattle.lights.proofs.Entries.{still, itemsOf, entries-length}
-use Rattle.lights.proofs.Places.{lampBy, lamp-place, lamp-idle, lamps-length, level-place}
-use Rattle.lights.proofs.Answers.{levels-length}
-use Rattle.lights.proofs.Rule.{ChangeRule, entries-rule, lamp-after-rule}
+use Rattle.lights.proofs.PowerEntries.{zeroChange, changesOf, power-entries-length}
+use Rattle.lights.proofs.EachLamp.{lampAfterEntry, lamps-after-at, lamp-unimplemented, lamps-length, levels-before-at}
+use Rattle.lights.proofs.Replies.{levels-length}
+use Rattle.lights.proofs.Rule.{ChangeRule, power-entries-rule, lamp-after-rule}
 use Rattle.lights.specs.declared.apply.Command.{Command}
 use Rattle.lights.specs.declared.apply.Command.the-variants.{Set, Raise, Lower}
 use Rattle.lights.specs.declared.lamp.Lamp.{Lamp}
-use Rattle.lights.specs.declared.entry.LampChange.{LampChange}
+use Rattle.lights.specs.declared.power.LampChange.{LampChange}
 
 -- the entries that PData holds, and lamp k's own among them
-abbrev pub entriesOf : List ℕ → List LampChange
-entriesOf xs = itemsOf (entries (count (bitmap xs)) (drop 4 xs))
+abbrev pub changesIn : List ℕ → List LampChange
+changesIn xs = changesOf (powerEntries (count (bitmap xs)) (drop 4 xs))
 
-abbrev pub entryOf : List ℕ → ℕ → LampChange
-entryOf xs k = getD (entriesOf xs) (numberBelow k (selected xs)) still
+abbrev pub changeFor : List ℕ → ℕ → LampChange
+changeFor xs k = getD (changesIn xs) (numberBelow k (selected xs)) zeroChange
 
 module _ (s : Settings) (xs : List ℕ) (ls : List Lamp) where
   -- a request to change lamps is refused with 6, or its entries are all valid
   pub change-cases : (c : Command) (P : Reply (List Lamp) → Type 0) → P (refused ls 6)
-      → ((es : List LampChange) → 4 ≤ length xs → entries (count (bitmap xs)) (drop 4 xs) ≡ good es
+      → ((es : List LampChange) → 4 ≤ length xs → powerEntries (count (bitmap xs)) (drop 4 xs) ≡ allValid es
       → P (reply (lampsAfter c (s .«lamp_count») (bitmap xs) es ls) 0 (levelsBefore s (s .«lamp_count») (bitmap xs) ls)))
       → P (changeLamps s c xs ls)
   unfolding changeLamps
   change-cases c P f g =
-      by-cond P (ltb (length xs) 4) _ _ (λ t. f) (λ t. go (entries (count (bitmap xs)) (drop 4 xs)) refl (ltb-false _ _ t))
+      by-cond P (ltb (length xs) 4) _ _ (λ t. f) (λ t. go (powerEntries (count (bitmap xs)) (drop 4 xs)) refl (ltb-false _ _ t))
     where
-      go : (r : Reading) → entries (count (bitmap xs)) (drop 4 xs) ≡ r → 4 ≤ length xs → P (answered s c (bitmap xs) ls r)
-      go (good es) e h = g es h e
-      go bad e h = f
+      go : (r : PowerEntries) → powerEntries (count (bitmap xs)) (drop 4 xs) ≡ r → 4 ≤ length xs → P (levelsReply s c (bitmap xs) ls r)
+      go (allValid es) e h = g es h e
+      go malformed e h = f
 
   -- any request is refused with an error, tells the count, or has entries that are all valid
   pub request-cases : (p : ℕ) (P : Reply (List Lamp) → Type 0)
       → ((e : ℕ) → (e ≡ 0 → ⊥) → P (refused ls e))
       → P (reply ls 0 (s .«lamp_count» ∷ []))
-      → ((c : Command) (es : List LampChange) → 4 ≤ length xs → entries (count (bitmap xs)) (drop 4 xs) ≡ good es
+      → ((c : Command) (es : List LampChange) → 4 ≤ length xs → powerEntries (count (bitmap xs)) (drop 4 xs) ≡ allValid es
       → P (reply (lampsAfter c (s .«lamp_count») (bitmap xs) es ls) 0 (levelsBefore s (s .«lamp_count») (bitmap xs) ls)))
       → P (lightsRequest s p xs ls)
   unfolding lightsRequest enumerateLamps
@@ -79,8 +79,8 @@ module _ (s : Settings) (xs : List ℕ) (ls : List Lamp) where
     fits-map : length (bitmap xs) ≤ length ls
     fits-map = omega (arith, bitmap-length xs)
 
-    enough : (es : List LampChange) → entries (count (bitmap xs)) (drop 4 xs) ≡ good es → count (bitmap xs) ≤ length es
-    enough es e = omega (arith, entries-length (count (bitmap xs)) (drop 4 xs) es e)
+    enough : (es : List LampChange) → powerEntries (count (bitmap xs)) (drop 4 xs) ≡ allValid es → count (bitmap xs) ≤ length es
+    enough es e = omega (arith, power-entries-length (count (bitmap xs)) (drop 4 xs) es e)
 
     -- a successful change answers a byte for each selected lamp
     pub answer-length : (c : Command) → changeLamps s c xs ls .error ≡ 0 → length (changeLamps s c xs ls .bytes) ≡ numberBelow 32 (selected xs)
@@ -99,18 +99,18 @@ module _ (s : Settings) (xs : List ℕ) (ls : List Lamp) where
     -- each lamp after a successful change: by its own entry if it is selected and implemented, else as it was
     pub lamp-at : (c : Command) (k : ℕ) → k < 32 → changeLamps s c xs ls .error ≡ 0
         → getD (changeLamps s c xs ls .after) k off
-        ≡ cond (selected xs k && ltb k (s .«lamp_count»)) (lampBy c (getD ls k off) (entryOf xs k)) (getD ls k off)
+        ≡ cond (selected xs k && ltb k (s .«lamp_count»)) (lampAfterEntry c (getD ls k off) (changeFor xs k)) (getD ls k off)
     lamp-at c k h =
         let l = getD ls k off in
         change-cases c
-        (λ (x : Reply (List Lamp)). x .error ≡ 0 → getD (x .after) k off ≡ cond (selected xs k && ltb k (s .«lamp_count»)) (lampBy c l (entryOf xs k)) l)
+        (λ (x : Reply (List Lamp)). x .error ≡ 0 → getD (x .after) k off ≡ cond (selected xs k && ltb k (s .«lamp_count»)) (lampAfterEntry c l (changeFor xs k)) l)
         (λ z. absurd (omega arith))
         (λ es _ e z.
         let d : isOne (getD (bitmap xs) k 0) ≡ selected xs k = selected-digit xs k h in
-        let f : es ≡ entriesOf xs = sym (ap itemsOf e) in
+        let f : es ≡ changesIn xs = sym (ap changesOf e) in
         let r : count (take k (bitmap xs)) ≡ numberBelow k (selected xs) = rank-selected xs k (omega arith) in
-        lamp-place c (s .«lamp_count») (bitmap xs) es ls k fits-map (enough es e)
-        ∙ (λ i. cond (d i && ltb k (s .«lamp_count»)) (lampBy c l (getD (f i) (r i) still)) l))
+        lamps-after-at c (s .«lamp_count») (bitmap xs) es ls k fits-map (enough es e)
+        ∙ (λ i. cond (d i && ltb k (s .«lamp_count»)) (lampAfterEntry c l (getD (f i) (r i) zeroChange)) l))
 
     -- each selected lamp's actual level before a successful change is answered, 0 for an unimplemented lamp
     pub level-at : (c : Command) (k : ℕ) → k < 32 → selected xs k ≡ true → changeLamps s c xs ls .error ≡ 0
@@ -121,7 +121,7 @@ module _ (s : Settings) (xs : List ℕ) (ls : List Lamp) where
         (λ z. absurd (omega arith))
         (λ es _ e z.
         ap (λ (j : ℕ). getD (levelsBefore s (s .«lamp_count») (bitmap xs) ls) j 0) (sym (rank-selected xs k (omega arith)))
-        ∙ level-place s (s .«lamp_count») (bitmap xs) ls k fits-map (selected-digit xs k h ∙ t))
+        ∙ levels-before-at s (s .«lamp_count») (bitmap xs) ls k fits-map (selected-digit xs k h ∙ t))
 
     -- a lamp from the count up is never changed
     pub unimplemented-stays : (p k : ℕ) → s .«lamp_count» ≤ k → getD (lightsRequest s p xs ls .after) k off ≡ getD ls k off
@@ -129,7 +129,7 @@ module _ (s : Settings) (xs : List ℕ) (ls : List Lamp) where
         request-cases p (λ (x : Reply (List Lamp)). getD (x .after) k off ≡ getD ls k off)
         (λ e n. refl) refl
         (λ c es _ e.
-        lamp-idle c (s .«lamp_count») (bitmap xs) es ls k fits-map (enough es e) h)
+        lamp-unimplemented c (s .«lamp_count») (bitmap xs) es ls k fits-map (enough es e) h)
 
     -- a lamp that fits its place still fits
     pub request-keeps : (p k : ℕ) → lampFits (s .«lamp_count») k (getD ls k off) ≡ true
@@ -140,9 +140,9 @@ module _ (s : Settings) (xs : List ℕ) (ls : List Lamp) where
         fits-test n k (getD (lightsRequest s p xs ls .after) k off)
         (λ _. request-cases p (λ (x : Reply (List Lamp)). LampRule (getD (x .after) k off)) (λ e z. rule) rule
         (λ c es _ e.
-        let valid : (i : ℕ) → ChangeRule (getD es i still) = entries-rule (count (bitmap xs)) (drop 4 xs) es e in
-        rw (lamp-place c n (bitmap xs) es ls k fits-map (enough es e))
+        let valid : (i : ℕ) → ChangeRule (getD es i zeroChange) = power-entries-rule (count (bitmap xs)) (drop 4 xs) es e in
+        rw (lamps-after-at c n (bitmap xs) es ls k fits-map (enough es e))
         (by-cond (λ (l : Lamp). LampRule l) (isOne (getD (bitmap xs) k 0) && ltb k n) _ _
-        (λ _. lamp-after-rule c (getD ls k off) (getD es (count (take k (bitmap xs))) still) rule (valid (count (take k (bitmap xs)))))
+        (λ _. lamp-after-rule c (getD ls k off) (getD es (count (take k (bitmap xs))) zeroChange) rule (valid (count (take k (bitmap xs)))))
         (λ _. rule))))
         (λ h. unimplemented-stays p k h ∙ zero-facts (getD ls k off) (sym (fits-above n k (getD ls k off) h) ∙ fit))

@@ -9,14 +9,14 @@ use lib.Dec.{ltb, leb, eqb}
 use borrow.Author.Tests.{leb-true, ltb-true, eqb-false}
 use Rattle.dpa.proofs.Bool.{by-cond}
 use Rattle.lights.specs.Lamp.{LampRule, lamp}
-use Rattle.lights.specs.Lights.{powerOk, timeOk, secondsOf, change, timedEntry, firstEntry, good, entries, newLevel, lampAfter}
-use Rattle.lights.proofs.Entries.{still, entries-each}
-use Rattle.lights.proofs.Places.{lampBy}
+use Rattle.lights.specs.Lights.{powerOk, timeOk, secondsOf, change, timedPowerEntry, firstPowerEntry, allValid, powerEntries, newLevel, lampAfter}
+use Rattle.lights.proofs.PowerEntries.{zeroChange, power-entries-each}
+use Rattle.lights.proofs.EachLamp.{lampAfterEntry}
 use Rattle.lights.specs.declared.apply.Command.{Command}
 use Rattle.lights.specs.declared.apply.Command.the-variants.{Set, Raise, Lower}
 use Rattle.lights.specs.declared.lamp.Lamp.{Lamp}
-use Rattle.lights.specs.declared.entry.LampChange.{LampChange}
-use Rattle.lights.specs.declared.entry.PowerEntry.the-variants.{Valid, Invalid}
+use Rattle.lights.specs.declared.power.LampChange.{LampChange}
+use Rattle.lights.specs.declared.power.PowerEntry.the-variants.{Valid, Invalid}
 
 -- an entry in range
 pub record ChangeRule (e : LampChange) : Type 0 where
@@ -29,9 +29,9 @@ seconds-max : (t : ℕ) → secondsOf t ≤ 7620
 unfolding secondsOf
 seconds-max t = by-cond (λ (n : ℕ). n ≤ 7620) (ltb t 128) _ _ (λ e. omega (arith, ltb-true t 128 e)) (λ e. omega arith)
 
-first-rule : (xs : List ℕ) (e : LampChange) (size : ℕ) → firstEntry xs ≡ Valid e size → ChangeRule e
-first-rule [] e size h = let z : _≡_ {A = ℕ} 0 1 = cc in absurd (omega arith)
-first-rule (b ∷ xs) e size h = go (powerOk (b % 128)) (ltb b 128) xs refl h
+first-power-entry-rule : (xs : List ℕ) (e : LampChange) (size : ℕ) → firstPowerEntry xs ≡ Valid e size → ChangeRule e
+first-power-entry-rule [] e size h = let z : _≡_ {A = ℕ} 0 1 = cc in absurd (omega arith)
+first-power-entry-rule (b ∷ xs) e size h = go (powerOk (b % 128)) (ltb b 128) xs refl h
   where
     none : Invalid ≡ Valid e size → ChangeRule e
     none q = let z : _≡_ {A = ℕ} 0 1 = cc in absurd (omega arith)
@@ -44,18 +44,18 @@ first-rule (b ∷ xs) e size h = go (powerOk (b % 128)) (ltb b 128) xs refl h
     last t false k q = none q
 
     go : (p q : Bool) (ys : List ℕ) → powerOk (b % 128) ≡ p
-        → cond p (cond q (Valid (change (b % 128) 0) 1) (timedEntry (b % 128) ys)) Invalid ≡ Valid e size → ChangeRule e
+        → cond p (cond q (Valid (change (b % 128) 0) 1) (timedPowerEntry (b % 128) ys)) Invalid ≡ Valid e size → ChangeRule e
     go true true ys k r = made (b % 128) 0 k (omega arith) (cc)
     go true false [] k r = none r
     go true false (t ∷ ys) k r = last t (timeOk t) k r
     go false q ys k r = none r
 
-still-rule : ChangeRule still
+zero-change-rule : ChangeRule zeroChange
 unfolding powerOk
-still-rule = record { power = refl; seconds = omega arith }
+zero-change-rule = record { power = refl; seconds = omega arith }
 
-pub entries-rule : (n : ℕ) (xs : List ℕ) (es : List LampChange) → entries n xs ≡ good es → (i : ℕ) → ChangeRule (getD es i still)
-entries-rule n xs es h = entries-each ChangeRule still-rule n xs es (λ j. first-rule (drop j xs)) h .1
+pub power-entries-rule : (n : ℕ) (xs : List ℕ) (es : List LampChange) → powerEntries n xs ≡ allValid es → (i : ℕ) → ChangeRule (getD es i zeroChange)
+power-entries-rule n xs es h = power-entries-each ChangeRule zero-change-rule n xs es (λ j. first-power-entry-rule (drop j xs)) h .1
 
 -- ---- a lamp after an entry in range
 
@@ -72,7 +72,7 @@ level-max Set l p h k = k
 level-max Raise l p h k = omega arith
 level-max Lower l p h k = omega arith
 
-pub lamp-after-rule : (c : Command) (l : Lamp) (e : LampChange) → LampRule l → ChangeRule e → LampRule (lampBy c l e)
+pub lamp-after-rule : (c : Command) (l : Lamp) (e : LampChange) → LampRule l → ChangeRule e → LampRule (lampAfterEntry c l e)
 unfolding lampAfter
 lamp-after-rule c l e r q =
     let v = newLevel c (l .level) (e .power) in

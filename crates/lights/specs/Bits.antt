@@ -1,22 +1,26 @@
--- Document 01, "Lights 71": the bitmap of a request, byte 0 bit 0 first.
+-- Document 01, "Lights 71": the bitmap of a request. Bit 0 of byte 0 is lamp 0.
 use Prim.Native.Nat.{ℕ, zero, suc, _+_, _*_, _/_, _%_, _^_}
 use mathlib.Core.List.{List, [], _∷_, _++_}
 use mathlib.Core.Bool.{Bool, true, false, cond}
 use lib.ListN.{getD}
 use Rattle.dpa.specs.Number.{wordAt}
 
--- the k lowest binary digits of n, lowest first
+-- the size of the bitmap at the front of PData, in bytes
+abbrev pub bitmapSize : ℕ
+bitmapSize = 4
+
+-- the k lowest bits of n, lowest first
 unfoldable pub bits : ℕ → ℕ → List ℕ
 bits zero n = []
 bits (suc k) n = n % 2 ∷ bits k (n / 2)
 
--- how many of a list of digits are 1
+-- how many bits of a list are 1
 abbrev pub count : List ℕ → ℕ
 count [] = 0
 count (zero ∷ bs) = count bs
 count (suc b ∷ bs) = suc (count bs)
 
--- the thirty-two digits of the first four bytes; digit k is lamp k's
+-- the bits of the four bitmap bytes; bit k selects lamp k
 unfoldable pub bitmap : List ℕ → List ℕ
 bitmap xs = bits 8 (getD xs 0 0) ++ (bits 8 (getD xs 1 0) ++ (bits 8 (getD xs 2 0) ++ bits 8 (getD xs 3 0)))
 
@@ -24,7 +28,7 @@ bitmap xs = bits 8 (getD xs 0 0) ++ (bits 8 (getD xs 1 0) ++ (bits 8 (getD xs 2 
 abbrev pub maskOf : List ℕ → ℕ
 maskOf xs = wordAt xs 0 + 65536 * wordAt xs 2
 
--- ---- the same by each lamp's own bit, for the laws
+-- ---- the same lamp by lamp, for the laws
 
 abbrev pub isOne : ℕ → Bool
 isOne zero = false
@@ -34,7 +38,7 @@ isOne (suc b) = true
 unfoldable pub selected : List ℕ → ℕ → Bool
 selected xs k = isOne (getD xs (k / 8) 0 / 2 ^ (k % 8) % 2)
 
--- how many numbers below n pass a test (proofs/Selected: `count-selected`, `mask-selected`)
+-- how many numbers below n satisfy f (proofs/Selected: `count-selected`, `mask-selected`)
 unfoldable pub numberBelow : ℕ → (ℕ → Bool) → ℕ
 numberBelow zero f = 0
 numberBelow (suc n) f = numberBelow n f + cond (f n) 1 0

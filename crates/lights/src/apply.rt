@@ -1,9 +1,11 @@
-// What entries do to lamps, and the levels that are answered, in one walk over the bitmap from its lowest bit.
-use crate::entry::KEEP;
-use crate::entry::change_at;
+// Applies power entries to the lamps and collects the levels to return, in one loop over the bitmap from its lowest bit.
 use crate::lamp::LAMPS;
 use crate::lamp::Lamp;
+use crate::lamp::MAX_LEVEL;
 use crate::lamp::actual_level;
+use crate::power::BITMAP_SIZE;
+use crate::power::KEEP;
+use crate::power::valid_power_entry_at;
 use dpa::number::wide;
 use dpa::settings::Settings;
 ghost use mathlib.Core.Path.{_≡_};
@@ -12,9 +14,9 @@ ghost use Prim.Native.Nat.{_≤_};
 ghost use lib.ListN.{length, drop};
 ghost use Rattle.dpa.specs.Reply.{replySeen, replyInBuffer};
 ghost use Rattle.dpa.specs.Settings.{settingsOk};
-ghost use Rattle.lights.specs.Bits.{bits, count};
-ghost use Rattle.lights.specs.Lamp.{LevelsInRange};
-ghost use Rattle.lights.specs.Lights.{newLevel, lampAfter, entries, isGood, answered};
+ghost use Rattle.lights.specs.Bits.{bitmapSize, bits, count};
+ghost use Rattle.lights.specs.Lamp.{maxLamps, LevelsInRange};
+ghost use Rattle.lights.specs.Lights.{newLevel, lampAfter, powerEntries, areValid, levelsReply};
 
 pub enum Command {
     Set,
@@ -22,6 +24,7 @@ pub enum Command {
     Lower,
 }
 
+// Raise and lower start from the requested level and stay within 0 to 100.
 fn new_level(command: Command, level: u8, power: u8) -> u8
     ensures { λ r. ⌜ r ≡ newLevel command level power ⌝ }
 {
@@ -29,13 +32,17 @@ fn new_level(command: Command, level: u8, power: u8) -> u8
         Command::Set => power,
         Command::Raise => {
             let sum = wide(level) + wide(power);
-            if sum <= 100 { sum as u8 } else { 100 }
+            if sum <= MAX_LEVEL as usize {
+                sum as u8
+            } else {
+                MAX_LEVEL
+            }
         }
         Command::Lower => { if power <= level { level - power } else { 0 } }
     }
 }
 
-// The lamp after an entry. The time goes by the new level.
+// The lamp after a power entry. The timer is cleared when the new level is 0.
 pub fn lamp_after(command: Command, lamp: Lamp, power: u8, seconds: u16) -> Lamp
     ensures { λ r. ⌜ r ≡ lampAfter command lamp power seconds ⌝ }
 {
@@ -52,8 +59,8 @@ pub fn lamp_after(command: Command, lamp: Lamp, power: u8, seconds: u16) -> Lamp
     next
 }
 
-// The lamps after a request's entries, with their actual levels before at the front of out. The walk ends behind the
-// highest selected lamp.
+// The lamps after the power entries of a request. Writes the previous actual levels of the selected lamps to the front
+// of out. The loop ends after the highest selected lamp.
 pub fn apply(
     settings: Settings,
     command: Command,
@@ -62,20 +69,20 @@ pub fn apply(
     lamps: [Lamp; LAMPS],
     out: &mut [u8],
 ) -> [Lamp; LAMPS]
-    requires { ⌜ (settingsOk settings ≡ true) × LevelsInRange lamps × (32 ≤ length (now out)) × (4 ≤ length (now pdata))
-        × (isGood (entries (count (bits 32 mask)) (drop 4 (now pdata))) ≡ true) ⌝ }
-    ensures { λ r. ⌜ replySeen r 0 (count (bits 32 mask)) (now (out .exit))
-        ≡ replyInBuffer (answered settings command (bits 32 mask) lamps (entries (count (bits 32 mask)) (drop 4 (now (pdata .entry))))) (now (out .entry)) ⌝ }
+    requires { ⌜ (settingsOk settings ≡ true) × LevelsInRange lamps × (maxLamps ≤ length (now out)) × (bitmapSize ≤ length (now pdata))
+        × (areValid (powerEntries (count (bits maxLamps mask)) (drop bitmapSize (now pdata))) ≡ true) ⌝ }
+    ensures { λ r. ⌜ replySeen r 0 (count (bits maxLamps mask)) (now (out .exit))
+        ≡ replyInBuffer (levelsReply settings command (bits maxLamps mask) lamps (powerEntries (count (bits maxLamps mask)) (drop bitmapSize (now (pdata .entry))))) (now (out .entry)) ⌝ }
 {
     let n = wide(settings.lamp_count);
     let mut after = lamps;
     let mut m = mask;
-    let mut at: usize = 4;
+    let mut at: usize = BITMAP_SIZE;
     let mut k: usize = 0;
     let mut i: usize = 0;
     while m != 0 {
         if m % 2 == 1 {
-            let entry = change_at(pdata, at);
+            let entry = valid_power_entry_at(pdata, at);
             if i < n {
                 let lamp = after[i];
                 out[k] = actual_level(settings, lamp.level);

@@ -1,29 +1,30 @@
-// One lamp: its rule, its actual level, and a second passing.
+// One lamp: its valid values, its actual level, and its timer.
 use dpa::settings::MAX_LAMPS;
 use dpa::settings::Settings;
 ghost use mathlib.Core.Path.{_≡_};
 ghost use mathlib.Core.Bool.{true};
 ghost use Prim.Native.Nat.{_≤_};
 ghost use Rattle.dpa.specs.Settings.{settingsOk};
-ghost use Rattle.lights.specs.Lamp.{lampOk, lampZero, actualLevel, tickLamp};
+ghost use Rattle.lights.specs.Lamp.{maxLevel, lampOk, lampZero, actualLevel, tickLamp};
 
-// The lamp records of a node, whether or not it has that many lamps.
+// Lamp records in a node. Those at and above the lamp count are unused.
 pub const LAMPS: usize = MAX_LAMPS as usize;
 
-// The highest level, and the longest timer: 127 minutes.
+// The highest level.
 pub const MAX_LEVEL: u8 = 100;
 
+// The longest timer: 127 minutes.
 pub const MAX_SECONDS: u16 = 7620;
 
 #[repr(C)]
 pub struct Lamp {
     // The requested level, 0 to 100.
     pub level: u8,
-    // Seconds left until the lamp goes off; 0 for no timer.
+    // Seconds until the lamp turns off; 0 when no timer is running.
     pub seconds: u16,
 }
 
-// The rule of an implemented lamp. It has no branch, so that a loop over lamps has none.
+// Whether an implemented lamp has valid values. Written without branches to keep loops over lamps simple.
 pub fn lamp_ok(lamp: Lamp) -> bool
     ensures { λ r. ⌜ r ≡ lampOk lamp ⌝ }
 {
@@ -32,16 +33,16 @@ pub fn lamp_ok(lamp: Lamp) -> bool
         & ((lamp.level != 0) | (lamp.seconds == 0))
 }
 
-// The rule of a lamp that is not implemented.
+// Whether an unimplemented lamp has valid values: all zero.
 pub fn lamp_zero(lamp: Lamp) -> bool
     ensures { λ r. ⌜ r ≡ lampZero lamp ⌝ }
 {
     (lamp.level == 0) & (lamp.seconds == 0)
 }
 
-// The smallest multiple of the step that is not below the level.
+// The level that the lamp shows: the requested level rounded up to a multiple of the step.
 pub fn actual_level(settings: Settings, level: u8) -> u8
-    requires { ⌜ (settingsOk settings ≡ true) × (level ≤ 100) ⌝ }
+    requires { ⌜ (settingsOk settings ≡ true) × (level ≤ maxLevel) ⌝ }
     ensures { λ r. ⌜ r ≡ actualLevel settings level ⌝ }
 {
     let step = settings.step;

@@ -1,5 +1,5 @@
-// The lamps, and the lights peripheral: set, raise, lower, enumerate.
+// The lamps and the lights peripheral: set, raise, lower, enumerate.
 pub mod apply;
-pub mod entry;
 pub mod lamp;
+pub mod power;
 pub mod request;

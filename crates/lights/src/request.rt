@@ -1,9 +1,10 @@
-// The lights peripheral.
+// Requests to the lights peripheral.
 use crate::apply::Command;
 use crate::apply::apply;
-use crate::entry::entries_ok;
 use crate::lamp::LAMPS;
 use crate::lamp::Lamp;
+use crate::power::BITMAP_SIZE;
+use crate::power::power_entries_ok;
 use dpa::error;
 use dpa::number::wide_word;
 use dpa::number::word_of;
@@ -15,10 +16,11 @@ ghost use lib.ListN.{length};
 ghost use Rattle.dpa.specs.Frame.{pdataMax};
 ghost use Rattle.dpa.specs.Reply.{replySeen, replyInBuffer};
 ghost use Rattle.dpa.specs.Settings.{settingsOk};
-ghost use Rattle.lights.specs.Bits.{bits, count, maskOf};
-ghost use Rattle.lights.specs.Lamp.{LevelsInRange};
+ghost use Rattle.lights.specs.Bits.{bitmapSize, bits, count, maskOf};
+ghost use Rattle.lights.specs.Lamp.{maxLamps, LevelsInRange};
 ghost use Rattle.lights.specs.Lights.{commandOf, changeLamps, enumerateLamps, lightsRequest};
 
+// PCMD of each request.
 pub const SET: u8 = 0x00;
 
 pub const RAISE: u8 = 0x01;
@@ -27,16 +29,16 @@ pub const LOWER: u8 = 0x02;
 
 pub const ENUMERATE: u8 = 0x3E;
 
-// ErrN, how many bytes of data stand at the front of the lent buffer, and the lamps afterwards.
+// ErrN, the number of data bytes at the front of the lent buffer, and the lamps after the request.
 pub struct LampsReply {
     pub error: u8,
     pub length: usize,
     pub lamps: [Lamp; LAMPS],
 }
 
-// The four bitmap bytes as one number.
+// The bitmap as a number: bit k selects lamp k.
 fn mask_of(src: &[u8]) -> u32
-    requires { ⌜ 4 ≤ length (now src) ⌝ }
+    requires { ⌜ bitmapSize ≤ length (now src) ⌝ }
     ensures { λ r. ⌜ r ≡ maskOf (now (src .entry)) ⌝ }
 {
     let low = word_of(src[0], src[1]);
@@ -44,13 +46,14 @@ fn mask_of(src: &[u8]) -> u32
     (wide_word(low) + 65536 * wide_word(high)) as u32
 }
 
-// How many lamps a bitmap selects.
-fn selected(mask: u32) -> usize
-    ensures { λ r. ⌜ (r ≡ count (bits 32 mask)) × (r ≤ 32) ⌝ }
+// The number of lamps that the bitmap selects.
+fn selected_count(mask: u32) -> usize
+    ensures { λ r. ⌜ (r ≡ count (bits maxLamps mask)) × (r ≤ maxLamps) ⌝ }
 {
     u32::count_ones(mask) as usize
 }
 
+// A reply with an error leaves the lamps and has no data.
 fn refuse(error: u8, lamps: [Lamp; LAMPS]) -> LampsReply
     ensures { λ r. ⌜ r ≡ record { error = error; length = 0; lamps = lamps } ⌝ }
 {
@@ -61,6 +64,7 @@ fn refuse(error: u8, lamps: [Lamp; LAMPS]) -> LampsReply
     }
 }
 
+// The command of a PCMD up to LOWER.
 fn command_of(pcmd: u8) -> Command
     ensures { λ r. ⌜ r ≡ commandOf pcmd ⌝ }
 {
@@ -71,7 +75,7 @@ fn command_of(pcmd: u8) -> Command
     }
 }
 
-// Set, raise or lower. The number of one-bits is the number of entries and the answer's length.
+// Set, raise or lower. Each selected lamp has a power entry in PData and a level in the response.
 fn change_lamps(
     settings: Settings,
     lamps: [Lamp; LAMPS],
@@ -79,15 +83,15 @@ fn change_lamps(
     pdata: &[u8],
     out: &mut [u8],
 ) -> LampsReply
-    requires { ⌜ (settingsOk settings ≡ true) × LevelsInRange lamps × (32 ≤ length (now out)) ⌝ }
+    requires { ⌜ (settingsOk settings ≡ true) × LevelsInRange lamps × (maxLamps ≤ length (now out)) ⌝ }
     ensures { λ r. ⌜ replySeen (r .lamps) (r .error) (r .length) (now (out .exit)) ≡ replyInBuffer (changeLamps settings command (now (pdata .entry)) lamps) (now (out .entry)) ⌝ }
 {
-    if pdata.len() < 4 {
+    if pdata.len() < BITMAP_SIZE {
         return refuse(error::DATA, lamps);
     }
     let mask = mask_of(pdata);
-    let length = selected(mask);
-    if !entries_ok(pdata, length) {
+    let length = selected_count(mask);
+    if !power_entries_ok(pdata, length) {
         return refuse(error::DATA, lamps);
     }
     let after = apply(settings, command, mask, pdata, lamps, out);
@@ -98,8 +102,9 @@ fn change_lamps(
     }
 }
 
+// Returns the lamp count.
 fn enumerate(settings: Settings, lamps: [Lamp; LAMPS], pdata: &[u8], out: &mut [u8]) -> LampsReply
-    requires { ⌜ 32 ≤ length (now out) ⌝ }
+    requires { ⌜ maxLamps ≤ length (now out) ⌝ }
     ensures { λ r. ⌜ replySeen (r .lamps) (r .error) (r .length) (now (out .exit)) ≡ replyInBuffer (enumerateLamps settings (now (pdata .entry)) lamps) (now (out .entry)) ⌝ }
 {
     if pdata.len() != 0 {
@@ -113,7 +118,7 @@ fn enumerate(settings: Settings, lamps: [Lamp; LAMPS], pdata: &[u8], out: &mut [
     }
 }
 
-// A request to the lights, its answer's data at the front of out.
+// Executes a request to the lights. The response data is written to the front of out.
 pub fn request(
     settings: Settings,
     lamps: [Lamp; LAMPS],

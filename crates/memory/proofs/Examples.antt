@@ -1,4 +1,4 @@
--- Worked examples of document 01 for the memories, of the definitions.
+-- Worked examples of document 01 for the memories, computed from the definitions.
 use mathlib.Core.Path.{_≡_, refl}
 use mathlib.Core.List.{List, [], _∷_}
 use Prim.Native.Nat.{ℕ}
@@ -9,17 +9,17 @@ use Rattle.memory.specs.Block.{blockFault}
 use Rattle.memory.specs.Request.{addressOf, readError, writeError, readRequest, writeRequest, memoryRequest}
 
 pub record Examples (mem : List ℕ) : Type 0 where
-  -- external memory at 0x3FFF: one byte, not two
-  pub last : memoryRequest Memory.External 2 (0xFF ∷ 0x3F ∷ 1 ∷ []) mem ≡ reply mem 0 (slice mem 0x3FFF 1)
-  pub past : memoryRequest Memory.External 2 (0xFF ∷ 0x3F ∷ 2 ∷ []) mem ≡ refused mem 4
-  -- a read of no bytes inside EEPROM, and at its end
-  pub none : memoryRequest Memory.Eeprom 0 (191 ∷ 0 ∷ []) mem ≡ reply mem 0 []
-  pub none-past : memoryRequest Memory.Eeprom 0 (192 ∷ 0 ∷ []) mem ≡ refused mem 4
-  -- too long and outside: 5
-  pub longer : memoryRequest Memory.Ram 0 (48 ∷ 49 ∷ []) mem ≡ refused mem 5
+  -- external memory at 0x3FFF: one byte can be read, two cannot
+  pub last-byte : memoryRequest Memory.External 2 (0xFF ∷ 0x3F ∷ 1 ∷ []) mem ≡ reply mem 0 (slice mem 0x3FFF 1)
+  pub past-end : memoryRequest Memory.External 2 (0xFF ∷ 0x3F ∷ 2 ∷ []) mem ≡ refused mem 4
+  -- a read of no bytes: accepted inside EEPROM, refused at its end
+  pub empty : memoryRequest Memory.Eeprom 0 (191 ∷ 0 ∷ []) mem ≡ reply mem 0 []
+  pub empty-at-end : memoryRequest Memory.Eeprom 0 (192 ∷ 0 ∷ []) mem ≡ refused mem 4
+  -- too long and outside: error 5 comes first
+  pub too-long : memoryRequest Memory.Ram 0 (48 ∷ 49 ∷ []) mem ≡ refused mem 5
   -- a write without data
   pub no-data : memoryRequest Memory.Ram 1 (0 ∷ []) mem ≡ refused mem 5
 
 pub examples : (mem : List ℕ) → Examples mem
 unfolding memoryRequest readRequest writeRequest readError writeError blockFault addressOf
-examples mem = record { last = refl; past = refl; none = refl; none-past = refl; longer = refl; no-data = refl }
+examples mem = record { last-byte = refl; past-end = refl; empty = refl; empty-at-end = refl; too-long = refl; no-data = refl }

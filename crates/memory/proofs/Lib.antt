@@ -1,5 +1,5 @@
 pub mod Blocks
-pub mod Puts
+pub mod Overwrite
 pub mod Requests
 pub mod Views
 pub mod Examples

@@ -10,77 +10,87 @@ use borrow.Author.Tests.{eqb-true, leb-false, eq-eqb, ne-eqb, lt-leb}
 use Rattle.dpa.specs.Frame.{pdataMax}
 use Rattle.dpa.specs.Lists.{slice}
 use Rattle.dpa.specs.Reply.{Harmless, Reply, reply, refused, replySeen, replyInBuffer}
-use Rattle.dpa.proofs.Bool.{by-cond, first-taken, second-taken}
-use Rattle.dpa.proofs.Lists.{to-end}
+use Rattle.dpa.proofs.Bool.{by-cond, then-taken, else-taken}
+use Rattle.dpa.proofs.Lists.{slice-to-end}
 use Rattle.memory.specs.declared.block.Memory.{Memory}
 use Rattle.memory.specs.declared.block.Memory.the-variants.{Eeprom}
-use Rattle.memory.specs.Block.{sizeOf, longestOf, addressBytes, readCommand, writeCommand, put}
+use Rattle.memory.specs.Block.{sizeOf, longestOf, addressBytes, readCommand, writeCommand, overwrite}
 use Rattle.memory.specs.Request.{addressOf, startOf, lengthOf, dataOf, blockError, readError, writeError, readRequest, writeRequest, memoryRequest}
-use Rattle.memory.proofs.Blocks.{Fits, block-fits, fits-block, longest-max, part-length}
-use Rattle.memory.proofs.Puts.{put-length}
+use Rattle.memory.proofs.Blocks.{BlockFits, no-fault-fits, fits-no-fault, longest-max, slice-length}
+use Rattle.memory.proofs.Overwrite.{overwrite-length}
 
 module _ (m : Memory) (p : List ℕ) where
+  -- an accepted read: PData has its length, and the block fits
   abbrev pub ReadFits : Type 0
-  ReadFits = (length p ≡ addressBytes m + 1) × Fits (sizeOf m) (longestOf m) (startOf m p) (lengthOf m p)
+  ReadFits = (length p ≡ addressBytes m + 1) × BlockFits (sizeOf m) (longestOf m) (startOf m p) (lengthOf m p)
 
+  -- an accepted write
   abbrev pub WriteFits : Type 0
-  WriteFits = (addressBytes m < length p) × Fits (sizeOf m) (longestOf m) (startOf m p) (length p - addressBytes m)
+  WriteFits = (addressBytes m < length p) × BlockFits (sizeOf m) (longestOf m) (startOf m p) (length p - addressBytes m)
 
+  -- a read without an error is accepted
   pub read-fits : readError m p ≡ 0 → ReadFits
   unfolding readError
   read-fits e =
-      let a = first-taken (eqb (length p) (addressBytes m + 1)) _ 5 0 (λ q. omega arith) e in
-      (eqb-true _ _ (a .0), block-fits (sizeOf m) (longestOf m) (startOf m p) (lengthOf m p) 5 4 (λ q. omega arith) (λ q. omega arith) (a .1))
+      let a = then-taken (eqb (length p) (addressBytes m + 1)) _ 5 0 (λ q. omega arith) e in
+      (eqb-true _ _ (a .0), no-fault-fits (sizeOf m) (longestOf m) (startOf m p) (lengthOf m p) 5 4 (λ q. omega arith) (λ q. omega arith) (a .1))
 
+  -- a write without an error is accepted
   pub write-fits : writeError m p ≡ 0 → WriteFits
   unfolding writeError
   write-fits e =
-      let a = second-taken (leb (length p) (addressBytes m)) 5 _ 0 (λ q. omega arith) e in
-      (leb-false _ _ (a .0), block-fits (sizeOf m) (longestOf m) (startOf m p) (length p - addressBytes m) 5 4 (λ q. omega arith) (λ q. omega arith) (a .1))
+      let a = else-taken (leb (length p) (addressBytes m)) 5 _ 0 (λ q. omega arith) e in
+      (leb-false _ _ (a .0), no-fault-fits (sizeOf m) (longestOf m) (startOf m p) (length p - addressBytes m) 5 4 (λ q. omega arith) (λ q. omega arith) (a .1))
 
-  -- what the tests of the code have found is the error
-  pub read-checked : (w r a n : ℕ) → w ≡ addressBytes m → length p ≡ w + 1 → a ≡ addressOf w p → n ≡ getD p w 0
+  -- the error in the form of the code's tests
+  pub read-error-by-tests : (w r a n : ℕ) → w ≡ addressBytes m → length p ≡ w + 1 → a ≡ addressOf w p → n ≡ getD p w 0
       → r ≡ blockError m a n → r ≡ readError m p
   unfolding readError
-  read-checked w r a n ew l ea en er = simp (← ew, eq-eqb (length p) (w + 1) l, ← ea, ← en) er
+  read-error-by-tests w r a n ew l ea en er = simp (← ew, eq-eqb (length p) (w + 1) l, ← ea, ← en) er
 
-  pub write-checked : (w r a : ℕ) → w ≡ addressBytes m → w < length p → a ≡ addressOf w p
+  -- and that of a write
+  pub write-error-by-tests : (w r a : ℕ) → w ≡ addressBytes m → w < length p → a ≡ addressOf w p
       → r ≡ blockError m a (length p - w) → r ≡ writeError m p
   unfolding writeError
-  write-checked w r a ew l ea er = simp (← ew, lt-leb (length p) w l, ← ea) er
+  write-error-by-tests w r a ew l ea er = simp (← ew, lt-leb (length p) w l, ← ea) er
 
   module _ (mem : List ℕ) where
-    -- an error: nothing written
+    -- a refused read writes nothing
     pub read-refused : (out : List ℕ) (e : ℕ) → e ≡ readError m p → (e ≡ 0 → ⊥) → replySeen mem e 0 out ≡ replyInBuffer (readRequest m p mem) out
     unfolding readRequest
     read-refused out e q h = simp (← q, ne-eqb e 0 h)
 
+    -- nor does a refused write
     pub write-refused : (out : List ℕ) (e : ℕ) → e ≡ writeError m p → (e ≡ 0 → ⊥) → replySeen mem e 0 out ≡ replyInBuffer (writeRequest m p mem) out
     unfolding writeRequest
     write-refused out e q h = simp (← q, ne-eqb e 0 h)
 
     module _ (w a n : ℕ) (size : length mem ≡ sizeOf m) (z : readError m p ≡ 0) (ew : w ≡ addressBytes m) (ea : a ≡ addressOf w p) (en : n ≡ getD p w 0) where
-      pub read-place : (a + n ≤ length mem) × (n ≤ longestOf Eeprom)
-      read-place =
+      -- the block read lies inside the memory and is no longer than EEPROM's longest
+      pub read-inside : (a + n ≤ length mem) × (n ≤ longestOf Eeprom)
+      read-inside =
           let f = read-fits z .1 in
           let s : a ≡ startOf m p = ea ∙ ap (λ (k : ℕ). addressOf k p) ew in
           let l : n ≡ lengthOf m p = en ∙ ap (λ (k : ℕ). getD p k 0) ew in
-          (omega (arith, f .ends), omega (arith, f .short, longest-max m))
+          (omega (arith, f .end-inside), omega (arith, f .length-max, longest-max m))
 
-      pub read-served : (out last : List ℕ) → last ≡ slice mem a n ++ drop n out → replySeen mem 0 n last ≡ replyInBuffer (readRequest m p mem) out
+      -- the copied block is the reply
+      pub read-reply : (out last : List ℕ) → last ≡ slice mem a n ++ drop n out → replySeen mem 0 n last ≡ replyInBuffer (readRequest m p mem) out
       unfolding readRequest
-      read-served out last el = rw (z, ← ew, ← ea, ← en, part-length mem a n (read-place .0), el)
+      read-reply out last el = rw (z, ← ew, ← ea, ← en, slice-length mem a n (read-inside .0), el)
 
     module _ (w a : ℕ) (z : writeError m p ≡ 0) (ew : w ≡ addressBytes m) (ea : a ≡ addressOf w p) where
-      pub write-place : length mem ≡ sizeOf m → a + (length p - w) ≤ length mem
-      write-place size =
+      -- the block written lies inside the memory
+      pub write-inside : length mem ≡ sizeOf m → a + (length p - w) ≤ length mem
+      write-inside size =
           let f = write-fits z .1 in
           let s : a ≡ startOf m p = ea ∙ ap (λ (k : ℕ). addressOf k p) ew in
-          omega (arith, f .ends)
+          omega (arith, f .end-inside)
 
-      pub write-served : (out last : List ℕ) → last ≡ put mem a (take (length p - w) (drop w p)) → replySeen last 0 0 out ≡ replyInBuffer (writeRequest m p mem) out
+      -- the overwritten memory is the reply
+      pub write-reply : (out last : List ℕ) → last ≡ overwrite mem a (take (length p - w) (drop w p)) → replySeen last 0 0 out ≡ replyInBuffer (writeRequest m p mem) out
       unfolding writeRequest
-      write-served out last el = rw (z, ← ew, ← ea, el, to-end w p)
+      write-reply out last el = rw (z, ← ew, ← ea, el, slice-to-end w p)
 
 -- a read and a write have different PCMDs
 pub commands-differ : (m : Memory) → eqb (writeCommand m) (readCommand m) ≡ false
@@ -89,31 +99,32 @@ commands-differ Memory.Ram = refl
 commands-differ Memory.External = refl
 
 module _ (m : Memory) (p mem : List ℕ) where
-  -- what a request without a fault does
+  -- the reply to an accepted read
   pub read-accepted : ReadFits m p → memoryRequest m (readCommand m) p mem ≡ reply mem 0 (slice mem (startOf m p) (lengthOf m p))
   unfolding memoryRequest readRequest readError
   read-accepted f =
       simp (
         eq-eqb (readCommand m) (readCommand m) refl,
         eq-eqb _ _ (f .0),
-        fits-block (sizeOf m) (longestOf m) (startOf m p) (lengthOf m p) 5 4 (f .1),
+        fits-no-fault (sizeOf m) (longestOf m) (startOf m p) (lengthOf m p) 5 4 (f .1),
       )
 
-  pub write-accepted : WriteFits m p → memoryRequest m (writeCommand m) p mem ≡ reply (put mem (startOf m p) (dataOf m p)) 0 []
+  -- the reply to an accepted write
+  pub write-accepted : WriteFits m p → memoryRequest m (writeCommand m) p mem ≡ reply (overwrite mem (startOf m p) (dataOf m p)) 0 []
   unfolding memoryRequest writeRequest writeError
   write-accepted f =
       simp (
         commands-differ m,
         eq-eqb (writeCommand m) (writeCommand m) refl,
         lt-leb _ _ (f .0),
-        fits-block (sizeOf m) (longestOf m) (startOf m p) (length p - addressBytes m) 5 4 (f .1),
+        fits-no-fault (sizeOf m) (longestOf m) (startOf m p) (length p - addressBytes m) 5 4 (f .1),
       )
 
   module _ (pcmd : ℕ) where
-    -- what holds of a read, of a write and of every error holds of a request
+    -- a request is an accepted read, an accepted write or an error
     pub request-cases : (P : Reply (List ℕ) → Type 0)
         → (readError m p ≡ 0 → P (reply mem 0 (slice mem (startOf m p) (lengthOf m p))))
-        → (writeError m p ≡ 0 → P (reply (put mem (startOf m p) (dataOf m p)) 0 []))
+        → (writeError m p ≡ 0 → P (reply (overwrite mem (startOf m p) (dataOf m p)) 0 []))
         → ((e : ℕ) → P (refused mem e))
         → P (memoryRequest m pcmd p mem)
     unfolding memoryRequest readRequest writeRequest
@@ -124,36 +135,36 @@ module _ (m : Memory) (p mem : List ℕ) where
         (λ r. by-cond P (eqb (writeError m p) 0) _ _ (λ z. writes (eqb-true _ _ z)) (λ z. errors _))
         (λ r. errors 2))
 
-    -- a request with an error leaves the memory and answers no data
+    -- a request with an error leaves the memory and returns no data
     pub request-harmless : Harmless mem (memoryRequest m pcmd p mem)
     request-harmless = request-cases (λ (x : Reply (List ℕ)). Harmless mem x) (λ z h. absurd (h refl)) (λ z h. absurd (h refl)) (λ e h. (refl, refl))
 
-    -- a memory keeps its length
+    -- a request keeps the memory's length
     pub request-length : length mem ≡ sizeOf m → length (memoryRequest m pcmd p mem .after) ≡ length mem
     request-length size =
         request-cases (λ (x : Reply (List ℕ)). length (x .after) ≡ length mem)
         (λ z. refl)
-        (λ z. put-length mem (startOf m p) (dataOf m p) (rw length-drop (omega (arith, write-fits m p z .1 .ends))))
+        (λ z. overwrite-length mem (startOf m p) (dataOf m p) (rw length-drop (omega (arith, write-fits m p z .1 .end-inside))))
         (λ e. refl)
 
-    -- an answer is no longer than the memory's longest block
+    -- response data is no longer than the memory's longest block
     pub request-longest : length (memoryRequest m pcmd p mem .bytes) ≤ longestOf m
     request-longest =
         request-cases (λ (x : Reply (List ℕ)). length (x .bytes) ≤ longestOf m)
-        (λ z. rw length-take (omega (arith, read-fits m p z .1 .short)))
+        (λ z. rw length-take (omega (arith, read-fits m p z .1 .length-max)))
         (λ z. omega arith)
         (λ e. omega arith)
 
-    -- so that it fits a response
+    -- so it fits in a response
     pub request-max : length (memoryRequest m pcmd p mem .bytes) ≤ pdataMax
     request-max = omega (arith, request-longest, longest-max m)
 
--- a write at an address of one byte
-pub write-short : (m : Memory) (mem : List ℕ) (a : ℕ) (d : List ℕ) → addressBytes m ≡ 1 → 0 < length d
-    → Fits (sizeOf m) (longestOf m) a (length d)
-    → memoryRequest m (writeCommand m) (a ∷ d) mem ≡ reply (put mem a d) 0 []
+-- an accepted write with a one-byte address
+pub write-byte-address : (m : Memory) (mem : List ℕ) (a : ℕ) (d : List ℕ) → addressBytes m ≡ 1 → 0 < length d
+    → BlockFits (sizeOf m) (longestOf m) a (length d)
+    → memoryRequest m (writeCommand m) (a ∷ d) mem ≡ reply (overwrite mem a d) 0 []
 unfolding addressOf
-write-short m mem a d one some f =
+write-byte-address m mem a d one some f =
     let s : startOf m (a ∷ d) ≡ a = ap (λ (w : ℕ). addressOf w (a ∷ d)) one in
     let t : dataOf m (a ∷ d) ≡ d = ap (λ (w : ℕ). drop w (a ∷ d)) one in
     let l : length (a ∷ d) - addressBytes m ≡ length d = omega arith in

@@ -8,13 +8,13 @@ use Rattle.dpa.specs.Number.{wordAt}
 use Rattle.dpa.specs.Lists.{slice}
 use Rattle.dpa.specs.Reply.{Reply, reply, refused}
 use Rattle.memory.specs.declared.block.Memory.{Memory}
-use Rattle.memory.specs.Block.{sizeOf, longestOf, addressBytes, readCommand, writeCommand, blockFault, put}
+use Rattle.memory.specs.Block.{sizeOf, longestOf, addressBytes, readCommand, writeCommand, blockFault, overwrite}
 
--- the address in front of PData, of one byte or of two, low byte first
+-- the address at the front of PData: one byte, or two with the low byte first
 unfoldable pub addressOf : ℕ → List ℕ → ℕ
 addressOf width pdata = cond (eqb width 1) (getD pdata 0 0) (wordAt pdata 0)
 
--- the block's start, and behind it a read's length or a write's data
+-- the start of the block; a read's length or a write's data follows it
 abbrev pub startOf : Memory → List ℕ → ℕ
 startOf m pdata = addressOf (addressBytes m) pdata
 
@@ -24,11 +24,11 @@ lengthOf m pdata = getD pdata (addressBytes m) 0
 abbrev pub dataOf : Memory → List ℕ → List ℕ
 dataOf m pdata = drop (addressBytes m) pdata
 
--- the block rule: 5, then 4
+-- the block rule for requests: 5 is too long, 4 is outside
 abbrev pub blockError : Memory → ℕ → ℕ → ℕ
 blockError m start n = blockFault (sizeOf m) (longestOf m) start n 5 4
 
--- PData of a read: address and length, nothing else
+-- PData of a read is an address and a length, nothing else
 unfoldable pub readError : Memory → List ℕ → ℕ
 readError m pdata =
     cond (eqb (length pdata) (addressBytes m + 1))
@@ -41,19 +41,21 @@ writeError m pdata =
     cond (leb (length pdata) (addressBytes m)) 5
     (blockError m (startOf m pdata) (length pdata - addressBytes m))
 
--- an answer, unless there is an error
-abbrev pub unless : {S : Type 0} → ℕ → S → Reply S → Reply S
-unless error s answer = cond (eqb error 0) answer (refused s error)
+-- the given reply, or a refusal if there is an error
+abbrev pub replyOrRefused : {S : Type 0} → ℕ → S → Reply S → Reply S
+replyOrRefused error s r = cond (eqb error 0) r (refused s error)
 
+-- a read leaves the memory and returns the block
 unfoldable pub readRequest : Memory → List ℕ → List ℕ → Reply (List ℕ)
 readRequest m pdata mem =
-    unless (readError m pdata) mem (reply mem 0 (slice mem (startOf m pdata) (lengthOf m pdata)))
+    replyOrRefused (readError m pdata) mem (reply mem 0 (slice mem (startOf m pdata) (lengthOf m pdata)))
 
+-- a write returns no data
 unfoldable pub writeRequest : Memory → List ℕ → List ℕ → Reply (List ℕ)
 writeRequest m pdata mem =
-    unless (writeError m pdata) mem (reply (put mem (startOf m pdata) (dataOf m pdata)) 0 [])
+    replyOrRefused (writeError m pdata) mem (reply (overwrite mem (startOf m pdata) (dataOf m pdata)) 0 [])
 
--- a PCMD that is neither: 2
+-- a PCMD that is neither is error 2
 unfoldable pub memoryRequest : Memory → ℕ → List ℕ → List ℕ → Reply (List ℕ)
 memoryRequest m pcmd pdata mem =
     cond (eqb pcmd (readCommand m)) (readRequest m pdata mem)

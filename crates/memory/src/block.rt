@@ -1,10 +1,13 @@
-// The memories and their blocks.
+// The three memories, and which blocks a request may read or write.
 ghost use mathlib.Core.Path.{_≡_};
 ghost use mathlib.Core.List.{_++_};
 ghost use Prim.Native.Nat.{_+_, _≤_};
 ghost use lib.ListN.{length, drop};
 ghost use Rattle.dpa.specs.Lists.{slice};
-ghost use Rattle.memory.specs.Block.{sizeOf, longestOf, addressBytes, readCommand, writeCommand, blockFault, put};
+ghost use Rattle.memory.specs.Block.{sizeOf, longestOf, addressBytes, readCommand, writeCommand, blockFault, overwrite};
+
+// The block rule's result for a valid block: error::NONE for a request, refusal::NONE for a view.
+const NO_FAULT: u8 = 0;
 
 pub enum Memory {
     Eeprom,
@@ -12,7 +15,7 @@ pub enum Memory {
     External,
 }
 
-// The memory's bytes.
+// Size in bytes.
 pub fn size_of(memory: Memory) -> usize
     ensures { λ r. ⌜ (r ≡ sizeOf memory) × (r ≤ sizeOf Memory.External) ⌝ }
 {
@@ -23,7 +26,7 @@ pub fn size_of(memory: Memory) -> usize
     }
 }
 
-// The longest block that a request reads or writes.
+// The most bytes that one request reads or writes.
 pub fn longest_of(memory: Memory) -> usize
     ensures { λ r. ⌜ (r ≡ longestOf memory) × (r ≤ longestOf Memory.Eeprom) ⌝ }
 {
@@ -34,7 +37,7 @@ pub fn longest_of(memory: Memory) -> usize
     }
 }
 
-// How many bytes of PData the address takes.
+// Width of an address in PData, in bytes.
 pub fn address_bytes(memory: Memory) -> usize
     ensures { λ r. ⌜ (r ≡ addressBytes memory) × (1 ≤ r) × (r ≤ 2) ⌝ }
 {
@@ -45,6 +48,7 @@ pub fn address_bytes(memory: Memory) -> usize
     }
 }
 
+// PCMD of a read.
 pub fn read_command(memory: Memory) -> u8
     ensures { λ r. ⌜ r ≡ readCommand memory ⌝ }
 {
@@ -55,6 +59,7 @@ pub fn read_command(memory: Memory) -> u8
     }
 }
 
+// PCMD of a write.
 pub fn write_command(memory: Memory) -> u8
     ensures { λ r. ⌜ r ≡ writeCommand memory ⌝ }
 {
@@ -65,7 +70,8 @@ pub fn write_command(memory: Memory) -> u8
     }
 }
 
-// Why a block cannot be had: `too_long` or `outside`, or 0. The length is tested first, so that the sum is small.
+// The block rule: `too_long`, `outside` or NO_FAULT. Length and start are checked first, so `start + count`
+// cannot overflow.
 pub fn block_fault(memory: Memory, start: usize, count: usize, too_long: u8, outside: u8) -> u8
     ensures { λ r. ⌜ r ≡ blockFault (sizeOf memory) (longestOf memory) start count «too_long» outside ⌝ }
 {
@@ -78,12 +84,12 @@ pub fn block_fault(memory: Memory, start: usize, count: usize, too_long: u8, out
         return outside;
     }
     if start + count <= size {
-        return 0;
+        return NO_FAULT;
     }
     outside
 }
 
-// A block of mem to the front of out, whose later bytes stay.
+// Copies a block of mem to the front of out; the rest of out is unchanged.
 pub fn copy_out(mem: &[u8], start: usize, count: usize, out: &mut [u8])
     requires { ⌜ (start + count ≤ length (now mem)) × (count ≤ length (now out)) ⌝ }
     ensures { λ _. ⌜ now (out .exit) ≡ slice (now (mem .entry)) start count ++ drop count (now (out .entry)) ⌝ }
@@ -92,10 +98,10 @@ pub fn copy_out(mem: &[u8], start: usize, count: usize, out: &mut [u8])
     bytes::copy(&mem[start..end], out);
 }
 
-// The bytes of src to mem from a start; every other byte of mem stays.
+// Copies src into mem at start; the rest of mem is unchanged.
 pub fn copy_in(mem: &mut [u8], start: usize, src: &[u8])
     requires { ⌜ start + length (now src) ≤ length (now mem) ⌝ }
-    ensures { λ _. ⌜ now (mem .exit) ≡ put (now (mem .entry)) start (now (src .entry)) ⌝ }
+    ensures { λ _. ⌜ now (mem .exit) ≡ overwrite (now (mem .entry)) start (now (src .entry)) ⌝ }
 {
     bytes::copy(src, &mut mem[start..]);
 }

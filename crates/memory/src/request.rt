@@ -19,7 +19,7 @@ ghost use Rattle.dpa.specs.Reply.{replySeen, replyInBuffer};
 ghost use Rattle.memory.specs.Block.{sizeOf};
 ghost use Rattle.memory.specs.Request.{blockError, addressOf, readError, writeError, readRequest, writeRequest, memoryRequest};
 
-// The address at the front of PData, of one byte or of two.
+// The address at the front of PData: one byte, or two with the low byte first.
 fn address(width: usize, pdata: &[u8]) -> usize
     requires { ⌜ (1 ≤ width) × (width ≤ length (now pdata)) ⌝ }
     ensures { λ r. ⌜ r ≡ addressOf width (now (pdata .entry)) ⌝ }
@@ -30,14 +30,14 @@ fn address(width: usize, pdata: &[u8]) -> usize
     wide_word(word_of(pdata[0], pdata[1]))
 }
 
-// The block rule with the numbers of a request.
+// The block rule with the ErrN values of a request.
 fn block_error(memory: Memory, start: usize, count: usize) -> u8
     ensures { λ r. ⌜ r ≡ blockError memory start count ⌝ }
 {
     block_fault(memory, start, count, dpa::error::DATA_LEN, dpa::error::ADDR)
 }
 
-// Why a read is refused, or 0.
+// ErrN of a read.
 fn read_error(memory: Memory, pdata: &[u8]) -> u8
     ensures { λ r. ⌜ r ≡ readError memory (now (pdata .entry)) ⌝ }
 {
@@ -50,7 +50,7 @@ fn read_error(memory: Memory, pdata: &[u8]) -> u8
     block_error(memory, start, count)
 }
 
-// Why a write is refused, or 0.
+// ErrN of a write.
 fn write_error(memory: Memory, pdata: &[u8]) -> u8
     ensures { λ r. ⌜ r ≡ writeError memory (now (pdata .entry)) ⌝ }
 {
@@ -62,7 +62,7 @@ fn write_error(memory: Memory, pdata: &[u8]) -> u8
     block_error(memory, start, pdata.len() - width)
 }
 
-// A read. The bytes of the block go to the front of out.
+// Reads a block to the front of out.
 fn read(memory: Memory, mem: &[u8], pdata: &[u8], out: &mut [u8]) -> Reply
     requires { ⌜ (length (now mem) ≡ sizeOf memory) × (pdataMax ≤ length (now out)) ⌝ }
     ensures { λ r. ⌜ replySeen (now (mem .entry)) (r .error) (r .length) (now (out .exit))
@@ -82,7 +82,7 @@ fn read(memory: Memory, mem: &[u8], pdata: &[u8], out: &mut [u8]) -> Reply
     }
 }
 
-// A write answers no data: only ErrN.
+// Writes a block and returns ErrN: the response to a write has no data.
 fn write(memory: Memory, mem: &mut [u8], pdata: &[u8]) -> u8
     requires { ⌜ length (now mem) ≡ sizeOf memory ⌝ }
     ensures { λ r. ⌜ ((o : List ℕ) → replySeen (now (mem .exit)) r 0 o
@@ -95,10 +95,10 @@ fn write(memory: Memory, mem: &mut [u8], pdata: &[u8]) -> u8
     let width = address_bytes(memory);
     let start = address(width, pdata);
     copy_in(mem, start, &pdata[width..]);
-    0
+    dpa::error::NONE
 }
 
-// A request on a memory. The answer's data goes to the front of out; an error writes nothing.
+// Executes a request on a memory. The response data is written to the front of out; an error writes nothing.
 pub fn request(memory: Memory, mem: &mut [u8], pcmd: u8, pdata: &[u8], out: &mut [u8]) -> Reply
     requires { ⌜ (length (now mem) ≡ sizeOf memory) × (pdataMax ≤ length (now out)) ⌝ }
     ensures { λ r. ⌜ replySeen (now (mem .exit)) (r .error) (r .length) (now (out .exit))

@@ -9,7 +9,7 @@ use lib.Dec.{ltb, eqb}
 use borrow.Author.Tests.{eqb-true, eq-eqb, ltb-true, ltb-false}
 use Rattle.dpa.specs.declared.settings.Settings.{Settings}
 use Rattle.dpa.specs.Settings.{settingsOk}
-use Rattle.dpa.proofs.Bool.{and-left, and-right, both, by-test, all-intro, all-elim}
+use Rattle.dpa.proofs.Bool.{and-left, and-right, both, by-test, all-below-intro, all-below-elim}
 use Rattle.dpa.proofs.Ranges.{settings-facts}
 use Rattle.lights.specs.declared.lamp.Lamp.{Lamp}
 use Rattle.lights.specs.Lamp.{off, lampFits, LevelsInRange, actualLevel, tickLamp}
@@ -47,11 +47,11 @@ module _ (n : Node) (e : nodeOk n ≡ true) where
   -- each of a sound node's lamps keeps the rule of its place
   pub node-fits : (k : ℕ) → k < 32 → lampFits (n .settings .«lamp_count») k (getD (n .lamps) k off) ≡ true
   unfolding nodeOk lampsOk
-  node-fits = all-elim 32 _ (and-right (shapeOk n && settingsOk (n .settings)) (lampsOk (n .settings .«lamp_count») (n .lamps)) e)
+  node-fits = all-below-elim 32 _ (and-right (shapeOk n && settingsOk (n .settings)) (lampsOk (n .settings .«lamp_count») (n .lamps)) e)
 
   -- no level of a sound node is over 100
-  pub node-dimmed : LevelsInRange (n .lamps)
-  node-dimmed k =
+  pub node-levels-in-range : LevelsInRange (n .lamps)
+  node-levels-in-range k =
       by-test (ltb k 32)
       (λ t. fits-rule _ k _ (node-fits k (ltb-true _ _ t)) .level-max)
       (λ t. let z : getD (n .lamps) k off ≡ off = List·getD-eq-default (n .lamps) off (omega (arith, node-lamps, ltb-false k 32 t)) in
@@ -74,7 +74,7 @@ pub node-sound : (n : Node) → length (n .lamps) ≡ 32 → length (n .ram) ≡
     → ((k : ℕ) → k < 32 → lampFits (n .settings .«lamp_count») k (getD (n .lamps) k off) ≡ true)
     → nodeOk n ≡ true
 unfolding nodeOk lampsOk
-node-sound n a b s f = both (both (shape-test n a b) s) (all-intro 32 _ f)
+node-sound n a b s f = both (both (shape-test n a b) s) (all-below-intro 32 _ f)
 
 -- the facts give the test
 pub node-test : (n : Node) → NodeRule n → nodeOk n ≡ true
@@ -171,4 +171,4 @@ module _ (n : Node) (e : nodeOk n ≡ true) where
 
   -- none is over 100
   pub levels-max : (k : ℕ) → getD (levelsOf n .levels) k 0 ≤ 100
-  levels-max k = rw levels-at (actual-max (n .settings) (node-settings n e) (getD (n .lamps) k off .level) (node-dimmed n e k))
+  levels-max k = rw levels-at (actual-max (n .settings) (node-settings n e) (getD (n .lamps) k off .level) (node-levels-in-range n e k))

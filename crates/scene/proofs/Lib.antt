@@ -1,6 +1,6 @@
-pub mod Lists
+pub mod Batches
 pub mod Sizes
 pub mod Outputs
-pub mod Filling
-pub mod Requests
-pub mod Kept
+pub mod Remaining
+pub mod Progress
+pub mod Spans

@@ -1,120 +1,107 @@
--- The compile call's output: it is read back as the requests, it fits its buffer, and when nothing is refused.
+-- The output of the compile call: the requests can be read back from it, and it fits its buffer; when it is written.
 use mathlib.Core.List.{List, [], _∷_, _++_, append-assoc}
 use mathlib.Core.Path.{_≡_, refl, ap, _∙_}
 use mathlib.Core.Bool.{true, not}
-use mathlib.Core.Logic.{_↔_}
 use mathlib.Core.Option.{Option, none, some}
 use Prim.Native.Nat.{ℕ, suc, _+_, _*_, _≤_, _<_}
 use native.Mathlib.Omega.{arith}
 use lib.ListN.{length, length-append, length-map, drop}
 use lib.Seq.{take-append-seam, drop-append-seam, take-at, drop-at, sets}
 use lib.Dec.{ltb, leb}
-use borrow.Author.Tests.{leb-false, lt-leb, le-ltb, not-false}
+use borrow.Author.Tests.{lt-leb, le-ltb}
 use Rattle.dpa.specs.declared.frame.Frame.{Frame}
 use Rattle.dpa.specs.Frame.{longestFrame, frame}
 use Rattle.dpa.specs.Pnum.{osPnum}
+use Rattle.handler.specs.Request.{batchPcmd}
 use Rattle.dpa.proofs.Bool.{by-cond}
-use Rattle.dpa.proofs.Lists.{front}
+use Rattle.dpa.proofs.Lists.{sets-front}
 use Rattle.dpa.specs.Lists.{All}
 use Rattle.book.specs.declared.step.Step.{Step}
-use Rattle.book.specs.Group.{joined}
+use Rattle.book.specs.Group.{concat}
 use Rattle.book.specs.Join.{joins, entriesOf, entryLimit}
-use Rattle.book.specs.Book.{stepsMax, countOf, bookOk, sceneOf}
+use Rattle.book.specs.Book.{stepsMax, sceneCount, bookOk, sceneOf}
 use Rattle.book.specs.Step.{firstBadFrom}
 use Rattle.book.proofs.Faults.{Good, no-bad}
 use Rattle.book.proofs.Groups.{length-group}
 use Rattle.book.proofs.Books.{scene-length}
 use Rattle.scene.specs.declared.fill.SizeLimits.{SizeLimits}
-use Rattle.scene.specs.Compile.{listLimit, Limits, fills, batchesOf, requestWith, compiled}
-use Rattle.scene.specs.Call.{lengths, output, splitBy, requestsIn, minOutput, CompileResult, written, addressOk, compileSteps, compileScene, compileOf}
+use Rattle.scene.specs.Compile.{listLimit, Limits, fitsBatch, batchesOf, requestWith, sceneRequests}
+use Rattle.scene.specs.Call.{lengths, output, splitBy, requestsIn, minOutput, CompileResult, outputInBuffer, addressOk, compileSteps, compileScene, compileFor}
 use Rattle.scene.specs.Fill.{requestsWith}
-use Rattle.scene.proofs.Sizes.{Frame-sized, requests-fit}
-use Rattle.scene.proofs.Lists.{limits}
+use Rattle.scene.proofs.Sizes.{FrameSized, requests-fit}
+use Rattle.scene.proofs.Batches.{batch-limits}
 
 -- ---- the requests are read back
 
+-- as many lengths as requests
 pub lengths-length : (rs : List (List ℕ)) → length (lengths rs) ≡ length rs
 lengths-length [] = refl
 lengths-length (r ∷ rs) = ap suc (lengths-length rs)
 
-cut-back : (rs : List (List ℕ)) (t : List ℕ) → splitBy (lengths rs) (joined rs ++ t) ≡ rs
-cut-back [] t = refl
-cut-back (r ∷ rs) t =
-    rw (append-assoc r (joined rs) t, take-append-seam r (joined rs ++ t), drop-append-seam r (joined rs ++ t), cut-back rs t)
+split-back : (rs : List (List ℕ)) (t : List ℕ) → splitBy (lengths rs) (concat rs ++ t) ≡ rs
+split-back [] t = refl
+split-back (r ∷ rs) t =
+    rw (append-assoc r (concat rs) t, take-append-seam r (concat rs ++ t), drop-append-seam r (concat rs ++ t), split-back rs t)
 
--- the output read back is the list of requests, whatever follows it
+-- an output is read back as its requests; bytes after it make no difference
 pub requests-back : (rs : List (List ℕ)) (t : List ℕ) → requestsIn (output rs ++ t) ≡ rs
 unfolding requestsIn
 requests-back rs t =
     rw (
-      append-assoc (lengths rs) (joined rs) t,
-      take-at (lengths rs) (joined rs ++ t) (length rs) (lengths-length rs),
-      drop-at (lengths rs) (joined rs ++ t) (length rs) (lengths-length rs),
+      append-assoc (lengths rs) (concat rs) t,
+      take-at (lengths rs) (concat rs ++ t) (length rs) (lengths-length rs),
+      drop-at (lengths rs) (concat rs ++ t) (length rs) (lengths-length rs),
     )
-    (cut-back rs t)
+    (split-back rs t)
 
 -- ---- the output fits its buffer
 
-pub output-length : (rs : List (List ℕ)) → length (output rs) ≡ suc (length rs + length (joined rs))
-output-length rs = omega (arith, length-append (lengths rs) (joined rs), lengths-length rs)
+-- size of an output
+pub output-length : (rs : List (List ℕ)) → length (output rs) ≡ suc (length rs + length (concat rs))
+output-length rs = omega (arith, length-append (lengths rs) (concat rs), lengths-length rs)
 
-joined-length : (rs : List (List ℕ)) → All Frame-sized rs → length (joined rs) ≤ longestFrame * length rs
+joined-length : (rs : List (List ℕ)) → All FrameSized rs → length (concat rs) ≤ longestFrame * length rs
 joined-length [] a = omega arith
-joined-length (r ∷ rs) a = omega (arith, a .0 .1, length-append r (joined rs), joined-length rs (a .1))
+joined-length (r ∷ rs) a = omega (arith, a .0 .1, length-append r (concat rs), joined-length rs (a .1))
 
-module _ (most : SizeLimits) (head : Frame) (front : List ℕ) where
-  -- there are no more requests than steps
-  pub requests-few : (ss : List Step) → length (requestsWith most head front ss) ≤ length ss
-  requests-few ss =
+module _ (limits : SizeLimits) (header : Frame) (front : List ℕ) where
+  -- no more requests than steps
+  pub request-count : (ss : List Step) → length (requestsWith limits header front ss) ≤ length ss
+  request-count ss =
       omega (
         arith,
-        length-map (batchesOf (most .entry) (most .list) (head .hwpid) ss) (requestWith head front),
-        length-group (fills (most .list) (head .hwpid)) (entriesOf (most .entry) ss),
-        length-group (joins (most .entry)) ss,
+        length-map (batchesOf (limits .entry) (limits .list) (header .hwpid) ss) (requestWith header front),
+        length-group (fitsBatch (limits .list) (header .hwpid)) (entriesOf (limits .entry) ss),
+        length-group (joins (limits .entry)) ss,
       )
 
-  -- at most `stepsMax` requests, each no longer than a frame
-  pub output-fits : Limits (most .entry) (most .list) front → (ss : List Step) → length ss ≤ stepsMax → All Good ss
-      → length (output (requestsWith most head front ss)) ≤ minOutput
+  -- the output of any scene fits: at limits `stepsMax` requests, each no longer than a frame
+  pub output-fits : Limits (limits .entry) (limits .list) front → (ss : List Step) → length ss ≤ stepsMax → All Good ss
+      → length (output (requestsWith limits header front ss)) ≤ minOutput
   output-fits l ss n g =
-      let rs = requestsWith most head front ss in
-      omega (arith, output-length rs, joined-length rs (requests-fit l head ss g), requests-few ss)
+      let rs = requestsWith limits header front ss in
+      omega (arith, output-length rs, joined-length rs (requests-fit l header ss g), request-count ss)
 
--- ---- what is refused
+-- ---- what the call writes
 
--- a book and a scene's number without faults
+-- a well-formed book that has the scene, and no bad step in it
 pub record Faultless (b : List ℕ) (k : ℕ) : Type 0 where
   pub book : bookOk b ≡ true
-  pub number : k < countOf b
+  pub number : k < sceneCount b
   pub steps : firstBadFrom 0 (sceneOf b k) ≡ none
 
--- every output fits its buffer
-pub scene-fits : (b : List ℕ) (k a h : ℕ) → Faultless b k → length (output (compiled a h (sceneOf b k))) ≤ minOutput
+-- the output of a compiled scene fits its buffer
+pub scene-fits : (b : List ℕ) (k a h : ℕ) → Faultless b k → length (output (sceneRequests a h (sceneOf b k))) ≤ minOutput
 scene-fits b k a h f =
-    output-fits (record { entry = entryLimit; list = listLimit }) (frame a osPnum 0x05 h) [] limits (sceneOf b k) (scene-length b k (f .book))
+    output-fits (record { entry = entryLimit; list = listLimit }) (frame a osPnum batchPcmd h) [] batch-limits (sceneOf b k) (scene-length b k (f .book))
     (no-bad (sceneOf b k) .0 (f .steps))
 
--- a scene made into any requests
+-- with any rule from steps to requests
 module _ (b : List ℕ) (k : ℕ) (requests : List Step → List (List ℕ)) (out : List ℕ) where
-  -- with room and without faults nothing is refused: the output is written
-  pub scene-written : minOutput ≤ length out → Faultless b k → compileScene b k requests out ≡ written (output (requests (sceneOf b k))) out
+  -- with room and without a fault the output is written
+  pub scene-written : minOutput ≤ length out → Faultless b k → compileScene b k requests out ≡ outputInBuffer (output (requests (sceneOf b k))) out
   unfolding compileScene
-  scene-written room f = rw (f .book, lt-leb (countOf b) k (f .number), f .steps, le-ltb (length out) minOutput room)
-
-  abbrev Whole : CompileResult → Type 0
-  Whole r = r .refusal ≡ 0 → Faultless b k
-
-  steps-whole : bookOk b ≡ true → k < countOf b → (o : Option ℕ) → firstBadFrom 0 (sceneOf b k) ≡ o → Whole (compileSteps o (requests (sceneOf b k)) out)
-  steps-whole ok below (some j) e = λ z. absurd (omega arith)
-  steps-whole ok below none e = λ z. record { book = ok; number = below; steps = e }
-
-  -- what is not refused has no faults
-  pub scene-whole : Whole (compileScene b k requests out)
-  unfolding compileScene
-  scene-whole =
-      by-cond Whole (not (bookOk b)) _ _ (λ _ z. absurd (omega arith))
-      (λ ok. by-cond Whole (leb (countOf b) k) _ _ (λ _ z. absurd (omega arith))
-      (λ below. steps-whole (not-false _ ok) (leb-false _ _ below) (firstBadFrom 0 (sceneOf b k)) refl))
+  scene-written room f = rw (f .book, lt-leb (sceneCount b) k (f .number), f .steps, le-ltb (length out) minOutput room)
 
   abbrev Unwritten : CompileResult → Type 0
   Unwritten r = (r .refusal ≡ 0 → ⊥) → (r .length ≡ 0) × (r .buffer ≡ out)
@@ -123,44 +110,34 @@ module _ (b : List ℕ) (k : ℕ) (requests : List Step → List (List ℕ)) (ou
   steps-unwritten (some j) = λ _. (refl, refl)
   steps-unwritten none = by-cond Unwritten (ltb (length out) minOutput) _ _ (λ _ _. (refl, refl)) (λ _ n. absurd (n refl))
 
-  -- what is refused has no output, and the buffer stays
+  -- a refused scene has no output, and the buffer stays
   pub scene-unwritten : Unwritten (compileScene b k requests out)
   unfolding compileScene
   scene-unwritten =
       by-cond Unwritten (not (bookOk b)) _ _ (λ _ _. (refl, refl))
-      (λ _. by-cond Unwritten (leb (countOf b) k) _ _ (λ _ _. (refl, refl)) (λ _. steps-unwritten (firstBadFrom 0 (sceneOf b k))))
+      (λ _. by-cond Unwritten (leb (sceneCount b) k) _ _ (λ _ _. (refl, refl)) (λ _. steps-unwritten (firstBadFrom 0 (sceneOf b k))))
 
 module _ (b : List ℕ) (k a h : ℕ) (out : List ℕ) where
-  -- with address and room in range, a call without faults is not refused: it writes the output
-  pub written-whole : addressOk a ≡ true → minOutput ≤ length out → Faultless b k
-      → compileOf b k a h out ≡ written (output (compiled a h (sceneOf b k))) out
-  unfolding compileOf
-  written-whole ad room f = rw ad (scene-written b k (compiled a h) out room f)
-
-  -- a call that is not refused has no faults
-  pub refused-none : compileOf b k a h out .refusal ≡ 0 → Faultless b k
-  unfolding compileOf
-  refused-none =
-      by-cond (Whole b k (compiled a h) out) (not (addressOk a)) _ _ (λ _ z. absurd (omega arith)) (λ _. scene-whole b k (compiled a h) out)
+  -- with a valid address, room and no fault, the call writes the output
+  pub compile-written : addressOk a ≡ true → minOutput ≤ length out → Faultless b k
+      → compileFor b k a h out ≡ outputInBuffer (output (sceneRequests a h (sceneOf b k))) out
+  unfolding compileFor
+  compile-written ad room f = rw ad (scene-written b k (sceneRequests a h) out room f)
 
   -- a refused call has no output, and the buffer stays
-  pub compile-refused : (compileOf b k a h out .refusal ≡ 0 → ⊥) → (compileOf b k a h out .length ≡ 0) × (compileOf b k a h out .buffer ≡ out)
-  unfolding compileOf
+  pub compile-refused : (compileFor b k a h out .refusal ≡ 0 → ⊥) → (compileFor b k a h out .length ≡ 0) × (compileFor b k a h out .buffer ≡ out)
+  unfolding compileFor
   compile-refused =
-      by-cond (Unwritten b k (compiled a h) out) (not (addressOk a)) _ _ (λ _ _. (refl, refl)) (λ _. scene-unwritten b k (compiled a h) out)
+      by-cond (Unwritten b k (sceneRequests a h) out) (not (addressOk a)) _ _ (λ _ _. (refl, refl)) (λ _. scene-unwritten b k (sceneRequests a h) out)
 
-  -- refusal 0 exactly without faults, where address and room are in range
-  pub refusal-exact : addressOk a ≡ true → minOutput ≤ length out → (compileOf b k a h out .refusal ≡ 0) ↔ Faultless b k
-  refusal-exact ad room = (refused-none, λ f. ap (λ (r : CompileResult). r .refusal) (written-whole ad room f))
-
-  -- and what it wrote is read back as the requests
+  -- and the requests are read back from the buffer
   pub buffer-back : addressOk a ≡ true → minOutput ≤ length out → Faultless b k
-      → requestsIn (compileOf b k a h out .buffer) ≡ compiled a h (sceneOf b k)
+      → requestsIn (compileFor b k a h out .buffer) ≡ sceneRequests a h (sceneOf b k)
   buffer-back ad room f =
-      let rs = compiled a h (sceneOf b k) in
-      ap (λ (r : CompileResult). requestsIn (r .buffer)) (written-whole ad room f) ∙ requests-back rs (drop (length (output rs)) out)
+      let rs = sceneRequests a h (sceneOf b k) in
+      ap (λ (r : CompileResult). requestsIn (r .buffer)) (compile-written ad room f) ∙ requests-back rs (drop (length (output rs)) out)
 
--- ---- what is written
-pub written-as : (o out out′ : List ℕ) (used : ℕ) → used ≡ length o → out′ ≡ sets out 0 o → length o ≤ length out
-    → _≡_ {A = CompileResult} (record { refusal = 0; step = 0; length = used; buffer = out′ }) (written o out)
-written-as o out out′ used eu eo h = rw (eu, eo, front o out h)
+-- the result of a call that wrote the output from byte 0 on
+pub result-written : (o out out′ : List ℕ) (used : ℕ) → used ≡ length o → out′ ≡ sets out 0 o → length o ≤ length out
+    → _≡_ {A = CompileResult} (record { refusal = 0; step = 0; length = used; buffer = out′ }) (outputInBuffer o out)
+result-written o out out′ used eu eo h = rw (eu, eo, sets-front o out h)

@@ -1,4 +1,4 @@
--- How long lists and requests are: each request fits a frame.
+-- Sizes of lists and requests: each request fits a frame.
 use mathlib.Core.List.{List, [], _∷_, _++_, map, append-assoc, append-nil}
 use mathlib.Core.Path.{_≡_, sym, ap, _∙_}
 use Prim.Native.Nat.{ℕ, _+_, _≤_}
@@ -12,10 +12,10 @@ use Rattle.batch.proofs.RoundTrip.{entry-length}
 use Rattle.book.specs.declared.step.Step.{Step}
 use Rattle.book.specs.Entry.{groupData, joinedItem}
 use Rattle.book.proofs.Faults.{Good}
-use Rattle.scene.specs.Compile.{Limits, joinedItems, listOf, batchesOf, requestWith}
-use Rattle.scene.proofs.Lists.{Filling, fillings}
+use Rattle.scene.specs.Compile.{Limits, joinedItems, listOf, entrySize, emptyList, batchesOf, requestWith}
+use Rattle.scene.proofs.Batches.{BatchRule, batches-rule}
 
--- an entry more in a list
+-- one more entry at the end of a list adds its bytes
 pub entries-snoc : (h : ℕ) (rs : List (List Step)) (r : List Step)
     → entriesBytes (joinedItems h (rs ++ (r ∷ []))) ≡ entriesBytes (joinedItems h rs) ++ entryBytes (joinedItem h r)
 unfolding entriesBytes
@@ -24,8 +24,9 @@ entries-snoc h (x ∷ rs) r =
     ap (λ (t : List ℕ). entryBytes (joinedItem h x) ++ t) (entries-snoc h rs r)
     ∙ sym (append-assoc (entryBytes (joinedItem h x)) (entriesBytes (joinedItems h rs)) (entryBytes (joinedItem h r)))
 
+-- and its size
 pub list-snoc : (h : ℕ) (rs : List (List Step)) (r : List Step)
-    → length (listOf h (rs ++ (r ∷ []))) ≡ length (listOf h rs) + (5 + length (groupData r))
+    → length (listOf h (rs ++ (r ∷ []))) ≡ length (listOf h rs) + entrySize (length (groupData r))
 list-snoc h rs r =
     omega (
       arith,
@@ -36,30 +37,32 @@ list-snoc h rs r =
       entry-length (joinedItem h r),
     )
 
-pub list-one : (h : ℕ) (r : List Step) → length (listOf h (r ∷ [])) ≡ 6 + length (groupData r)
+-- size of a list of one entry
+pub list-one : (h : ℕ) (r : List Step) → length (listOf h (r ∷ [])) ≡ emptyList + entrySize (length (groupData r))
 unfolding entriesBytes entryBytes
 list-one h r = simp length-append (omega arith)
 
--- a header, bytes in front of the list, the list
-pub request-length : (head : Frame) (front : List ℕ) (rs : List (List Step))
-    → length (requestWith head front rs) ≡ headerSize + (length front + length (listOf (head .hwpid) rs))
-request-length head front rs = omega (arith, length-append front (listOf (head .hwpid) rs))
+-- size of a request
+pub request-length : (header : Frame) (front : List ℕ) (rs : List (List Step))
+    → length (requestWith header front rs) ≡ headerSize + (length front + length (listOf (header .hwpid) rs))
+request-length header front rs = omega (arith, length-append front (listOf (header .hwpid) rs))
 
-abbrev pub Frame-sized : List ℕ → Type 0
-Frame-sized r = (headerSize ≤ length r) × (length r ≤ longestFrame)
+-- a size that a frame may have
+abbrev pub FrameSized : List ℕ → Type 0
+FrameSized r = (headerSize ≤ length r) × (length r ≤ longestFrame)
 
--- every request fits a frame
-module _ {entryMost listMost : ℕ} {front : List ℕ} (l : Limits entryMost listMost front) (head : Frame) where
-  pub filling-fits : (rs : List (List Step)) → Filling entryMost listMost (head .hwpid) rs → Frame-sized (requestWith head front rs)
-  filling-fits rs b =
-      let n = request-length head front rs in
+-- every request of a scene fits a frame
+module _ {entryMost listMost : ℕ} {front : List ℕ} (l : Limits entryMost listMost front) (header : Frame) where
+  pub batch-fits : (rs : List (List Step)) → BatchRule entryMost listMost (header .hwpid) rs → FrameSized (requestWith header front rs)
+  batch-fits rs b =
+      let n = request-length header front rs in
       let s = b .size in
       let f = l .frame in
       (omega arith, omega arith)
 
-  pub requests-fit : (ss : List Step) → All Good ss → All Frame-sized (map (requestWith head front) (batchesOf entryMost listMost (head .hwpid) ss))
-  requests-fit ss g = each (batchesOf entryMost listMost (head .hwpid) ss) (fillings l (head .hwpid) ss g)
+  pub requests-fit : (ss : List Step) → All Good ss → All FrameSized (map (requestWith header front) (batchesOf entryMost listMost (header .hwpid) ss))
+  requests-fit ss g = each (batchesOf entryMost listMost (header .hwpid) ss) (batches-rule l (header .hwpid) ss g)
     where
-      each : (bs : List (List (List Step))) → All (Filling entryMost listMost (head .hwpid)) bs → All Frame-sized (map (requestWith head front) bs)
+      each : (bs : List (List (List Step))) → All (BatchRule entryMost listMost (header .hwpid)) bs → All FrameSized (map (requestWith header front) bs)
       each [] a = tt
-      each (b ∷ bs) a = (filling-fits b (a .0), each bs (a .1))
+      each (b ∷ bs) a = (batch-fits b (a .0), each bs (a .1))

@@ -1,4 +1,4 @@
--- Document 01, "Scenes": entries filled into batches, batches as requests.
+-- Document 01, "Scenes": entries are filled into batches, and each batch is a request.
 use mathlib.Core.List.{List, map, [], _∷_, _++_}
 use mathlib.Core.Bool.{Bool}
 use Prim.Native.Nat.{ℕ, _+_, _≤_}
@@ -7,56 +7,64 @@ use lib.ListN.{length}
 use Rattle.dpa.specs.declared.frame.Frame.{Frame}
 use Rattle.dpa.specs.Frame.{pdataMax, frame, headerBytes}
 use Rattle.dpa.specs.Pnum.{osPnum}
-use Rattle.batch.specs.Batch.{Item, listBytes}
+use Rattle.batch.specs.Batch.{Item, entryHead, listBytes}
+use Rattle.handler.specs.Request.{batchPcmd}
 use Rattle.book.specs.declared.step.Step.{Step}
 use Rattle.book.specs.Entry.{joinedItem}
 use Rattle.book.specs.Group.{group}
 use Rattle.book.specs.Join.{entryLimit, entriesOf}
-use Rattle.book.specs.Run.{oneStepMax}
+use Rattle.book.specs.EntrySize.{oneStepMax}
 
--- ---- lists and filling, for any two limits
+-- ---- entries filled into lists, for any two limits
 
--- the entries of joined steps for the profile h
+-- the entries of these groups of steps, for profile h
 abbrev pub joinedItems : ℕ → List (List Step) → List Item
-joinedItems h runs = map (joinedItem h) runs
+joinedItems h groups = map (joinedItem h) groups
 
 -- the list of these entries
 abbrev pub listOf : ℕ → List (List Step) → List ℕ
-listOf h runs = listBytes (joinedItems h runs)
+listOf h groups = listBytes (joinedItems h groups)
 
--- the longest list, its closing zero included
+-- size of an entry with `pdata` bytes of PData
+abbrev pub entrySize : ℕ → ℕ
+entrySize pdata = entryHead + pdata
+
+-- size of a list without entries: its closing zero
+abbrev pub emptyList : ℕ
+emptyList = 1
+
+-- maximum size of a list, its closing zero included
 abbrev pub listLimit : ℕ
 listLimit = pdataMax
 
--- an entry goes into the list before it, which stays at most `most`
-abbrev pub fills : ℕ → ℕ → List (List Step) → List Step → Bool
-fills most h runs run = leb (length (listOf h (runs ++ (run ∷ [])))) most
+-- whether a list stays within `listMost` with one more entry
+abbrev pub fitsBatch : ℕ → ℕ → List (List Step) → List Step → Bool
+fitsBatch listMost h groups group = leb (length (listOf h (groups ++ (group ∷ [])))) listMost
 
--- a scene's batches, each a list of entries
+-- the batches of a scene, each a list of entries, filled greedily from the left
 abbrev pub batchesOf : ℕ → ℕ → ℕ → List Step → List (List (List Step))
-batchesOf entryMost listMost h ss = group (fills listMost h) (entriesOf entryMost ss)
+batchesOf entryMost listMost h ss = group (fitsBatch listMost h) (entriesOf entryMost ss)
 
 -- ---- requests
 
--- what the limits and the bytes in front of the lists keep: an entry has room for a step, a list for an entry, and a frame
--- for a list
+-- the limits, and the bytes in front of the lists: an entry has room for a step, a list for an entry, and a frame for a list
 pub record Limits (entryMost listMost : ℕ) (front : List ℕ) : Type 0 where
   pub entry : oneStepMax ≤ entryMost
-  pub list : entryMost + 6 ≤ listMost
+  pub list : emptyList + entrySize entryMost ≤ listMost
   pub frame : length front + listMost ≤ pdataMax
 
--- the header, bytes in front of the list, the list
+-- a request: the header, the bytes in front of the list, the list
 abbrev pub requestWith : Frame → List ℕ → List (List Step) → List ℕ
-requestWith head front runs = headerBytes head ++ (front ++ listOf (head .hwpid) runs)
+requestWith header front groups = headerBytes header ++ (front ++ listOf (header .hwpid) groups)
 
--- OS 02 with this PCMD
+-- a request to peripheral OS with this PCMD
 abbrev pub requestBytes : ℕ → List ℕ → ℕ → ℕ → List (List Step) → List ℕ
-requestBytes pcmd front a h runs = requestWith (frame a osPnum pcmd h) front runs
+requestBytes pcmd front a h groups = requestWith (frame a osPnum pcmd h) front groups
 
 -- the requests of a scene within two limits, with any PCMD and any bytes in front of the lists
 abbrev pub requestsOf : ℕ → ℕ → ℕ → List ℕ → ℕ → ℕ → List Step → List (List ℕ)
 requestsOf entryMost listMost pcmd front a h ss = map (requestBytes pcmd front a h) (batchesOf entryMost listMost h ss)
 
--- the requests of a scene for address a and profile h
-abbrev pub compiled : ℕ → ℕ → List Step → List (List ℕ)
-compiled a h ss = requestsOf entryLimit listLimit 0x05 [] a h ss
+-- the batch requests of a scene for address a and profile h
+abbrev pub sceneRequests : ℕ → ℕ → List Step → List (List ℕ)
+sceneRequests a h ss = requestsOf entryLimit listLimit batchPcmd [] a h ss

@@ -1,4 +1,4 @@
--- What inner functions compute while a scene is compiled, for any two limits and any bytes in front of a list.
+-- What the inner functions of the compiler compute, for any two limits and any bytes in front of a list.
 use mathlib.Core.List.{List, map, [], _∷_, _++_}
 use mathlib.Core.Bool.{Bool, cond}
 use mathlib.Core.Path.{_≡_}
@@ -6,45 +6,46 @@ use Prim.Native.Nat.{ℕ, _+_, _*_}
 use lib.ListN.{length}
 use lib.Dec.{leb}
 use Rattle.dpa.specs.declared.frame.Frame.{Frame}
+use Rattle.batch.specs.Batch.{closingZero}
 use Rattle.book.specs.declared.step.Step.{Step}
 use Rattle.book.specs.Book.{stepsMax}
 use Rattle.book.specs.Entry.{groupData}
 use Rattle.book.specs.Join.{entriesOf}
 use Rattle.scene.specs.declared.fill.SizeLimits.{SizeLimits}
-use Rattle.scene.specs.Compile.{requestWith, batchesOf}
+use Rattle.scene.specs.Compile.{requestWith, batchesOf, entrySize, emptyList}
 
--- ---- the requests of steps within these limits, with this header and these bytes in front of each list
+-- the requests of steps within these limits, with this header and these bytes in front of each list
 abbrev pub requestsWith : SizeLimits → Frame → List ℕ → List Step → List (List ℕ)
-requestsWith most head front ss = map (requestWith head front) (batchesOf (most .entry) (most .list) (head .hwpid) ss)
+requestsWith limits header front ss = map (requestWith header front) (batchesOf (limits .entry) (limits .list) (header .hwpid) ss)
 
--- ---- an open list of `size` bytes, its closing zero counted, and an entry with `more` bytes of PData that comes next
+-- ---- an open list of `size` bytes, its closing zero included, and a next entry with `pdata` bytes of PData
 
--- whether the entry goes into it
+-- whether the list has room for the entry
 abbrev pub fitsList : ℕ → ℕ → ℕ → Bool
-fitsList listMost size more = leb (size + (5 + more)) listMost
+fitsList listMost size pdata = leb (size + entrySize pdata) listMost
 
--- the bytes of the list that it went into
+-- size of the list that the entry goes into: the open list, or a new one
 unfoldable pub nextSize : ℕ → ℕ → ℕ → ℕ
-nextSize listMost size more = cond (fitsList listMost size more) (size + (5 + more)) (6 + more)
+nextSize listMost size pdata = cond (fitsList listMost size pdata) (size + entrySize pdata) (emptyList + entrySize pdata)
 
--- the bytes in front of it: none, or the zero of the full list and what the next list's request begins with
+-- bytes written before the entry: none, or the open list's closing zero and the prefix of the next request
 unfoldable pub separatorBytes : ℕ → List ℕ → ℕ → ℕ → List ℕ
-separatorBytes listMost head size more = cond (fitsList listMost size more) [] (0 ∷ head)
+separatorBytes listMost prefix size pdata = cond (fitsList listMost size pdata) [] (closingZero ∷ prefix)
 
--- the length byte of the request of a list that is full, with `head` bytes in front of the list
+-- the length byte of the open list's request if the entry does not fit, where a request has `prefix` bytes before its list
 unfoldable pub separatorLength : ℕ → ℕ → ℕ → ℕ → List ℕ
-separatorLength listMost head size more = cond (fitsList listMost size more) [] ((size + head) ∷ [])
+separatorLength listMost prefix size pdata = cond (fitsList listMost size pdata) [] ((size + prefix) ∷ [])
 
--- ---- what the first pass keeps for the second: the steps of each entry, and the bytes of its PData
+-- ---- spans: what the first pass keeps about each entry for the second, its number of steps and the size of its PData
 abbrev pub spanBytes : List (List Step) → List ℕ
 spanBytes [] = []
-spanBytes (r ∷ rs) = length r ∷ length (groupData r) ∷ spanBytes rs
+spanBytes (group ∷ groups) = length group ∷ length (groupData group) ∷ spanBytes groups
 
--- two bytes for each step that a scene has at most
-abbrev pub keptRoom : ℕ
-keptRoom = 2 * stepsMax
+-- room for the spans of a scene: two bytes for each step
+abbrev pub maxSpanBytes : ℕ
+maxSpanBytes = 2 * stepsMax
 
--- bytes that begin with those of these steps' entries
-pub record KeepsEntries (entryMost : ℕ) (ss : List Step) (kept : List ℕ) : Type 0 where
+-- the bytes start with the spans of these steps' entries
+pub record StartsWithSpans (entryMost : ℕ) (ss : List Step) (bytes : List ℕ) : Type 0 where
   pub unused : List ℕ
-  pub begins : kept ≡ spanBytes (entriesOf entryMost ss) ++ unused
+  pub starts : bytes ≡ spanBytes (entriesOf entryMost ss) ++ unused

@@ -1,8 +1,8 @@
-// The compile call.
+// Compiles a scene of a book into batch requests.
 use crate::fill::SizeLimits;
 use crate::request::write_output;
-use book::contents::book_ok;
-use book::contents::scene_location;
+use book::locations::book_ok;
+use book::locations::scene_location;
 use book::step::first_bad_step;
 use dpa::frame::Frame;
 use dpa::number::wide;
@@ -17,18 +17,19 @@ ghost use Rattle.dpa.specs.Frame.{anyHwpid};
 ghost use Rattle.book.specs.Book.{stepsMax, stepLength, stepsIn};
 ghost use Rattle.book.specs.Step.{firstBadFrom};
 ghost use Rattle.scene.specs.Compile.{Limits};
-ghost use Rattle.scene.specs.Call.{addressOk, compileSteps, compileScene, compileOf, compiledAs};
+ghost use Rattle.scene.specs.Call.{addressOk, compileSteps, compileScene, compileFor, compileResult};
 ghost use Rattle.scene.specs.Fill.{requestsWith};
 
-// A batch: the longest PData of an entry, and the longest list.
+// Maximum size of the PData of a batch entry.
 const ENTRY_LIMIT: usize = 50;
 
+// Maximum size of a batch's list: it is the PData of its request.
 const LIST_LIMIT: usize = Frame::PDATA_MAX;
 
-// The bytes that an output buffer has at least.
+// Minimum size of the output buffer: every output fits.
 pub const MIN_OUTPUT: usize = 4096;
 
-// A refusal's number, or 0; with 8 the number of the bad step; the output's length.
+// `step` is the number of the bad step with refusal 8, and 0 otherwise. `length` is the size of the output, 0 if refused.
 #[repr(C)]
 pub struct CompileAnswer {
     pub refusal: u8,
@@ -58,18 +59,18 @@ fn address_ok(address: u16) -> bool
     address <= LAST_ADDRESS
 }
 
-// Steps of a scene, compiled into the output buffer.
+// Compiles the steps of a scene.
 fn compile_steps(
     body: &[u8],
     count: usize,
-    most: SizeLimits,
-    head: Frame,
+    limits: SizeLimits,
+    header: Frame,
     front: &[u8],
     out: &mut [u8],
 ) -> CompileAnswer
-    requires { ⌜ (stepLength * count ≤ length (now body)) × (count ≤ stepsMax) × Limits (most .entry) (most .list) (now front) ⌝ }
-    ensures { λ r. ⌜ compiledAs r (now (out .exit))
-        ≡ compileSteps (firstBadFrom 0 (stepsIn count (now (body .entry)))) (requestsWith most head (now (front .entry)) (stepsIn count (now (body .entry))))
+    requires { ⌜ (stepLength * count ≤ length (now body)) × (count ≤ stepsMax) × Limits (limits .entry) (limits .list) (now front) ⌝ }
+    ensures { λ r. ⌜ compileResult r (now (out .exit))
+        ≡ compileSteps (firstBadFrom 0 (stepsIn count (now (body .entry)))) (requestsWith limits header (now (front .entry)) (stepsIn count (now (body .entry))))
         (now (out .entry)) ⌝ }
 {
     let bad = first_bad_step(body, count);
@@ -79,7 +80,7 @@ fn compile_steps(
     if out.len() < MIN_OUTPUT {
         return refused(refusal::OUTPUT, 0);
     }
-    let length = write_output(body, count, most, head, front, out);
+    let length = write_output(body, count, limits, header, front, out);
     CompileAnswer {
         refusal: refusal::NONE,
         step: 0,
@@ -87,18 +88,18 @@ fn compile_steps(
     }
 }
 
-// A scene of a book as requests with a header and bytes in front of each list, within limits.
+// Compiles a scene within limits, into requests with this header and these bytes in front of each list.
 fn compile_scene(
     book: &[u8],
     scene: usize,
-    most: SizeLimits,
-    head: Frame,
+    limits: SizeLimits,
+    header: Frame,
     front: &[u8],
     out: &mut [u8],
 ) -> CompileAnswer
-    requires { ⌜ Limits (most .entry) (most .list) (now front) ⌝ }
-    ensures { λ r. ⌜ compiledAs r (now (out .exit))
-        ≡ compileScene (now (book .entry)) scene (requestsWith most head (now (front .entry))) (now (out .entry)) ⌝ }
+    requires { ⌜ Limits (limits .entry) (limits .list) (now front) ⌝ }
+    ensures { λ r. ⌜ compileResult r (now (out .exit))
+        ≡ compileScene (now (book .entry)) scene (requestsWith limits header (now (front .entry))) (now (out .entry)) ⌝ }
 {
     if !book_ok(book) {
         return refused(refusal::BOOK, 0);
@@ -107,35 +108,35 @@ fn compile_scene(
     if scenes <= scene {
         return refused(refusal::SCENE, 0);
     }
-    let content = scene_location(book, scene);
-    let from = content.offset;
-    let count = content.steps;
-    compile_steps(&book[from..], count, most, head, front, out)
+    let location = scene_location(book, scene);
+    let start = location.offset;
+    let count = location.steps;
+    compile_steps(&book[start..], count, limits, header, front, out)
 }
 
-// A scene of a book as batches for an address and a hardware profile.
+// Compiles a scene into batches for an address and a hardware profile.
 pub fn compile(book: &[u8], scene: usize, address: u16, hwpid: u16, out: &mut [u8]) -> CompileAnswer
-    ensures { λ r. ⌜ compiledAs r (now (out .exit)) ≡ compileOf (now (book .entry)) scene address hwpid (now (out .entry)) ⌝ }
+    ensures { λ r. ⌜ compileResult r (now (out .exit)) ≡ compileFor (now (book .entry)) scene address hwpid (now (out .entry)) ⌝ }
 {
     if !address_ok(address) {
         return refused(refusal::NODE, 0);
     }
-    let most = SizeLimits {
+    let limits = SizeLimits {
         entry: ENTRY_LIMIT,
         list: LIST_LIMIT,
     };
-    let head = Frame {
+    let header = Frame {
         nadr: address,
         pnum: pnum::OS,
         pcmd: BATCH,
         hwpid,
     };
-    compile_scene(book, scene, most, head, &[], out)
+    compile_scene(book, scene, limits, header, &[], out)
 }
 
-// The same with the profile that every node takes.
+// Compiles for the hardware profile that every node accepts.
 pub fn compile_default(book: &[u8], scene: usize, address: u16, out: &mut [u8]) -> CompileAnswer
-    ensures { λ r. ⌜ compiledAs r (now (out .exit)) ≡ compileOf (now (book .entry)) scene address anyHwpid (now (out .entry)) ⌝ }
+    ensures { λ r. ⌜ compileResult r (now (out .exit)) ≡ compileFor (now (book .entry)) scene address anyHwpid (now (out .entry)) ⌝ }
 {
     compile(book, scene, address, Frame::ANY_HWPID, out)
 }

@@ -1,4 +1,4 @@
-// Entries filled into lists, and the lengths of the lists' requests.
+// Fills entries into lists: the first pass, which writes the length bytes of the requests.
 use batch::entry::HEAD;
 use book::join::entry_from;
 use book::step::STEPS_MAX;
@@ -10,91 +10,95 @@ ghost use lib.Seq.{sets};
 ghost use Rattle.dpa.specs.declared.frame.Frame.{Frame};
 ghost use Rattle.dpa.specs.Frame.{pdataMax, longestFrame};
 ghost use Rattle.book.specs.Book.{stepsMax, stepLength, stepsIn};
-ghost use Rattle.book.specs.Run.{AllGood};
+ghost use Rattle.book.specs.Writing.{AllStepsGood};
 ghost use Rattle.scene.specs.Compile.{Limits};
 ghost use Rattle.scene.specs.Call.{lengths};
-ghost use Rattle.scene.specs.Fill.{requestsWith, nextSize, separatorLength, keptRoom, KeepsEntries};
+ghost use Rattle.scene.specs.Fill.{requestsWith, nextSize, separatorLength, maxSpanBytes, StartsWithSpans};
 
-// The most bytes of an entry's PData, and of a list, its closing zero included.
+// Maximum size of an entry's PData, and of a list with its closing zero.
 pub struct SizeLimits {
     pub entry: usize,
     pub list: usize,
 }
 
-// The bytes of a list without entries: its closing zero.
-pub const EMPTY: usize = 1;
+// Size of a list without entries: its closing zero.
+pub const EMPTY_LIST: usize = 1;
 
-// The next free place, and the bytes of the open list.
+// The list that the next entry goes into: where its next byte is written, and its size with the closing zero.
 pub struct OpenList {
     pub at: usize,
     pub size: usize,
 }
 
-// The bytes that keep the entries of a scene: for each its steps, and the length of its PData.
-pub const KEPT: usize = 2 * STEPS_MAX;
+// Bytes of a span: an entry's number of steps, and the size of its PData.
+pub const SPAN: usize = 2;
 
-// The length byte of a list's request if an entry with `more` bytes of PData finds the list full; `head` bytes stand in front of the list.
+// Room for the spans of a scene: it has no more entries than steps.
+pub const MAX_SPAN_BYTES: usize = SPAN * STEPS_MAX;
+
+// Writes the length byte of the open list's request if an entry with `pdata` bytes of PData does not fit the list.
+// A request has `prefix` bytes before its list.
 fn next_length(
     limit: usize,
-    head: usize,
+    prefix: usize,
     size: usize,
-    more: usize,
+    pdata: usize,
     out: &mut [u8],
     at: usize,
 ) -> OpenList
-    requires { ⌜ (size ≤ limit) × (more ≤ pdataMax) × (head + limit ≤ longestFrame) × (at + length (separatorLength limit head size more) ≤ length (now out)) ⌝ }
-    ensures { λ r. ⌜ (r .at ≡ at + length (separatorLength limit head size more)) × (r .size ≡ nextSize limit size more)
-        × (now (out .exit) ≡ sets (now (out .entry)) at (separatorLength limit head size more)) ⌝ }
+    requires { ⌜ (size ≤ limit) × (pdata ≤ pdataMax) × (prefix + limit ≤ longestFrame) × (at + length (separatorLength limit prefix size pdata) ≤ length (now out)) ⌝ }
+    ensures { λ r. ⌜ (r .at ≡ at + length (separatorLength limit prefix size pdata)) × (r .size ≡ nextSize limit size pdata)
+        × (now (out .exit) ≡ sets (now (out .entry)) at (separatorLength limit prefix size pdata)) ⌝ }
 {
-    let entry = HEAD + more;
+    let entry = HEAD + pdata;
     if size + entry <= limit {
         return OpenList {
             at,
             size: size + entry,
         };
     }
-    out[at] = (size + head) as u8;
+    out[at] = (size + prefix) as u8;
     OpenList {
         at: at + 1,
-        size: EMPTY + entry,
+        size: EMPTY_LIST + entry,
     }
 }
 
-// One length byte for each request. Keeps the entries, so that the requests are written without finding them again.
+// Writes one length byte for each request, and the span of each entry, so that the second pass need not join the steps again.
 pub fn write_lengths(
     body: &[u8],
     count: usize,
-    most: SizeLimits,
+    limits: SizeLimits,
     front: &[u8],
-    kept: &mut [u8],
+    spans: &mut [u8],
     out: &mut [u8],
     at: usize,
 ) -> usize
-    requires { ⌜ (stepLength * count ≤ length (now body)) × (count ≤ stepsMax) × AllGood (now body) count × Limits (most .entry) (most .list) (now front)
-        × (keptRoom ≤ length (now kept))
-        × ((head : Frame) → at + length (requestsWith most head (now front) (stepsIn count (now body))) ≤ length (now out)) ⌝ }
-    ensures { λ r. ⌜ ((head : Frame) → (r ≡ at + length (requestsWith most head (now (front .entry)) (stepsIn count (now (body .entry)))))
-        × (now (out .exit) ≡ sets (now (out .entry)) at (lengths (requestsWith most head (now (front .entry)) (stepsIn count (now (body .entry)))))))
-        × KeepsEntries (most .entry) (stepsIn count (now (body .entry))) (now (kept .exit)) ⌝ }
+    requires { ⌜ (stepLength * count ≤ length (now body)) × (count ≤ stepsMax) × AllStepsGood (now body) count × Limits (limits .entry) (limits .list) (now front)
+        × (maxSpanBytes ≤ length (now spans))
+        × ((header : Frame) → at + length (requestsWith limits header (now front) (stepsIn count (now body))) ≤ length (now out)) ⌝ }
+    ensures { λ r. ⌜ ((header : Frame) → (r ≡ at + length (requestsWith limits header (now (front .entry)) (stepsIn count (now (body .entry)))))
+        × (now (out .exit) ≡ sets (now (out .entry)) at (lengths (requestsWith limits header (now (front .entry)) (stepsIn count (now (body .entry)))))))
+        × StartsWithSpans (limits .entry) (stepsIn count (now (body .entry))) (now (spans .exit)) ⌝ }
 {
     if count == 0 {
         return at;
     }
-    let head = Frame::HEADER + front.len();
-    let mut done: usize = 0;
-    let mut size = EMPTY;
+    let prefix = Frame::HEADER + front.len();
+    let mut step: usize = 0;
+    let mut size = EMPTY_LIST;
     let mut end = at;
-    let mut pair: usize = 0;
-    while done < count {
-        let run = entry_from(body, count, done, most.entry);
-        kept[pair] = run.steps as u8;
-        kept[pair + 1] = run.size as u8;
-        pair = pair + 2;
-        let place = next_length(most.list, head, size, run.size, out, end);
-        size = place.size;
-        end = place.at;
-        done = done + run.steps;
+    let mut index: usize = 0;
+    while step < count {
+        let span = entry_from(body, count, step, limits.entry);
+        spans[index] = span.steps as u8;
+        spans[index + 1] = span.size as u8;
+        index = index + SPAN;
+        let list = next_length(limits.list, prefix, size, span.size, out, end);
+        size = list.size;
+        end = list.at;
+        step = step + span.steps;
     }
-    out[end] = (size + head) as u8;
+    out[end] = (size + prefix) as u8;
     end + 1
 }

@@ -1,4 +1,4 @@
-// The compiler from a scene to batch requests.
+// Compiles scenes into batch requests.
 pub mod compile;
 pub mod fill;
 pub mod request;

@@ -1,9 +1,11 @@
-// The requests of a scene, and the output that holds them.
-use crate::fill::EMPTY;
-use crate::fill::KEPT;
+// The second pass: writes the requests of a scene after their length bytes.
+use crate::fill::EMPTY_LIST;
+use crate::fill::MAX_SPAN_BYTES;
 use crate::fill::OpenList;
+use crate::fill::SPAN;
 use crate::fill::SizeLimits;
 use crate::fill::write_lengths;
+use batch::entry::CLOSING_ZERO;
 use batch::entry::HEAD;
 use book::entry::write_entry_at;
 use dpa::frame::Frame;
@@ -14,125 +16,112 @@ ghost use mathlib.Core.List.{_++_};
 ghost use Prim.Native.Nat.{_+_, _*_, _≤_};
 ghost use lib.ListN.{length};
 ghost use lib.Seq.{sets};
-ghost use Rattle.dpa.specs.Frame.{pdataMax, headerSize, headerBytes};
+ghost use Rattle.dpa.specs.Frame.{pdataMax, headerBytes};
 ghost use Rattle.book.specs.Book.{stepsMax, stepLength, stepsIn};
-ghost use Rattle.book.specs.Group.{joined};
-ghost use Rattle.book.specs.Run.{AllGood};
+ghost use Rattle.book.specs.Group.{concat};
+ghost use Rattle.book.specs.Writing.{AllStepsGood};
 ghost use Rattle.scene.specs.Compile.{Limits};
 ghost use Rattle.scene.specs.Call.{output, minOutput};
-ghost use Rattle.scene.specs.Fill.{requestsWith, nextSize, separatorBytes, KeepsEntries};
+ghost use Rattle.scene.specs.Fill.{requestsWith, nextSize, separatorBytes, StartsWithSpans};
 
-// The six bytes of a header.
-fn write_header(head: Frame, out: &mut [u8], at: usize) -> usize
-    requires { ⌜ at + headerSize ≤ length (now out) ⌝ }
-    ensures { λ r. ⌜ (r ≡ at + headerSize) × (now (out .exit) ≡ sets (now (out .entry)) at (headerBytes head)) ⌝ }
+// Writes what a request starts with: its header, and the bytes in front of its list.
+fn write_prefix(header: Frame, front: &[u8], out: &mut [u8], at: usize) -> usize
+    requires { ⌜ at + length (headerBytes header ++ now front) ≤ length (now out) ⌝ }
+    ensures { λ r. ⌜ (r ≡ at + length (headerBytes header ++ now (front .entry)))
+        × (now (out .exit) ≡ sets (now (out .entry)) at (headerBytes header ++ now (front .entry))) ⌝ }
 {
-    let header = Frame::header(head.nadr, head.pnum, head.pcmd, head.hwpid);
-    out[at] = header[0];
-    out[at + 1] = header[1];
-    out[at + 2] = header[2];
-    out[at + 3] = header[3];
-    out[at + 4] = header[4];
-    out[at + 5] = header[5];
-    at + Frame::HEADER
-}
-
-// What a request begins with: its header, and the bytes in front of its list.
-fn begin_request(head: Frame, front: &[u8], out: &mut [u8], at: usize) -> usize
-    requires { ⌜ at + length (headerBytes head ++ now front) ≤ length (now out) ⌝ }
-    ensures { λ r. ⌜ (r ≡ at + length (headerBytes head ++ now (front .entry)))
-        × (now (out .exit) ≡ sets (now (out .entry)) at (headerBytes head ++ now (front .entry))) ⌝ }
-{
-    let end = write_header(head, out, at);
+    let bytes = Frame::header(header.nadr, header.pnum, header.pcmd, header.hwpid);
+    copy_in(out, at, &bytes);
+    let end = at + Frame::HEADER;
     copy_in(out, end, front);
     end + front.len()
 }
 
-// The zero and the next request's beginning if an entry with `more` bytes of PData finds the list of `size` bytes full.
+// Ends the open list and starts the next request if an entry with `pdata` bytes of PData does not fit the list.
 fn next_list(
     limit: usize,
-    head: Frame,
+    header: Frame,
     front: &[u8],
     size: usize,
-    more: usize,
+    pdata: usize,
     out: &mut [u8],
     at: usize,
 ) -> OpenList
-    requires { ⌜ (size ≤ limit) × (more ≤ pdataMax) × (limit ≤ pdataMax)
-        × (at + length (separatorBytes limit (headerBytes head ++ now front) size more) ≤ length (now out)) ⌝ }
-    ensures { λ r. ⌜ (r .at ≡ at + length (separatorBytes limit (headerBytes head ++ now (front .entry)) size more))
-        × (r .size ≡ nextSize limit size more)
-        × (now (out .exit) ≡ sets (now (out .entry)) at (separatorBytes limit (headerBytes head ++ now (front .entry)) size more)) ⌝ }
+    requires { ⌜ (size ≤ limit) × (pdata ≤ pdataMax) × (limit ≤ pdataMax)
+        × (at + length (separatorBytes limit (headerBytes header ++ now front) size pdata) ≤ length (now out)) ⌝ }
+    ensures { λ r. ⌜ (r .at ≡ at + length (separatorBytes limit (headerBytes header ++ now (front .entry)) size pdata))
+        × (r .size ≡ nextSize limit size pdata)
+        × (now (out .exit) ≡ sets (now (out .entry)) at (separatorBytes limit (headerBytes header ++ now (front .entry)) size pdata)) ⌝ }
 {
-    let entry = HEAD + more;
+    let entry = HEAD + pdata;
     if size + entry <= limit {
         return OpenList {
             at,
             size: size + entry,
         };
     }
-    out[at] = 0;
-    let end = begin_request(head, front, out, at + 1);
+    out[at] = CLOSING_ZERO;
+    let end = write_prefix(header, front, out, at + 1);
     OpenList {
         at: end,
-        size: EMPTY + entry,
+        size: EMPTY_LIST + entry,
     }
 }
 
-// The requests one after another, by the entries that were kept.
+// Writes the requests one after another, with the entries that the spans give.
 fn write_requests(
     body: &[u8],
     count: usize,
-    kept: &[u8],
-    most: SizeLimits,
-    head: Frame,
+    spans: &[u8],
+    limits: SizeLimits,
+    header: Frame,
     front: &[u8],
     out: &mut [u8],
     at: usize,
 ) -> usize
-    requires { ⌜ (stepLength * count ≤ length (now body)) × (count ≤ stepsMax) × AllGood (now body) count × Limits (most .entry) (most .list) (now front)
-        × KeepsEntries (most .entry) (stepsIn count (now body)) (now kept)
-        × (at + length (joined (requestsWith most head (now front) (stepsIn count (now body)))) ≤ length (now out)) ⌝ }
-    ensures { λ r. ⌜ (r ≡ at + length (joined (requestsWith most head (now (front .entry)) (stepsIn count (now (body .entry))))))
-        × (now (out .exit) ≡ sets (now (out .entry)) at (joined (requestsWith most head (now (front .entry)) (stepsIn count (now (body .entry)))))) ⌝ }
+    requires { ⌜ (stepLength * count ≤ length (now body)) × (count ≤ stepsMax) × AllStepsGood (now body) count × Limits (limits .entry) (limits .list) (now front)
+        × StartsWithSpans (limits .entry) (stepsIn count (now body)) (now spans)
+        × (at + length (concat (requestsWith limits header (now front) (stepsIn count (now body)))) ≤ length (now out)) ⌝ }
+    ensures { λ r. ⌜ (r ≡ at + length (concat (requestsWith limits header (now (front .entry)) (stepsIn count (now (body .entry))))))
+        × (now (out .exit) ≡ sets (now (out .entry)) at (concat (requestsWith limits header (now (front .entry)) (stepsIn count (now (body .entry)))))) ⌝ }
 {
     if count == 0 {
         return at;
     }
-    let mut end = begin_request(head, front, out, at);
-    let mut size = EMPTY;
-    let mut done: usize = 0;
-    let mut pair: usize = 0;
-    while done < count {
-        let taken = wide(kept[pair]);
-        let more = wide(kept[pair + 1]);
-        pair = pair + 2;
-        let place = next_list(most.list, head, front, size, more, out, end);
-        size = place.size;
-        end = write_entry_at(body, done, taken, head.hwpid, more, out, place.at);
-        done = done + taken;
+    let mut end = write_prefix(header, front, out, at);
+    let mut size = EMPTY_LIST;
+    let mut step: usize = 0;
+    let mut index: usize = 0;
+    while step < count {
+        let steps = wide(spans[index]);
+        let pdata = wide(spans[index + 1]);
+        index = index + SPAN;
+        let list = next_list(limits.list, header, front, size, pdata, out, end);
+        size = list.size;
+        end = write_entry_at(body, step, steps, header.hwpid, pdata, out, list.at);
+        step = step + steps;
     }
-    out[end] = 0;
+    out[end] = CLOSING_ZERO;
     end + 1
 }
 
-// The whole output of a scene; returns its length.
+// Writes the whole output of a scene; returns its length.
 pub fn write_output(
     body: &[u8],
     count: usize,
-    most: SizeLimits,
-    head: Frame,
+    limits: SizeLimits,
+    header: Frame,
     front: &[u8],
     out: &mut [u8],
 ) -> usize
-    requires { ⌜ (stepLength * count ≤ length (now body)) × (count ≤ stepsMax) × AllGood (now body) count × Limits (most .entry) (most .list) (now front)
+    requires { ⌜ (stepLength * count ≤ length (now body)) × (count ≤ stepsMax) × AllStepsGood (now body) count × Limits (limits .entry) (limits .list) (now front)
         × (minOutput ≤ length (now out)) ⌝ }
-    ensures { λ r. ⌜ (r ≡ length (output (requestsWith most head (now (front .entry)) (stepsIn count (now (body .entry))))))
-        × (now (out .exit) ≡ sets (now (out .entry)) 0 (output (requestsWith most head (now (front .entry)) (stepsIn count (now (body .entry)))))) ⌝ }
+    ensures { λ r. ⌜ (r ≡ length (output (requestsWith limits header (now (front .entry)) (stepsIn count (now (body .entry))))))
+        × (now (out .exit) ≡ sets (now (out .entry)) 0 (output (requestsWith limits header (now (front .entry)) (stepsIn count (now (body .entry)))))) ⌝ }
 {
-    let mut kept = [0u8; KEPT];
-    let end = write_lengths(body, count, most, front, &mut kept, out, 1);
+    let mut spans = [0u8; MAX_SPAN_BYTES];
+    let end = write_lengths(body, count, limits, front, &mut spans, out, 1);
     let requests = end - 1;
     out[0] = requests as u8;
-    write_requests(body, count, &kept, most, head, front, out, end)
+    write_requests(body, count, &spans, limits, header, front, out, end)
 }

@@ -30,8 +30,8 @@ pub record Confirmed : Type 0 where
   pub length : ℕ
   pub out : List ℕ
 
-abbrev pub confirmed : LengthAnswer → List ℕ → Confirmed
-confirmed r o = record { refusal = r .refusal; length = r .length; out = o }
+abbrev pub confirmResult : LengthAnswer → List ℕ → Confirmed
+confirmResult r o = record { refusal = r .refusal; length = r .length; out = o }
 
 -- bytes at the front of the buffer, and their count
 abbrev pub wrote : ℕ → List ℕ → List ℕ → Confirmed

@@ -8,7 +8,7 @@ ghost use Prim.Native.Nat.{_≤_};
 ghost use lib.ListN.{length};
 ghost use Rattle.dpa.specs.Frame.{headerSize};
 ghost use Rattle.dpa.specs.Lists.{overwriteFront};
-ghost use Rattle.timing.specs.Confirm.{responseHopsSent, confirmBytes, confirmed, confirmOf};
+ghost use Rattle.timing.specs.Confirm.{responseHopsSent, confirmBytes, confirmResult, confirmOf};
 
 #[repr(C)]
 pub struct LengthAnswer {
@@ -61,7 +61,7 @@ pub fn confirm(
     network: Network,
     out: &mut [u8],
 ) -> LengthAnswer
-    ensures { λ r. ⌜ confirmed r (now (out .exit)) ≡ confirmOf (now (frame .entry)) «dpa_value» hops «response_hops» network (now (out .entry)) ⌝ }
+    ensures { λ r. ⌜ confirmResult r (now (out .exit)) ≡ confirmOf (now (frame .entry)) «dpa_value» hops «response_hops» network (now (out .entry)) ⌝ }
 {
     if !Frame::fits(frame.len()) {
         return LengthAnswer {

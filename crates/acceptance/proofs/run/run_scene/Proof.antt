@@ -1,3 +1,4 @@
+-- `run::run_scene`: the tests of node and memories, the compiler, then the requests.
 use borrow.Author.Needs.{needs}
 use mathlib.Core.Path.{_≡_, ap, sym, _∙_}
 use borrow.Author.Tests.{not-true, not-false}
@@ -7,10 +8,10 @@ use Rattle.memory.specs.declared.block.Memory.the-variants.{Eeprom, External}
 use Rattle.memory.specs.Block.{sizeOf}
 use Rattle.node.specs.Node.{nodeOk}
 use Rattle.handler.specs.Request.{state}
-use Rattle.scene.specs.Call.{compiledAs}
+use Rattle.scene.specs.Call.{compileResult}
 use Rattle.acceptance.specs.declared.run.SceneAnswer.{SceneAnswer}
-use Rattle.acceptance.specs.RunScene.{ranAs}
-use Rattle.acceptance.proofs.Running.{run-broken, run-eeprom, run-external, run-refused, run-holds, run-done}
+use Rattle.acceptance.specs.RunScene.{sceneResult}
+use Rattle.acceptance.proofs.Running.{run-unsound, run-eeprom, run-external, run-refused, run-complete, run-done}
 use Rattle.acceptance.proofs.run.run_scene.Statement.{statement}
 use Rattle.acceptance.proofs.run.run_scene.Tie as tie
 
@@ -27,44 +28,44 @@ external-size c = c .if3 .left ∙ c .before .size-of2 .ensures .0
 returns : tie.Need-returns
 returns c =
     let a = c .before .before .before .before .before .before .before .args in
-    ap (λ (r : SceneAnswer). ranAs r (a .eeprom .now) (a .external .now) (a .out .now)) (c .answer .ensures)
-    ∙ run-broken (a .book .now) (a .scene) (state (a .node) (a .eeprom .now) (a .external .now)) (a .out .now) (sym (c .before .before .node-ok .ensures) ∙ not-true _ (c .before .if1 .taken))
+    ap (λ (r : SceneAnswer). sceneResult r (a .eeprom .now) (a .external .now) (a .out .now)) (c .answer .ensures)
+    ∙ run-unsound (a .book .now) (a .scene) (state (a .node) (a .eeprom .now) (a .external .now)) (a .out .now) (sym (c .before .before .node-ok .ensures) ∙ not-true _ (c .before .if1 .taken))
 
 returns-2 : tie.Need-returns-2
 returns-2 c =
     let a = c .before .before .before .before .before .before .before .before .before .args in
-    ap (λ (r : SceneAnswer). ranAs r (a .eeprom .now) (a .external .now) (a .out .now)) (c .answer2 .ensures)
+    ap (λ (r : SceneAnswer). sceneResult r (a .eeprom .now) (a .external .now) (a .out .now)) (c .answer2 .ensures)
     ∙ run-eeprom (a .book .now) (a .scene) (state (a .node) (a .eeprom .now) (a .external .now)) (a .out .now) (node-sound (c .before .before .before)) (λ z. c .before .if2 .taken (z ∙ sym (c .before .before .size-of .ensures .0)))
 
 returns-3 : tie.Need-returns-3
 returns-3 c =
     let a = c .before .before .before .before .before .before .before .before .before .before .before .args in
-    ap (λ (r : SceneAnswer). ranAs r (a .eeprom .now) (a .external .now) (a .out .now)) (c .answer3 .ensures)
+    ap (λ (r : SceneAnswer). sceneResult r (a .eeprom .now) (a .external .now) (a .out .now)) (c .answer3 .ensures)
     ∙ run-external (a .book .now) (a .scene) (state (a .node) (a .eeprom .now) (a .external .now)) (a .out .now) (node-sound (c .before .before .before .before .before)) (eeprom-size (c .before .before .before)) (λ z. c .before .if3 .taken (z ∙ sym (c .before .before .size-of2 .ensures .0)))
 
 returns-4 : tie.Need-returns-4
 returns-4 c =
     let k = c .before .before .before .before .before in
     let a = k .before .before .before .before .before .before .before .before .before .before .before .before .before .args in
-    ap (λ (r : SceneAnswer). ranAs r (a .eeprom .now) (a .external .now) (k .compile .last .1 .1 .1 .1 .0)) (c .answer4 .ensures)
-    ∙ run-refused (a .book .now) (a .scene) (state (a .node) (a .eeprom .now) (a .external .now)) (a .out .now) (node-sound (k .before .before .before .before .before .before .before)) (eeprom-size (k .before .before .before .before .before)) (external-size (k .before .before .before)) (compiledAs (k .compile .result) (k .compile .last .1 .1 .1 .1 .0)) (k .compile .ensures) (c .before .if4 .taken)
+    ap (λ (r : SceneAnswer). sceneResult r (a .eeprom .now) (a .external .now) (k .compile .last .1 .1 .1 .1 .0)) (c .answer4 .ensures)
+    ∙ run-refused (a .book .now) (a .scene) (state (a .node) (a .eeprom .now) (a .external .now)) (a .out .now) (node-sound (k .before .before .before .before .before .before .before)) (eeprom-size (k .before .before .before .before .before)) (external-size (k .before .before .before)) (compileResult (k .compile .result) (k .compile .last .1 .1 .1 .1 .0)) (k .compile .ensures) (c .before .if4 .taken)
 
-take-output-requires : tie.Need-take-output-requires
-take-output-requires c κs =
+handle-output-requires : tie.Need-handle-output-requires
+handle-output-requires c κs =
     let k = c .before .before .before .before .before .before .before in
     let a = k .before .before .before .before .before .before .before .before .before .before .before .before .before .args in
-    run-holds (a .book .now) (a .scene) (state (a .node) (a .eeprom .now) (a .external .now)) (a .out .now) (node-sound (k .before .before .before .before .before .before .before)) (eeprom-size (k .before .before .before .before .before)) (external-size (k .before .before .before)) (compiledAs (k .compile .result) (k .compile .last .1 .1 .1 .1 .0)) (k .compile .ensures) (c .before .before .before .if4 .left)
+    run-complete (a .book .now) (a .scene) (state (a .node) (a .eeprom .now) (a .external .now)) (a .out .now) (node-sound (k .before .before .before .before .before .before .before)) (eeprom-size (k .before .before .before .before .before)) (external-size (k .before .before .before)) (compileResult (k .compile .result) (k .compile .last .1 .1 .1 .1 .0)) (k .compile .ensures) (c .before .before .before .if4 .left)
 
 returns-5 : tie.Need-returns-5
 returns-5 c =
     let k = c .before .before .before .before .before .before .before .before .before .before .before .before .before in
     let a = k .before .before .before .before .before .before .before .before .before .before .before .before .before .args in
-    ap (λ (r : SceneAnswer). ranAs r (c .before .before .before .before .before .take-output .last .1 .1 .0) (c .before .before .before .before .before .take-output .last .1 .1 .1 .0) (k .compile .last .1 .1 .1 .1 .0)) (c .answer5 .ensures)
-    ∙ run-done (a .book .now) (a .scene) (state (a .node) (a .eeprom .now) (a .external .now)) (a .out .now) (node-sound (k .before .before .before .before .before .before .before)) (eeprom-size (k .before .before .before .before .before)) (external-size (k .before .before .before)) (compiledAs (k .compile .result) (k .compile .last .1 .1 .1 .1 .0)) (k .compile .ensures) (c .before .before .before .before .before .before .before .before .before .if4 .left) _ (c .before .before .before .before .before .take-output .ensures)
+    ap (λ (r : SceneAnswer). sceneResult r (c .before .before .before .before .before .handle-output .last .1 .1 .0) (c .before .before .before .before .before .handle-output .last .1 .1 .1 .0) (k .compile .last .1 .1 .1 .1 .0)) (c .answer5 .ensures)
+    ∙ run-done (a .book .now) (a .scene) (state (a .node) (a .eeprom .now) (a .external .now)) (a .out .now) (node-sound (k .before .before .before .before .before .before .before)) (eeprom-size (k .before .before .before .before .before)) (external-size (k .before .before .before)) (compileResult (k .compile .result) (k .compile .last .1 .1 .1 .1 .0)) (k .compile .ensures) (c .before .before .before .before .before .before .before .before .before .if4 .left) _ (c .before .before .before .before .before .handle-output .ensures)
 
 pub run-scene-spec : {M : Type 1} → statement M
 run-scene-spec =
     tie.close (tie.spec (λ c κs. search needs) (λ c κs. search needs) returns (λ c κs. search needs)
     (λ c κs. search needs) returns-2 (λ c κs. search needs) (λ c κs. search needs) returns-3 (λ c κs. search needs)
-    (λ c κs. search needs) (λ c. search needs) returns-4 take-output-requires (λ c κs. search needs) (λ c. search needs)
+    (λ c κs. search needs) (λ c. search needs) returns-4 handle-output-requires (λ c κs. search needs) (λ c. search needs)
     (λ c. search needs) (λ c. search needs) returns-5)

@@ -1,14 +1,16 @@
+-- `check_list` recurses on the rest of the list, which gets shorter by each entry.
 use borrow.Author.Needs.{needs}
 use native.Mathlib.Omega.{arith}
 use mathlib.Core.Path.{_≡_, sym, ap, _∙_}
+use mathlib.Core.List.{List}
 use Prim.Native.Nat.{ℕ, _<_, _≤_, _-_}
 use lib.ListN.{length, length-drop, length-take}
 use Rattle.dpa.specs.Lists.{slice}
 use Rattle.batch.specs.declared.entry.NextEntry.the-variants.{Entry}
-use Rattle.batch.specs.Batch.{nextEntry, shiftFault}
+use Rattle.batch.specs.Batch.{entryHead, nextEntry, shiftFault}
 use Rattle.batch.proofs.Entries.{entry-sized}
-use Rattle.batch.proofs.Lists.{list-closed, list-fault, list-more}
-use Rattle.batch.proofs.Faults.{broken-blame, place-max}
+use Rattle.batch.proofs.Lists.{check-end, check-fault, check-entry}
+use Rattle.batch.proofs.Faults.{broken-fault, place-max}
 use borrow.Fn.Kinds.{In}
 use borrow.Fn.PlainCycle.{Measures, is, falls, and}
 use Rattle.batch.proofs.list.check_list.Reads as check-list
@@ -33,21 +35,29 @@ check-list-below t =
 abbrev calls : ℕ → check-list-lts.Claims
 calls t = (at-end-reads.Asked, at-end-reads.Learnt, next-entry-reads.Asked, next-entry-reads.Learnt, fault-of-reads.Asked, fault-of-reads.Learnt, check-list-below t, check-list.Post)
 
--- where an entry stands first
-first-is : (t : ℕ) (c : check-list-lts.After-first (calls t) (check-list-at t) check-list.Post)
-    → nextEntry (c .before .before .before .before .before .before .args .rest .now) ≡ Entry (c .first .given .0 .0) (c .first .given .0 .1 .0) (c .first .given .0 .1 .1 .0) (c .first .given .0 .1 .1 .1 .0)
-first-is t c = sym (c .before .before .next-entry .ensures) ∙ c .first .given .1
+-- the place after an entry was read
+abbrev AfterFirst : ℕ → Type 0
+AfterFirst t = check-list-lts.After-first (calls t) (check-list-at t) check-list.Post
 
-sized : (t : ℕ) (c : check-list-lts.After-first (calls t) (check-list-at t) check-list.Post)
-    → (5 ≤ c .first .given .0 .0) × (c .first .given .0 .0 ≤ length (c .before .before .before .before .before .before .args .rest .now))
-sized t c = entry-sized _ (first-is t c)
+-- the list, at that place
+abbrev list : (t : ℕ) → AfterFirst t → List ℕ
+list t c = c .before .before .before .before .before .before .args .rest .now
+
+-- the entry at its front
+first-entry-is : (t : ℕ) (c : AfterFirst t)
+    → nextEntry (list t c) ≡ Entry (c .first .given .0 .0) (c .first .given .0 .1 .0) (c .first .given .0 .1 .1 .0) (c .first .given .0 .1 .1 .1 .0)
+first-entry-is t c = sym (c .before .before .next-entry .ensures) ∙ c .first .given .1
+
+-- which lies in the list
+sized : (t : ℕ) (c : AfterFirst t) → (entryHead ≤ c .first .given .0 .0) × (c .first .given .0 .0 ≤ length (list t c))
+sized t c = entry-sized _ (first-entry-is t c)
 
 check-list-at-end-requires : (t : ℕ) → check-list-lts.Need-at-end-requires (calls t) (check-list-at t) check-list.Post
 check-list-at-end-requires t c κs = tt
 
 check-list-returns : (t : ℕ) → check-list-lts.Need-returns (calls t) (check-list-at t) check-list.Post
 check-list-returns t c =
-    list-closed (c .before .before .before .args .rest .now) (sym (c .before .at-end .ensures) ∙ c .if1 .taken)
+    check-end (c .before .before .before .args .rest .now) (sym (c .before .at-end .ensures) ∙ c .if1 .taken)
 
 check-list-next-entry-requires : (t : ℕ) → check-list-lts.Need-next-entry-requires (calls t) (check-list-at t) check-list.Post
 check-list-next-entry-requires t c κs = tt
@@ -59,7 +69,7 @@ check-list-returns-2 : (t : ℕ) → check-list-lts.Need-returns-2 (calls t) (ch
 check-list-returns-2 t c =
     let n = c .before .before .before in
     c .fault-of .ensures
-    ∙ list-fault (n .before .before .before .before .args .rest .now) (sym (n .before .before .at-end .ensures) ∙ n .before .if1 .left) (n .next-entry .ensures) (c .before .enum-told .given .1)
+    ∙ check-fault (n .before .before .before .before .args .rest .now) (sym (n .before .before .at-end .ensures) ∙ n .before .if1 .left) (n .next-entry .ensures) (c .before .enum-told .given .1)
 
 check-list-sub-check-list : (t : ℕ) → check-list-lts.Need-sub-check-list (calls t) (check-list-at t) check-list.Post
 check-list-sub-check-list t c = let z = sized t (c .before) in omega arith
@@ -76,14 +86,14 @@ check-list-returns-3 : (t : ℕ) → check-list-lts.Need-returns-3 (calls t) (ch
 check-list-returns-3 t c =
     let f = c .before .before .before .before .before in
     ap (shiftFault (f .first .given .0 .0)) (sym (c .enum-told2 .given .1))
-    ∙ list-more _ (first-is t f) (c .before .before .check-list .ensures)
+    ∙ check-entry _ (first-entry-is t f) (c .before .before .check-list .ensures)
 
 check-list-add-t9 : (t : ℕ) → check-list-lts.Need-add-t9 (calls t) (check-list-at t) check-list.Post
 check-list-add-t9 t c =
     let f = c .before .before .before .before .before .before in
-    let s = f .before .before .before .before .before .before .args .rest .now in
+    let s = list t f in
     let l = f .first .given .0 .0 in
-    let b = place-max (broken-blame (slice s l (length s - l)) (sym (c .before .before .before .check-list .ensures) ∙ c .before .after .given .1)) in
+    let b = place-max (broken-fault (slice s l (length s - l)) (sym (c .before .before .before .check-list .ensures) ∙ c .before .after .given .1)) in
     let n : length (slice s l (length s - l)) ≡ length s - l = simp (length-take, length-drop) (omega arith) in
     let z = sized t f in
     omega arith
@@ -92,7 +102,7 @@ check-list-returns-4 : (t : ℕ) → check-list-lts.Need-returns-4 (calls t) (ch
 check-list-returns-4 t c =
     let f = c .before .before .before .before .before .before in
     ap (shiftFault (f .first .given .0 .0)) (sym (c .before .after .given .1))
-    ∙ list-more _ (first-is t f) (c .before .before .before .check-list .ensures)
+    ∙ check-entry _ (first-entry-is t f) (c .before .before .before .check-list .ensures)
 
 pub +check-list-spec : {M : Type 1} → statement M
 +check-list-spec = close μ-check-list λ t. check-list-lts.spec (calls t) (check-list-at t) check-list.Post

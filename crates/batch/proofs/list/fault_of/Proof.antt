@@ -1,3 +1,4 @@
+-- `fault_of`: by the cases of the enum.
 use borrow.Author.Needs.{needs}
 use mathlib.Core.Path.{sym, ap}
 use Rattle.batch.specs.Batch.{faultOf}

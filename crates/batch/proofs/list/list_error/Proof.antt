@@ -1,3 +1,4 @@
+-- `list_error`: by the cases of the enum.
 use borrow.Author.Needs.{needs}
 use mathlib.Core.Path.{sym}
 use Rattle.batch.proofs.Faults.{broken-error, sound-error}

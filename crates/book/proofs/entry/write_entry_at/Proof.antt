@@ -2,7 +2,7 @@ use Prim.Native.Nat.{_*_}
 use native.Mathlib.Omega.{arith}
 use lib.ListN.{length-drop}
 use borrow.Author.Needs.{needs}
-use Rattle.dpa.proofs.Lists.{to-end}
+use Rattle.dpa.proofs.Lists.{slice-to-end}
 use Rattle.book.specs.Book.{stepLength}
 use Rattle.book.proofs.entry.write_entry_at.Statement.{statement}
 use Rattle.book.proofs.entry.write_entry_at.Tie as tie
@@ -10,13 +10,13 @@ use Rattle.book.proofs.entry.write_entry_at.Tie as tie
 write-entry-requires : tie.Need-write-entry-requires
 write-entry-requires c κs =
     let s = c .before .before .before .before in
-    rw (to-end (stepLength * s .args .done) (s .args .body .now))
+    rw (slice-to-end (stepLength * s .args .done) (s .args .body .now))
     (omega (arith, s .pre .0, length-drop (stepLength * s .args .done) (s .args .body .now)), s .pre .1, omega (arith, s .pre .2), s .pre .3, s .pre .4, s .pre .5, s .pre .6)
 
 returns : tie.Need-returns
 returns c =
     let s = c .before .before .before .before .before .before .before in
-    rw (to-end (stepLength * s .args .done) (s .args .body .now)) at (c .before .before .write-entry .ensures)
+    rw (slice-to-end (stepLength * s .args .done) (s .args .body .now)) at (c .before .before .write-entry .ensures)
 
 pub write-entry-at-spec : {M : Type 1} → statement M
 write-entry-at-spec =

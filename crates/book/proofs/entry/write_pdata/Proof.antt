@@ -9,9 +9,9 @@ use borrow.Author.Needs.{needs}
 use Rattle.book.specs.declared.step.Step.{Step}
 use Rattle.book.specs.Book.{stepsIn}
 use Rattle.book.specs.Step.{isLamp}
-use Rattle.book.specs.Entry.{bitmapOf, powersBytes, values, fourBytes}
-use Rattle.book.specs.Run.{stepAt}
-use Rattle.book.proofs.Writing.{put-two, sets-keep, data-lamp, data-mem, values-count}
+use Rattle.book.specs.Entry.{bitmapOf, powersBytes, values, bitmapBytes}
+use Rattle.book.specs.Positions.{stepAt}
+use Rattle.book.proofs.Writing.{two-writes, sets-keep, data-lamp, data-mem, values-count}
 use Rattle.book.proofs.entry.write_pdata.Statement.{statement}
 use Rattle.book.proofs.entry.write_pdata.Tie as tie
 
@@ -44,7 +44,7 @@ write-powers-requires c κs =
       omega (
         arith,
         e .0,
-        sets-keep (s .args .out .now) _ (fourBytes (c .before .before .before .before .before .bitmap-of .result)) (s .args .at) (e .1),
+        sets-keep (s .args .out .now) _ (bitmapBytes (c .before .before .before .before .before .bitmap-of .result)) (s .args .at) (e .1),
         s .pre .3,
         ap length (data-lamp (s .args .count) (s .args .body .now) (s .pre .1) k),
       ),
@@ -58,8 +58,8 @@ returns c =
     let four = c .before .before .before .before .before .before .write-bitmap .ensures in
     let powers = c .before .before .write-powers .ensures in
     let ss = stepsIn (s .args .count) (s .args .body .now) in
-    put-two (s .args .out .now) _ _ (fourBytes (bitmapOf ss)) (powersBytes ss) _ _ _ _
-    (four .1 ∙ ap (λ (m : ℕ). sets (s .args .out .now) (s .args .at) (fourBytes m)) (c .before .before .before .before .before .before .before .before .bitmap-of .ensures))
+    two-writes (s .args .out .now) _ _ (bitmapBytes (bitmapOf ss)) (powersBytes ss) _ _ _ _
+    (four .1 ∙ ap (λ (m : ℕ). sets (s .args .out .now) (s .args .at) (bitmapBytes m)) (c .before .before .before .before .before .before .before .before .bitmap-of .ensures))
     (four .0) (powers .1) (powers .0)
     (data-lamp (s .args .count) (s .args .body .now) (s .pre .1) (lamp at))
 
@@ -92,7 +92,7 @@ returns-2 c =
     let s = at .before .before .before .before .before in
     let vs = c .before .before .write-values .ensures in
     let n = values-count (s .args .count) (s .args .body .now) in
-    put-two (s .args .out .now) _ _ (stepAt (s .args .body .now) 0 .target ∷ []) (values (stepsIn (s .args .count) (s .args .body .now))) _
+    two-writes (s .args .out .now) _ _ (stepAt (s .args .body .now) 0 .target ∷ []) (values (stepsIn (s .args .count) (s .args .body .now))) _
     _ _ _ (ap (λ (x : Step). set (s .args .out .now) (s .args .at) (x .target)) (at .before .before .step-at .ensures)) refl (vs .1)
     (omega (arith, vs .0, n))
     (data-mem (s .args .count) (s .args .body .now) (s .pre .1) (byte at))

@@ -1,6 +1,6 @@
 use native.Mathlib.Omega.{arith}
 use borrow.Author.Needs.{needs}
-use Rattle.book.proofs.Joining.{run-part}
+use Rattle.book.proofs.FirstEntry.{run-part}
 use Rattle.book.proofs.join.entry_from.Statement.{statement}
 use Rattle.book.proofs.join.entry_from.Tie as tie
 

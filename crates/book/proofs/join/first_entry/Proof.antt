@@ -3,8 +3,8 @@ use Prim.Native.Nat.{_-_}
 use native.Mathlib.Omega.{arith}
 use borrow.Author.Needs.{needs}
 use Rattle.book.specs.declared.step.Step.{Step}
-use Rattle.book.specs.Run.{firstSize}
-use Rattle.book.proofs.Joining.{At, run-start, run-stop, run-more, run-end}
+use Rattle.book.specs.EntrySize.{firstSize}
+use Rattle.book.proofs.FirstEntry.{At, run-start, run-stop, run-more, run-end}
 use Rattle.book.proofs.join.first_entry.Statement.{statement}
 use Rattle.book.proofs.join.first_entry.Tie as tie
 

@@ -1,7 +1,7 @@
 use mathlib.Core.Path.{sym, _∙_}
 use native.Mathlib.Omega.{arith}
 use borrow.Author.Needs.{needs}
-use Rattle.book.specs.Run.{firstSize}
+use Rattle.book.specs.EntrySize.{firstSize}
 use Rattle.book.proofs.join.first_size.Statement.{statement}
 use Rattle.book.proofs.join.first_size.Tie as tie
 

@@ -1,7 +1,7 @@
 use mathlib.Core.Path.{sym, _∙_}
 use native.Mathlib.Omega.{arith}
 use borrow.Author.Needs.{needs}
-use Rattle.book.proofs.Joining.{size-over, size-yes, size-no}
+use Rattle.book.proofs.FirstEntry.{size-over, size-yes, size-no}
 use Rattle.book.proofs.join.joined_size.Statement.{statement}
 use Rattle.book.proofs.join.joined_size.Tie as tie
 

@@ -2,7 +2,7 @@ use mathlib.Core.Path.{sym, _∙_}
 use native.Mathlib.Omega.{arith}
 use borrow.Author.Needs.{needs}
 use borrow.Author.Tests.{eq-eqb, ne-eqb}
-use Rattle.book.specs.Run.{stepSize, powerSize}
+use Rattle.book.specs.EntrySize.{stepSize, powerSize}
 use Rattle.book.proofs.join.step_size.Statement.{statement}
 use Rattle.book.proofs.join.step_size.Tie as tie
 

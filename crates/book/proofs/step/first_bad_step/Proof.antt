@@ -6,7 +6,7 @@ use borrow.Author.Needs.{needs}
 use borrow.Author.Tests.{eq-eqb, ne-eqb}
 use Rattle.book.specs.Book.{stepsIn}
 use Rattle.book.specs.Step.{firstBadFrom}
-use Rattle.book.proofs.Books.{bad-more, bad-stop, bad-end}
+use Rattle.book.proofs.GoodSteps.{bad-more, bad-stop, bad-end}
 use Rattle.book.proofs.step.first_bad_step.Statement.{statement}
 use Rattle.book.proofs.step.first_bad_step.Tie as tie
 

@@ -1,4 +1,6 @@
-use borrow.Author.Tests.{eq-eqb, ne-eqb}
+-- `check::block_size` meets its contract.
+use borrow.Author.Needs.{needs}
+use mathlib.Core.Path.{sym, _∙_}
 use native.Mathlib.Omega.{arith}
 use Rattle.checksum.specs.Check.{blockSize}
 use Rattle.checksum.proofs.check.block_size.Statement.{statement}
@@ -6,11 +8,11 @@ use Rattle.checksum.proofs.check.block_size.Tie as tie
 
 returns : tie.Need-returns
 unfolding blockSize
-returns c = (simp (eq-eqb _ _ (c .if1 .taken)), omega arith)
+returns c = (rw (sym (c .before .is-plugin .ensures) ∙ c .if1 .taken), omega arith)
 
 returns-2 : tie.Need-returns-2
 unfolding blockSize
-returns-2 c = (simp (ne-eqb _ _ (c .if1 .left)), omega arith)
+returns-2 c = (rw (sym (c .before .is-plugin .ensures) ∙ c .if1 .left), omega arith)
 
 pub block-size-spec : {M : Type 1} → statement M
-block-size-spec = tie.close (tie.spec returns returns-2)
+block-size-spec = tie.close (tie.spec (λ c κs. search needs) returns returns-2)

@@ -1,5 +1,6 @@
+-- `check::image_matches` meets its contract: without an error the image is inside external memory.
 use native.Mathlib.Omega.{arith}
-use Rattle.checksum.proofs.Checks.{image-fits, image-compared}
+use Rattle.checksum.proofs.Checks.{image-fits, image-sums-compared}
 use borrow.Author.Needs.{needs}
 use Rattle.checksum.proofs.check.image_matches.Statement.{statement}
 use Rattle.checksum.proofs.check.image_matches.Tie as tie
@@ -9,9 +10,12 @@ part-image-sums-end c = omega (arith, image-fits _ (c .before .before .before .p
 
 returns : tie.Need-returns
 returns c =
-    let a = c .before .before .before .before .before .before .before .before .before .args in
-    image-compared (a .external .now) (a .image) (c .before .before .image-sums .result) _ _ _ _
-    (c .before .before .before .before .before .before .before .wide-word .ensures .0) (c .before .before .before .before .before .before .wide-word2 .ensures .0) (c .before .before .before .before .initial-low .ensures) (c .before .before .image-sums .ensures) (c .before .word-of .ensures)
+    let sums = c .before .before in
+    let low = sums .before .before in
+    let end = low .before .before in
+    let a = end .before .before .before .args in
+    image-sums-compared (a .external .now) (a .image) (sums .image-sums .result) _ _ _ _
+    (end .before .wide-word .ensures .0) (end .wide-word2 .ensures .0) (low .initial-low .ensures) (sums .image-sums .ensures) (c .before .word-of .ensures)
 
 pub image-matches-spec : {M : Type 1} → statement M
 image-matches-spec =

@@ -1,3 +1,4 @@
+-- `check::read_image` meets its contract.
 use borrow.Author.Needs.{needs}
 use Rattle.checksum.proofs.check.read_image.Statement.{statement}
 use Rattle.checksum.proofs.check.read_image.Tie as tie

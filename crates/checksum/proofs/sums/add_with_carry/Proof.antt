@@ -1,6 +1,7 @@
+-- `sums::add_with_carry` meets its contract.
 use native.Mathlib.Omega.{arith}
 use mathlib.Core.Path.{_∙_}
-use Rattle.checksum.proofs.Fletcher.{carried, plain}
+use Rattle.checksum.proofs.Fletcher.{sum-carried, sum-uncarried}
 use borrow.Author.Needs.{needs}
 use Rattle.checksum.proofs.sums.add_with_carry.Statement.{statement}
 use Rattle.checksum.proofs.sums.add_with_carry.Tie as tie
@@ -9,12 +10,12 @@ returns : tie.Need-returns
 returns c =
     let k = c .before .before in
     c .wrapping-add-u82 .ensures
-    ∙ carried (k .before .args .a) (k .before .args .b) (k .wrapping-add-u8 .result) (omega arith) (omega arith) (k .wrapping-add-u8 .ensures) (c .before .if1 .taken)
+    ∙ sum-carried (k .before .args .a) (k .before .args .b) (k .wrapping-add-u8 .result) (omega arith) (omega arith) (k .wrapping-add-u8 .ensures) (c .before .if1 .taken)
 
 returns-2 : tie.Need-returns-2
 returns-2 c =
     let k = c .before in
-    plain (k .before .args .a) (k .before .args .b) (k .wrapping-add-u8 .result) (omega arith) (omega arith) (k .wrapping-add-u8 .ensures) (c .if1 .left)
+    sum-uncarried (k .before .args .a) (k .before .args .b) (k .wrapping-add-u8 .result) (omega arith) (omega arith) (k .wrapping-add-u8 .ensures) (c .if1 .left)
 
 pub add-with-carry-spec : {M : Type 1} → statement M
 add-with-carry-spec =

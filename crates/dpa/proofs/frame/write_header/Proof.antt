@@ -1,22 +1,26 @@
+-- `frame::write_header` meets its contract: six bytes are copied to the front, two are stored after them.
 use borrow.Author.Needs.{needs}
+use mathlib.Core.List.{List, [], _∷_, _++_}
+use mathlib.Core.Path.{ap, _∙_}
+use Prim.Native.Nat.{ℕ}
 use native.Mathlib.Omega.{arith}
-use lib.ListN.{length-set}
-use Rattle.dpa.proofs.Headers.{eight-stores}
+use lib.ListN.{length}
+use Rattle.dpa.specs.Frame.{headerSize}
+use Rattle.dpa.specs.Lists.{overwriteFront}
+use Rattle.dpa.proofs.Lists.{sets-after-copy}
 use Rattle.dpa.proofs.frame.write_header.Statement.{statement}
 use Rattle.dpa.proofs.frame.write_header.Tie as tie
 
-same-length : tie.Need-same-length
-same-length c = simp length-set
-
 returns : tie.Need-returns
 returns c =
-    let a = c .before .before .args in
-    eight-stores (a .response .now) (c .header .result) (a .settings) (a .pnum) (a .pcmd) (a .error) (c .header .ensures) (omega arith)
+    let a = c .before .before .before .before .before .before .before .args in
+    let header = c .before .before .before .before .before .header in
+    let copy = c .before .before .copy in
+    let last-two = a .error ∷ a .settings .«dpa_value» ∷ [] in
+    sets-after-copy (header .result) last-two (a .response .now) (copy .last .1 .0) headerSize (ap length (header .ensures)) (omega arith) (copy .ensures .1)
+    ∙ ap (λ (h : List ℕ). overwriteFront (h ++ last-two) (a .response .now)) (header .ensures)
 
 pub write-header-spec : {M : Type 1} → statement M
 write-header-spec =
-    tie.close (tie.spec (λ c. search needs) (λ c κs. search needs) (λ c. search needs) (λ c. search needs)
-    (λ c. search needs) (λ c. simp length-set (omega arith)) (λ c. search needs) (λ c. simp length-set (omega arith))
-    (λ c. search needs) (λ c. simp length-set (omega arith)) (λ c. search needs) (λ c. simp length-set (omega arith))
-    (λ c. search needs) (λ c. simp length-set (omega arith)) (λ c. simp length-set (omega arith))
-    (λ c. simp length-set (omega arith)) same-length returns)
+    tie.close (tie.spec (λ c. search needs) (λ c κs. search needs) (λ c. search needs) (λ c κs. search needs)
+    (λ c. search needs) (λ c. search needs) (λ c. search needs) (λ c. search needs) returns)

@@ -1,3 +1,4 @@
+-- `settings::step_ok` meets its contract.
 use borrow.Author.Needs.{needs}
 use borrow.Author.Tests.{ne-eqb}
 use Rattle.dpa.specs.Settings.{stepOk}

@@ -1,35 +1,45 @@
+-- `run_list`: a loop over the entries; `PartlyRun` is its invariant.
 use borrow.Author.Needs.{needs}
 use borrow.Author.Tests.{not-false}
 use native.Mathlib.Omega.{arith}
 use mathlib.Core.Path.{_≡_, refl, sym, _∙_}
-use Prim.Native.Nat.{_-_, _+_, _≤_}
+use mathlib.Core.List.{List}
+use Prim.Native.Nat.{ℕ, _-_, _+_, _≤_}
 use lib.ListN.{length, take, drop}
 use Rattle.batch.specs.declared.entry.NextEntry.the-variants.{Entry}
-use Rattle.batch.specs.Batch.{nextEntry}
-use Rattle.handler.specs.Request.{stateFromParts}
-use Rattle.handler.proofs.Listing.{Running, run-starts, run-ends, turn-sized, turn-runs, fault-ends}
+use Rattle.batch.specs.Batch.{entryHead, nextEntry}
+use Rattle.handler.specs.Seen.{stateFromParts}
+use Rattle.handler.proofs.Batches.{PartlyRun, run-starts, run-ends, entry-in-list, entry-runs, fault-ends}
 use Rattle.handler.proofs.entries.run_list.Statement.{statement}
 use Rattle.handler.proofs.entries.run_list.Tie as tie
 
 abbrev Inv-loop : tie.InvT-loop
 Inv-loop fixed lamps₀ list ram₀ eeprom₀ external₀ at₀ lamps ram eeprom external at =
-    Running list (stateFromParts fixed lamps₀ ram₀ eeprom₀ external₀) at (stateFromParts fixed lamps ram eeprom external)
+    PartlyRun list (stateFromParts fixed lamps₀ ram₀ eeprom₀ external₀) at (stateFromParts fixed lamps ram eeprom external)
     × (length ram ≡ length ram₀) × (length eeprom ≡ length eeprom₀) × (length external ≡ length external₀)
 
 abbrev μ-loop : tie.MeasureT-loop
 μ-loop fixed lamps₀ list ram₀ eeprom₀ external₀ at₀ lamps ram eeprom external at = length list - at
 
--- the entry that stands at the place
-first-is : (c : tie.After-known-told Inv-loop μ-loop) →
-    let list = c .before .before .before .before .before .before .before .before .before .before .before .before .before .args .list .now in
-    let at = c .before .before .before .before .before .before .before .before .loop .at in
-    let g = c .before .len .given .0 in
-    nextEntry (take (length list - at) (drop at list)) ≡ Entry (g .0) (g .1 .0) (g .1 .1 .0) (g .1 .1 .1 .0)
-first-is c = sym (c .before .before .before .next-entry .ensures) ∙ c .before .len .given .1
+-- after an entry was read: the list, the position in it, and the length of the entry
+abbrev list : tie.After-known-told Inv-loop μ-loop → List ℕ
+list c = c .before .before .before .before .before .before .before .before .before .before .before .before .before .args .list .now
 
-sized : (c : tie.After-known-told Inv-loop μ-loop) →
-    (5 ≤ c .before .len .given .0 .0) × (c .before .before .before .before .before .before .before .before .loop .at + c .before .len .given .0 .0 ≤ length (c .before .before .before .before .before .before .before .before .before .before .before .before .before .args .list .now))
-sized c = turn-sized _ _ _ _ (c .before .before .before .before .before .before .before .before .loop .inv .0) (first-is c)
+abbrev place : tie.After-known-told Inv-loop μ-loop → ℕ
+place c = c .before .before .before .before .before .before .before .before .loop .at
+
+abbrev len : tie.After-known-told Inv-loop μ-loop → ℕ
+len c = c .before .len .given .0 .0
+
+-- the entry that was read
+first-entry-is : (c : tie.After-known-told Inv-loop μ-loop) →
+    let g = c .before .len .given .0 in
+    nextEntry (take (length (list c) - place c) (drop (place c) (list c))) ≡ Entry (g .0) (g .1 .0) (g .1 .1 .0) (g .1 .1 .1 .0)
+first-entry-is c = sym (c .before .before .before .next-entry .ensures) ∙ c .before .len .given .1
+
+-- it lies in the list
+sized : (c : tie.After-known-told Inv-loop μ-loop) → (entryHead ≤ len c) × (place c + len c ≤ length (list c))
+sized c = entry-in-list _ _ _ _ (c .before .before .before .before .before .before .before .before .loop .inv .0) (first-entry-is c)
 
 loop-holds : tie.Need-loop-holds Inv-loop μ-loop
 loop-holds c = (run-starts _ _ (c .before .before .before .before .pre), refl, refl, refl)
@@ -47,7 +57,9 @@ part-next-entry-start : tie.Need-part-next-entry-start Inv-loop μ-loop
 part-next-entry-start c = omega (arith, c .before .before .before .loop .inv .0 .place-max)
 
 returns : tie.Need-returns Inv-loop μ-loop
-returns c = fault-ends _ _ _ _ (c .before .before .before .before .before .before .before .loop .inv .0) (sym (c .before .before .next-entry .ensures) ∙ c .enum-told .given .1)
+returns c =
+    let i = c .before .before .before .before .before .before .before .loop .inv in
+    fault-ends _ _ _ _ (i .0) (sym (c .before .before .next-entry .ensures) ∙ c .enum-told .given .1)
 
 add-run-entry : tie.Need-add-run-entry Inv-loop μ-loop
 add-run-entry c = let z = sized c in omega arith
@@ -65,7 +77,9 @@ part-run-entry-end : tie.Need-part-run-entry-end Inv-loop μ-loop
 part-run-entry-end c = let z = sized c in omega arith
 
 run-entry-requires : tie.Need-run-entry-requires Inv-loop μ-loop
-run-entry-requires c κs = c .before .before .before .before .before .before .before .before .before .before .before .before .loop .inv .0 .sound
+run-entry-requires c κs =
+    let i = c .before .before .before .before .before .before .before .before .before .before .before .before .loop .inv in
+    i .0 .sound
 
 add-at : tie.Need-add-at Inv-loop μ-loop
 add-at c = let z = sized (c .before .before .before .before .before .before .before .before .before .before .before) in omega arith
@@ -75,11 +89,13 @@ loop-less c = let z = sized (c .before .before .before .before .before .before .
 
 loop-again : tie.Need-loop-again Inv-loop μ-loop
 loop-again c =
-    let i = c .before .before .before .before .before .before .before .before .before .before .before .before .before .before .before .before .before .before .before .loop .inv in (
-      turn-runs _ _ _ _ (i .0) (first-is (c .before .before .before .before .before .before .before .before .before .before .before)) (c .before .before .before .before .before .before .run-entry .ensures),
-      c .before .before .before .before .before .before .run-entry .kept .1 .1 .1 .1 .1 .1 .0 ∙ i .1,
-      c .before .before .before .before .before .before .run-entry .kept .1 .1 .1 .1 .1 .1 .1 .0 ∙ i .2,
-      c .before .before .before .before .before .before .run-entry .kept .1 .1 .1 .1 .1 .1 .1 .1 .0 ∙ i .3,
+    let call = c .before .before .before .before .before .before in
+    let read = call .before .before .before .before .before in
+    let i = read .before .before .before .before .before .before .before .before .loop .inv in (
+      entry-runs _ _ _ _ (i .0) (first-entry-is read) (call .run-entry .ensures),
+      call .run-entry .kept .1 .1 .1 .1 .1 .1 .0 ∙ i .1,
+      call .run-entry .kept .1 .1 .1 .1 .1 .1 .1 .0 ∙ i .2,
+      call .run-entry .kept .1 .1 .1 .1 .1 .1 .1 .1 .0 ∙ i .3,
     )
 
 returns-2 : tie.Need-returns-2 Inv-loop μ-loop

@@ -1,3 +1,4 @@
+-- `peripheral`: one law of `peripheralRequest` for each PNUM.
 use borrow.Author.Needs.{needs}
 use mathlib.Core.Path.{ap, sym, _∙_}
 use mathlib.Core.List.{List}
@@ -5,64 +6,66 @@ use Rattle.lights.specs.declared.lamp.Lamp.{Lamp}
 use Rattle.dpa.specs.Reply.{Reply, replyInBuffer}
 use Rattle.dpa.proofs.Replies.{reply-mapped}
 use Rattle.memory.specs.declared.block.Memory.the-variants.{Eeprom, Ram, External}
-use Rattle.memory.specs.Request.{memoryRequest}
 use Rattle.lights.specs.Lights.{lightsRequest}
-use Rattle.node.proofs.Nodes.{node-settings, node-dimmed, node-ram}
-use Rattle.handler.specs.Request.{State, stateFromParts, withMemory}
-use Rattle.handler.proofs.Performing.{perform-memory, perform-lights, perform-unknown, reply-as}
+use Rattle.node.proofs.Nodes.{node-settings, node-levels-in-range, node-ram}
+use Rattle.handler.specs.Request.{State}
+use Rattle.handler.specs.Seen.{stateFromParts}
+use Rattle.handler.proofs.Peripherals.{peripheral-lights, peripheral-unknown, reply-as, memory-seen}
 use Rattle.handler.proofs.peripheral.peripheral.Statement.{statement}
 use Rattle.handler.proofs.peripheral.peripheral.Tie as tie
 
--- the state that the function is given
+-- the state at the start
 abbrev given : tie.Start → State
 given c =
     stateFromParts (c .args .fixed) (c .args .lamps) (c .args .ram .now) (c .args .eeprom .now) (c .args .external .now)
 
 returns : tie.Need-returns
 returns c =
-    let s = c .before .before .before .before .before .before .before .before .before .before .before .before .before .before in
-    let a = s .args in
+    let call = c .before .before .before .before .before in
+    let test = call .before .before .before in
+    let s = test .before .before .before .before .before .before in
     reply-as (c .memory-reply .ensures)
-    ∙ reply-mapped (withMemory Eeprom (given s)) (memoryRequest Eeprom (a .pcmd) (a .pdata .now) (a .eeprom .now)) (a .out .now) (c .before .before .before .before .before .request .ensures)
-    ∙ ap (λ (x : Reply State). replyInBuffer x (a .out .now)) (sym (perform-memory (a .pnum) (a .pcmd) (a .pdata .now) (given s) Eeprom (c .before .before .before .before .before .before .before .before .if1 .taken)))
+    ∙ memory-seen Eeprom (s .args .pnum) (s .args .pcmd) (s .args .pdata .now) (given s) (s .args .out .now) (test .if1 .taken) (call .request .ensures)
 
 returns-2 : tie.Need-returns-2
 returns-2 c =
-    let s = c .before .before .before .before .before .before .before .before .before .before .before .before .before .before .before in
-    let a = s .args in
+    let call = c .before .before .before .before .before in
+    let test = call .before .before .before in
+    let s = test .before .before .before .before .before .before .before in
     reply-as (c .memory-reply2 .ensures)
-    ∙ reply-mapped (withMemory External (given s)) (memoryRequest External (a .pcmd) (a .pdata .now) (a .external .now)) (a .out .now) (c .before .before .before .before .before .request2 .ensures)
-    ∙ ap (λ (x : Reply State). replyInBuffer x (a .out .now)) (sym (perform-memory (a .pnum) (a .pcmd) (a .pdata .now) (given s) External (c .before .before .before .before .before .before .before .before .if2 .taken)))
+    ∙ memory-seen External (s .args .pnum) (s .args .pcmd) (s .args .pdata .now) (given s) (s .args .out .now) (test .if2 .taken) (call .request2 .ensures)
 
 request-requires-3 : tie.Need-request-requires-3
-request-requires-3 c κs = let p = c .before .before .before .before .before .before .before .before .before .before .pre in (node-ram _ (p .0 .node-ok), p .1)
+request-requires-3 c κs =
+    let s = c .before .before .before .before .before .before .before .before .before .before in
+    (node-ram _ (s .pre .0 .node-ok), s .pre .1)
 
 returns-3 : tie.Need-returns-3
 returns-3 c =
-    let s = c .before .before .before .before .before .before .before .before .before .before .before .before .before .before .before .before in
-    let a = s .args in
+    let call = c .before .before .before .before .before in
+    let test = call .before .before .before in
+    let s = test .before .before .before .before .before .before .before .before in
     reply-as (c .memory-reply3 .ensures)
-    ∙ reply-mapped (withMemory Ram (given s)) (memoryRequest Ram (a .pcmd) (a .pdata .now) (a .ram .now)) (a .out .now) (c .before .before .before .before .before .request3 .ensures)
-    ∙ ap (λ (x : Reply State). replyInBuffer x (a .out .now)) (sym (perform-memory (a .pnum) (a .pcmd) (a .pdata .now) (given s) Ram (c .before .before .before .before .before .before .before .before .if3 .taken)))
+    ∙ memory-seen Ram (s .args .pnum) (s .args .pcmd) (s .args .pdata .now) (given s) (s .args .out .now) (test .if3 .taken) (call .request3 .ensures)
 
 request-requires-4 : tie.Need-request-requires-4
 request-requires-4 c κs =
-    let p = c .before .before .before .before .before .before .before .before .before .before .pre in
-    (node-settings _ (p .0 .node-ok), node-dimmed _ (p .0 .node-ok), p .1)
+    let s = c .before .before .before .before .before .before .before .before .before .before in
+    (node-settings _ (s .pre .0 .node-ok), node-levels-in-range _ (s .pre .0 .node-ok), s .pre .1)
 
 returns-4 : tie.Need-returns-4
 returns-4 c =
     let s = c .before .before .before .before .before .before .before .before .before .before .before .before .before in
     let a = s .args in
     reply-mapped (λ (ls : List Lamp). stateFromParts (a .fixed) ls (a .ram .now) (a .eeprom .now) (a .external .now)) (lightsRequest (a .fixed .settings) (a .pcmd) (a .pdata .now) (a .lamps)) (a .out .now) (c .before .before .request4 .ensures)
-    ∙ ap (λ (x : Reply State). replyInBuffer x (a .out .now)) (sym (perform-lights (a .pnum) (a .pcmd) (a .pdata .now) (given s) (c .before .before .before .before .if4 .taken)))
+    ∙ ap (λ (x : Reply State). replyInBuffer x (a .out .now)) (sym (peripheral-lights (a .pnum) (a .pcmd) (a .pdata .now) (given s) (c .before .before .before .before .if4 .taken)))
 
 returns-5 : tie.Need-returns-5
 returns-5 c =
     let s = c .before .before .before .before .before .before .before .before .before in
     let a = s .args in
     ap (λ (x : Reply State). replyInBuffer x (a .out .now))
-    (sym (perform-unknown (a .pnum) (a .pcmd) (a .pdata .now) (given s) (c .before .before .before .if1 .left) (c .before .before .if2 .left) (c .before .if3 .left) (c .if4 .left)))
+    (sym (peripheral-unknown (a .pnum) (a .pcmd) (a .pdata .now) (given s) (c .before .before .before .if1 .left) (c .before .before .if2 .left) (c .before .if3 .left) (c .if4 .left)))
 
 pub peripheral-spec : {M : Type 1} → statement M
 peripheral-spec =

@@ -1,14 +1,16 @@
+-- `handle_broadcast`: the outcome of `execute`, without a response.
 use borrow.Author.Needs.{needs}
 use mathlib.Core.Path.{ap}
 use mathlib.Core.Bool.{true}
-use Rattle.handler.specs.Request.{SeenOutcome}
+use Rattle.handler.specs.Seen.{SeenOutcome}
 use Rattle.handler.proofs.request.handle_broadcast.Statement.{statement}
 use Rattle.handler.proofs.request.handle_broadcast.Tie as tie
 
 returns : tie.Need-returns
-returns c = λ o. ap (λ (l : SeenOutcome). record { after = l .after; refusal = 0; length = 0; report = l .report; addressed = true; response = o }) (c .before .before .before .before .before .before .before .before .before .execute .ensures)
+returns c = λ o.
+    let call = c .before .before .before .before .before .before .before .before .before in
+    ap (λ (l : SeenOutcome). record { after = l .after; refusal = 0; length = 0; report = l .report; addressed = true; response = o }) (call .execute .ensures)
 
 pub handle-broadcast-spec : {M : Type 1} → statement M
 handle-broadcast-spec =
-    tie.close (tie.spec (λ c. search needs) (λ c κs. search needs) (λ c. search needs) (λ c. search needs)
-    (λ c. search needs) returns)
+    tie.close (tie.spec (λ c. search needs) (λ c κs. search needs) (λ c. search needs) (λ c. search needs) (λ c. search needs) returns)

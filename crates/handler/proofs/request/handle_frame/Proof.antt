@@ -1,3 +1,4 @@
+-- `handle_frame`: one law of `handleFrame` for each return. The code works on the parts of the node.
 use borrow.Author.Needs.{needs}
 use mathlib.Core.Path.{_≡_, ap, sym, subst, _∙_}
 use Rattle.dpa.specs.declared.frame.Frame.{Frame}
@@ -5,62 +6,80 @@ use Rattle.dpa.specs.Frame.{headerOf}
 use Rattle.batch.specs.Batch.{Item}
 use Rattle.node.specs.declared.record.ReadOnly.{ReadOnly}
 use Rattle.node.proofs.Nodes.{node-ram}
-use Rattle.handler.specs.Request.{State, state, stateFromParts, StateRule, itemOf, execute, broadcast, respond}
-use Rattle.handler.proofs.Handling.{frame-item, frame-broadcast, frame-unicast, frame-other, call-result-as}
+use Rattle.handler.specs.Request.{State, state, SoundState, frameItem, execute, broadcastResult, unicastResult}
+use Rattle.handler.specs.Seen.{stateFromParts}
+use Rattle.handler.proofs.Calls.{frame-item-read, frame-broadcast, frame-unicast, frame-other, call-result-as}
 use Rattle.handler.proofs.request.handle_frame.Statement.{statement}
 use Rattle.handler.proofs.request.handle_frame.Tie as tie
 
--- the state that the function is given
+-- the state at the start
 abbrev given : tie.Start → State
 given c = state (c .args .node) (c .args .eeprom .now) (c .args .external .now)
 
--- the same by what is only read of the node
+-- the same, with the read-only part of the node
 abbrev inParts : tie.Start → ReadOnly → State
 inParts c k = stateFromParts k (c .args .node .lamps) (c .args .node .ram) (c .args .eeprom .now) (c .args .external .now)
+
+abbrev start : tie.After-read-only → tie.Start
+start c = c .before .before .before .before .before .before .before
 
 -- the address that was read is the frame's
 nadr-is : (c : tie.After-read) → c .read .result .nadr ≡ headerOf (c .before .before .before .before .before .args .frame .now) .nadr
 nadr-is c = ap (λ (h : Frame). h .nadr) (c .read .ensures)
 
+-- the parts are a sound state
+parts-sound : (c : tie.After-read-only) → SoundState (inParts (start c) (c .read-only .result))
+parts-sound c = subst (λ (k : ReadOnly). SoundState (inParts (start c) k)) (sym (c .read-only .ensures)) (start c .pre .0)
+
 handle-broadcast-requires : tie.Need-handle-broadcast-requires
-handle-broadcast-requires c κs =
-    let s = c .before .before .before .before .before .before .before .before .before .before .before .before .before .before in
-    subst (λ (k : ReadOnly). StateRule (inParts s k)) (sym (c .before .before .before .before .before .before .before .read-only .ensures)) (s .pre .0)
+handle-broadcast-requires c κs = parts-sound (c .before .before .before .before .before .before .before)
 
 returns : tie.Need-returns
 returns c =
-    let r = c .before .before .before .before .before .before .before .before .before .before .before .before .before .before .before .before in
-    let s = r .before .before .before .before .before in
+    let call = c .before .before .before .before .before .before in
+    let test = call .before .before .before .before in
+    let parts = test .before .before .before .before in
+    let header = parts .before .before in
+    let s = start parts in
+    let f = s .args .frame .now in
+    let o = s .args .response .now in
     call-result-as (c .answer-handled .ensures)
-    ∙ c .before .before .before .before .before .before .handle-broadcast .ensures (s .args .response .now)
-    ∙ ap (λ (i : Item). broadcast (execute i (inParts s (c .before .before .before .before .before .before .before .before .before .before .before .before .before .before .read-only .result))) (s .args .response .now)) (frame-item (s .args .frame .now) (r .read .ensures))
-    ∙ ap (λ (k : ReadOnly). broadcast (execute (itemOf (s .args .frame .now)) (inParts s k)) (s .args .response .now)) (c .before .before .before .before .before .before .before .before .before .before .before .before .before .before .read-only .ensures)
-    ∙ sym (frame-broadcast (s .args .frame .now) (given s) (s .args .response .now) (sym (nadr-is r) ∙ c .before .before .before .before .before .before .before .before .before .before .if1 .taken))
+    ∙ call .handle-broadcast .ensures o
+    ∙ ap (λ (i : Item). broadcastResult (execute i (inParts s (parts .read-only .result))) o) (frame-item-read f (header .read .ensures))
+    ∙ ap (λ (k : ReadOnly). broadcastResult (execute (frameItem f) (inParts s k)) o) (parts .read-only .ensures)
+    ∙ sym (frame-broadcast f (given s) o (sym (nadr-is header) ∙ test .if1 .taken))
 
 slice-aggregate-handle-unicast : tie.Need-slice-aggregate-handle-unicast
-slice-aggregate-handle-unicast c = let p = c .before .before .before .before .before .before .before .before .before .before .before .before .before .before .before .pre in sym (node-ram _ (p .0 .node-ok))
+slice-aggregate-handle-unicast c =
+    let s = c .before .before .before .before .before .before .before .before .before .before .before .before .before .before .before in
+    sym (node-ram _ (s .pre .0 .node-ok))
 
 handle-unicast-requires : tie.Need-handle-unicast-requires
 handle-unicast-requires c κs =
-    let s = c .before .before .before .before .before .before .before .before .before .before .before .before .before .before .before .before .before .before in
-    (subst (λ (k : ReadOnly). StateRule (inParts s k)) (sym (c .before .before .before .before .before .before .before .before .before .before .before .read-only .ensures)) (s .pre .0), s .pre .2)
+    let parts = c .before .before .before .before .before .before .before .before .before .before .before in
+    (parts-sound parts, start parts .pre .2)
 
 returns-2 : tie.Need-returns-2
 returns-2 c =
-    let r = c .before .before .before .before .before .before .before .before .before .before .before .before .before .before .before .before .before .before .before .before .before .before in
-    let s = r .before .before .before .before .before in
+    let call = c .before .before .before .before .before .before .before .before in
+    let test = call .before .before .before .before .before in
+    let parts = test .before .before .before .before .before .before .before in
+    let header = parts .before .before in
+    let s = start parts in
+    let f = s .args .frame .now in
+    let o = s .args .response .now in
     call-result-as (c .answer-handled2 .ensures)
-    ∙ c .before .before .before .before .before .before .before .before .handle-unicast .ensures
-    ∙ ap (λ (i : Item). respond (c .before .before .before .before .before .before .before .before .before .before .before .before .before .before .before .before .before .before .before .before .read-only .result .settings) i (execute i (inParts s (c .before .before .before .before .before .before .before .before .before .before .before .before .before .before .before .before .before .before .before .before .read-only .result))) (s .args .response .now)) (frame-item (s .args .frame .now) (r .read .ensures))
-    ∙ ap (λ (k : ReadOnly). respond (k .settings) (itemOf (s .args .frame .now)) (execute (itemOf (s .args .frame .now)) (inParts s k)) (s .args .response .now)) (c .before .before .before .before .before .before .before .before .before .before .before .before .before .before .before .before .before .before .before .before .read-only .ensures)
-    ∙ sym (frame-unicast (s .args .frame .now) (given s) (s .args .response .now) (λ z. c .before .before .before .before .before .before .before .before .before .before .before .before .before .before .before .before .if1 .left (nadr-is r ∙ z)) (sym (nadr-is r) ∙ c .before .before .before .before .before .before .before .before .before .before .before .before .before .if2 .taken))
+    ∙ call .handle-unicast .ensures
+    ∙ ap (λ (i : Item). unicastResult (parts .read-only .result .settings) i (execute i (inParts s (parts .read-only .result))) o) (frame-item-read f (header .read .ensures))
+    ∙ ap (λ (k : ReadOnly). unicastResult (k .settings) (frameItem f) (execute (frameItem f) (inParts s k)) o) (parts .read-only .ensures)
+    ∙ sym (frame-unicast f (given s) o (λ z. test .before .before .before .if1 .left (nadr-is header ∙ z)) (sym (nadr-is header) ∙ test .if2 .taken))
 
 returns-3 : tie.Need-returns-3
 returns-3 c =
-    let r = c .before .before .before .before .before .before .before .before .before .before in
-    let s = r .before .before .before .before .before in
+    let header = c .before .before .before .before .before .before .before .before .before .before in
+    let s = header .before .before .before .before .before in
     call-result-as (c .answer-unhandled .ensures)
-    ∙ sym (frame-other (s .args .frame .now) (given s) (s .args .response .now) (λ z. c .before .before .before .before .if1 .left (nadr-is r ∙ z)) (λ z. c .before .if2 .left (nadr-is r ∙ z)))
+    ∙ sym (frame-other (s .args .frame .now) (given s) (s .args .response .now) (λ z. c .before .before .before .before .if1 .left (nadr-is header ∙ z)) (λ z. c .before .if2 .left (nadr-is header ∙ z)))
 
 pub handle-frame-spec : {M : Type 1} → statement M
 handle-frame-spec =

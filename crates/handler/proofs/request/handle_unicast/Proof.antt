@@ -1,34 +1,42 @@
+-- `handle_unicast`: the outcome of `execute` after the response header, then the header.
 use borrow.Author.Needs.{needs}
 use native.Mathlib.Omega.{arith}
 use mathlib.Core.Path.{ap}
 use Rattle.batch.specs.Batch.{Item, item}
-use Rattle.handler.specs.Request.{State, stateFromParts, SeenOutcome, execute}
+use Rattle.handler.specs.Request.{State, execute}
+use Rattle.handler.specs.Seen.{stateFromParts, SeenOutcome}
 use Rattle.handler.proofs.Sizes.{execute-fits}
-use Rattle.handler.proofs.Handling.{unicast-answer}
+use Rattle.handler.proofs.Calls.{unicast-response}
 use Rattle.handler.proofs.request.handle_unicast.Statement.{statement}
 use Rattle.handler.proofs.request.handle_unicast.Tie as tie
 
--- the state that the function is given
+-- the state at the start
 abbrev given : tie.Start → State
 given c =
     stateFromParts (c .args .fixed) (c .args .lamps) (c .args .ram .now) (c .args .eeprom .now) (c .args .external .now)
 
--- and the request
+-- the request
 abbrev asked : tie.Start → Item
 asked c = item (c .args .header .pnum) (c .args .header .pcmd) (c .args .header .hwpid) (c .args .pdata .now)
 
+abbrev start : tie.After-execute → tie.Start
+start c = c .before .before .before .before .before .before .before .before .before .before
+
 add-length : tie.Need-add-length
 add-length c =
-    let s = c .before .before .before .before .before .before .before .before .before .before .before .before .before .before .before .before .before .before .before .before .before .before .before .before in
-    let n = ap (λ (l : SeenOutcome). l .length) (c .before .before .before .before .before .before .before .before .before .before .before .before .before .before .execute .ensures) in
+    let call = c .before .before .before .before .before .before .before .before .before .before .before .before .before .before in
+    let s = start call in
+    let n = ap (λ (l : SeenOutcome). l .length) (call .execute .ensures) in
     let z = execute-fits (asked s) (given s) (s .pre .0) in
     omega arith
 
 returns : tie.Need-returns
 returns c =
-    let s = c .before .before .before .before .before .before .before .before .before .before .before .before .before .before .before .before .before .before .before .before .before .before .before .before .before in
-    unicast-answer (s .args .response .now) (c .before .before .before .before .before .before .before .before .before .before .before .before .before .before .before .execute .last .1 .1 .1 .1 .1 .1 .1 .0) (omega (arith, s .pre .1)) (s .args .fixed)
-    (asked s) (execute (asked s) (given s)) (c .before .before .before .before .before .before .before .before .before .before .before .before .before .before .before .execute .ensures) (c .before .before .before .before .before .write-header .ensures)
+    let header = c .before .before .before .before .before in
+    let call = header .before .before .before .before .before .before .before .before .before .before in
+    let s = start call in
+    unicast-response (s .args .response .now) (call .execute .last .1 .1 .1 .1 .1 .1 .1 .0) (omega (arith, s .pre .1)) (s .args .fixed)
+    (asked s) (execute (asked s) (given s)) (call .execute .ensures) (header .write-header .ensures)
 
 pub handle-unicast-spec : {M : Type 1} → statement M
 handle-unicast-spec =

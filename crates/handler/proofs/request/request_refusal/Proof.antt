@@ -1,3 +1,4 @@
+-- `request_refusal`: each return by the tests before it.
 use borrow.Author.Needs.{needs}
 use mathlib.Core.Path.{_≡_, sym, _∙_}
 use mathlib.Core.Bool.{true, false}

@@ -6,13 +6,13 @@ use mathlib.Core.Logic.{⊎-elim}
 use Prim.Native.Nat.{_<_}
 use lib.ListN.{length}
 use denote.Ref.{now}
-use Rattle.lights.proofs.Walk.{Walk, walk-start, walk-end, walk-dimmed, walk-inside, walk-free, walk-skip, walk-valid, walk-room, walk-done, walk-idle}
+use Rattle.lights.proofs.ApplyLoop.{ApplyLoop, apply-start, apply-end, apply-level-max, apply-inside, apply-out-room, apply-skip, apply-first-valid, apply-pdata-room, apply-implemented, apply-unimplemented}
 use Rattle.lights.proofs.apply.apply.Statement.{statement}
 use Rattle.lights.proofs.apply.apply.Tie as tie
 
 abbrev Inv-loop : tie.InvT-loop
 Inv-loop settings command mask pdata out₀ n after₀ m₀ at₀ k₀ i₀ out after m at k i =
-    Walk settings command mask pdata after₀ out₀ n after out m at k i
+    ApplyLoop settings command mask pdata after₀ out₀ n after out m at k i
 
 abbrev μ-loop : tie.MeasureT-loop
 μ-loop settings command mask pdata out₀ n after₀ m₀ at₀ k₀ i₀ out after m at k i = m
@@ -24,19 +24,19 @@ loop-holds : tie.Need-loop-holds Inv-loop μ-loop
 loop-holds c =
     let s = c .before .before .before in
     let a = s .args in
-    walk-start (a .settings) (a .command) (a .mask) (now (a .pdata)) (a .lamps) (now (a .out)) (c .wide .result)
+    apply-start (a .settings) (a .command) (a .mask) (now (a .pdata)) (a .lamps) (now (a .out)) (c .wide .result)
     (c .wide .ensures .0) (lamps-length s) (s .pre .2) (s .pre .3) (s .fits .mask .fits) (s .pre .4)
 
-change-at-requires : tie.Need-change-at-requires Inv-loop μ-loop
-change-at-requires c κs =
+valid-power-entry-at-requires : tie.Need-valid-power-entry-at-requires Inv-loop μ-loop
+valid-power-entry-at-requires c κs =
     let l = c .before .before .loop in
-    walk-valid (l .inv) (c .before .loop-test .taken) (c .if1 .taken)
+    apply-first-valid (l .inv) (c .before .loop-test .taken) (c .if1 .taken)
 
 inside : (c : tie.In-loop Inv-loop μ-loop) → c .before .loop .i < 32
-inside c = walk-inside (c .before .loop .inv) (c .loop-test .taken)
+inside c = apply-inside (c .before .loop .inv) (c .loop-test .taken)
 
 free : (c : tie.In-loop Inv-loop μ-loop) → c .before .loop .k < length (c .before .loop .out)
-free c = walk-free (c .before .loop .inv) (c .loop-test .taken)
+free c = apply-out-room (c .before .loop .inv) (c .loop-test .taken)
 
 mul-lamp : tie.Need-mul-lamp Inv-loop μ-loop
 mul-lamp c = omega (arith, inside (c .before .before .before))
@@ -48,7 +48,7 @@ actual-level-requires : tie.Need-actual-level-requires Inv-loop μ-loop
 actual-level-requires c κs =
     let l = c .before .before .before .before .before .loop in
     let s = c .before .before .before .before .before .before .before .before .before in
-    (s .pre .0, walk-dimmed (l .inv) (s .pre .1))
+    (s .pre .0, apply-level-max (l .inv) (s .pre .1))
 
 slice-write-out : tie.Need-slice-write-out Inv-loop μ-loop
 slice-write-out c = free (c .before .before .before .before .before)
@@ -65,12 +65,12 @@ slice-write-out-2 c = free (c .before .before .before)
 add-at : tie.Need-add-at Inv-loop μ-loop
 add-at c =
     let t = c .before .before .before .before in
-    omega (arith, walk-room (t .before .loop .inv) (t .loop-test .taken) (c .before .before .before .if1 .taken) _ _ (c .before .before .change-at .ensures))
+    omega (arith, apply-pdata-room (t .before .loop .inv) (t .loop-test .taken) (c .before .before .before .if1 .taken) _ _ (c .before .before .valid-power-entry-at .ensures))
 
 add-k : tie.Need-add-k Inv-loop μ-loop
 add-k c =
     let t = c .before .before .before .before in
-    omega (arith, inside t, t .before .loop .inv .levels-max)
+    omega (arith, inside t, t .before .loop .inv .k-max)
 
 add-i : tie.Need-add-i Inv-loop μ-loop
 add-i c = omega (arith, inside (c .before))
@@ -83,12 +83,12 @@ loop-again c =
     (λ w. rw (w .7, w .6, w .5, w .4)
     (⊎-elim
     (λ u. rw (u .5, u .4)
-    (walk-done (l .inv) t (w .0 .taken) _ _ (w .1 .ensures) _ _ (u .0 .taken) (u .2 .ensures) (u .3 .ensures)))
+    (apply-implemented (l .inv) t (w .0 .taken) _ _ (w .1 .ensures) _ _ (u .0 .taken) (u .2 .ensures) (u .3 .ensures)))
     (λ u. rw (u .2, u .1)
-    (walk-idle (l .inv) t (w .0 .taken) _ _ (w .1 .ensures) (u .0 .left)))
+    (apply-unimplemented (l .inv) t (w .0 .taken) _ _ (w .1 .ensures) (u .0 .left)))
     (w .2 .came)))
     (λ w. rw (w .4, w .3, w .2, w .1)
-    (walk-skip (l .inv) t (omega arith)))
+    (apply-skip (l .inv) t (omega arith)))
     (c .if1 .came)
 
 same-length : tie.Need-same-length Inv-loop μ-loop
@@ -97,10 +97,10 @@ same-length c = c .before .loop .inv .out-length
 returns : tie.Need-returns Inv-loop μ-loop
 returns c =
     let l = c .before .loop in
-    walk-end (l .inv) (c .loop-test .left)
+    apply-end (l .inv) (c .loop-test .left)
 
 pub apply-spec : {M : Type 1} → statement M
 apply-spec =
-    tie.close (tie.spec Inv-loop μ-loop (λ c κs. search needs) loop-holds change-at-requires mul-lamp
+    tie.close (tie.spec Inv-loop μ-loop (λ c κs. search needs) loop-holds valid-power-entry-at-requires mul-lamp
     array-copy-out-lamp actual-level-requires slice-write-out (λ c κs. search needs) mul-after array-set-from-after
     slice-write-out-2 add-at add-k add-i (λ c. search needs) loop-again same-length returns)

@@ -8,8 +8,8 @@ use lib.ListN.{drop}
 use denote.Ref.{now}
 use Rattle.dpa.specs.Lists.{Bytes}
 use Rattle.lights.specs.Bits.{bits, count}
-use Rattle.lights.specs.Lights.{entries, isGood}
-use Rattle.lights.proofs.Answers.{reply-refused, change-short, change-bad, change-good}
+use Rattle.lights.specs.Lights.{powerEntries, areValid}
+use Rattle.lights.proofs.Replies.{reply-refused, change-no-bitmap, change-malformed, change-applied}
 use borrow.Author.Needs.{needs}
 use Rattle.lights.proofs.request.change_lamps.Statement.{statement}
 use Rattle.lights.proofs.request.change_lamps.Tie as tie
@@ -17,9 +17,9 @@ use Rattle.lights.proofs.request.change_lamps.Tie as tie
 returns : tie.Need-returns
 returns c =
     let a = c .before .before .before .before .args in
-    reply-refused _ _ 6 (a .lamps) (now (a .out)) (c .refuse .ensures) (change-short (a .settings) (a .command) (now (a .pdata)) (a .lamps) (c .before .if1 .taken))
+    reply-refused _ _ 6 (a .lamps) (now (a .out)) (c .refuse .ensures) (change-no-bitmap (a .settings) (a .command) (now (a .pdata)) (a .lamps) (c .before .if1 .taken))
 
-small : (c : tie.After-entries-ok) → Bytes (now (c .before .before .before .before .before .before .args .pdata))
+small : (c : tie.After-power-entries-ok) → Bytes (now (c .before .before .before .before .before .before .args .pdata))
 small c i = c .before .before .before .before .before .shared-slice-known .given i .fits
 
 returns-2 : tie.Need-returns-2
@@ -27,17 +27,17 @@ returns-2 c =
     let r = c .before .before in
     let a = r .before .before .before .before .before .before .args in
     reply-refused _ _ 6 (a .lamps) (now (a .out)) (c .refuse2 .ensures)
-    (change-bad (a .settings) (a .command) (now (a .pdata)) (a .lamps) (r .before .before .mask-of .result) (r .before .selected .result)
-    (omega arith) (small r) (r .before .before .mask-of .ensures) (r .before .selected .ensures .0)
-    (sym (r .entries-ok .ensures) ∙ not-true _ (c .before .if2 .taken)))
+    (change-malformed (a .settings) (a .command) (now (a .pdata)) (a .lamps) (r .before .before .mask-of .result) (r .before .selected-count .result)
+    (omega arith) (small r) (r .before .before .mask-of .ensures) (r .before .selected-count .ensures .0)
+    (sym (r .power-entries-ok .ensures) ∙ not-true _ (c .before .if2 .taken)))
 
 apply-requires : tie.Need-apply-requires
 apply-requires c κs =
     let r = c .before .before in
     let s = r .before .before .before .before .before .before in
-    let g : isGood (entries (count (bits 32 (r .before .before .mask-of .result))) (drop 4 (now (s .args .pdata)))) ≡ true =
-    ap (λ (j : ℕ). isGood (entries j (drop 4 (now (s .args .pdata))))) (sym (r .before .selected .ensures .0))
-    ∙ sym (r .entries-ok .ensures) ∙ not-false _ (c .before .if2 .left) in
+    let g : areValid (powerEntries (count (bits 32 (r .before .before .mask-of .result))) (drop 4 (now (s .args .pdata)))) ≡ true =
+    ap (λ (j : ℕ). areValid (powerEntries j (drop 4 (now (s .args .pdata))))) (sym (r .before .selected-count .ensures .0))
+    ∙ sym (r .power-entries-ok .ensures) ∙ not-false _ (c .before .if2 .left) in
     (s .pre .0, s .pre .1, s .pre .2, omega arith, g)
 
 returns-3 : tie.Need-returns-3
@@ -45,8 +45,8 @@ returns-3 c =
     let w = c .before .before in
     let r = w .before .before .before in
     let a = r .before .before .before .before .before .before .args in
-    change-good (a .settings) (a .command) (now (a .pdata)) (a .lamps) (r .before .before .mask-of .result) (r .before .selected .result)
-    (omega arith) (small r) (r .before .before .mask-of .ensures) (r .before .selected .ensures .0)
+    change-applied (a .settings) (a .command) (now (a .pdata)) (a .lamps) (r .before .before .mask-of .result) (r .before .selected-count .result)
+    (omega arith) (small r) (r .before .before .mask-of .ensures) (r .before .selected-count .ensures .0)
     _ _ _ (w .apply .ensures)
 
 pub change-lamps-spec : {M : Type 1} → statement M

@@ -1,7 +1,7 @@
 -- `request::request` meets its contract, by the PCMD.
 use denote.Ref.{now}
 use Rattle.lights.specs.Lights.{lightsRequest}
-use Rattle.lights.proofs.Answers.{reply-refused, known-command, unknown-command}
+use Rattle.lights.proofs.Replies.{reply-refused, known-pcmd, unknown-pcmd}
 use borrow.Author.Needs.{needs}
 use Rattle.lights.proofs.request.request.Statement.{statement}
 use Rattle.lights.proofs.request.request.Tie as tie
@@ -14,13 +14,13 @@ returns-2 : tie.Need-returns-2
 returns-2 c =
     let a = c .before .before .before .before .before .args in
     reply-refused _ _ 2 (a .lamps) (now (a .out)) (c .refuse .ensures)
-    (unknown-command (a .settings) (a .pcmd) (now (a .pdata)) (a .lamps) (c .before .if2 .taken) (c .before .before .if1 .left))
+    (unknown-pcmd (a .settings) (a .pcmd) (now (a .pdata)) (a .lamps) (c .before .if2 .taken) (c .before .before .if1 .left))
 
 returns-3 : tie.Need-returns-3
 returns-3 c =
     let o = c .before .before .before .before in
     let a = o .before .before .before .before .before .args in
-    rw (known-command (a .settings) (a .pcmd) (now (a .pdata)) (a .lamps) (o .before .if2 .left), ← o .command-of .ensures)
+    rw (known-pcmd (a .settings) (a .pcmd) (now (a .pdata)) (a .lamps) (o .before .if2 .left), ← o .command-of .ensures)
     (c .before .before .change-lamps .ensures)
 
 pub request-spec : {M : Type 1} → statement M

@@ -1,3 +1,4 @@
+-- `block::block_fault` meets its contract, test by test.
 use borrow.Author.Tests.{lt-ltb, le-ltb, le-leb, lt-leb}
 use native.Mathlib.Omega.{arith}
 use Rattle.memory.specs.Block.{blockFault}

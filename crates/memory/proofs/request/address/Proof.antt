@@ -1,3 +1,4 @@
+-- `request::address` meets its contract, for either width.
 use borrow.Author.Tests.{eq-eqb, ne-eqb}
 use mathlib.Core.Path.{_∙_}
 use Rattle.memory.specs.Request.{addressOf}

@@ -1,14 +1,18 @@
+-- `request::read` meets its contract: an accepted block lies inside the memory.
 use mathlib.Core.Path.{_≡_, sym, _∙_}
 use native.Mathlib.Omega.{arith}
 use Rattle.memory.specs.Request.{readError}
-use Rattle.memory.proofs.Requests.{read-fits, read-place, read-refused, read-served}
+use Rattle.memory.proofs.Requests.{read-fits, read-inside, read-refused, read-reply}
 use borrow.Author.Needs.{needs}
 use Rattle.memory.proofs.request.read.Statement.{statement}
 use Rattle.memory.proofs.request.read.Tie as tie
 
--- past the test there is no error
-zero : (c : tie.Else1) → let a = c .before .before .before .before .before .args in readError (a .memory) (a .pdata .now) ≡ 0
-zero c = sym (c .before .read-error .ensures) ∙ c .if1 .left
+abbrev start : tie.Else1 → tie.Start
+start c = c .before .before .before .before .before
+
+-- after the test there is no error
+no-error : (c : tie.Else1) → let a = start c .args in readError (a .memory) (a .pdata .now) ≡ 0
+no-error c = sym (c .before .read-error .ensures) ∙ c .if1 .left
 
 returns : tie.Need-returns
 returns c =
@@ -16,22 +20,29 @@ returns c =
     read-refused (a .memory) (a .pdata .now) (a .mem .now) (a .out .now) _ (c .before .read-error .ensures) (c .if1 .taken)
 
 address-requires : tie.Need-address-requires
-address-requires c κs = omega (arith, read-fits _ _ (zero (c .before)) .0)
+address-requires c κs = omega (arith, read-fits _ _ (no-error (c .before)) .0)
 
 shared-slice-read-wide : tie.Need-shared-slice-read-wide
-shared-slice-read-wide c = omega (arith, read-fits _ _ (zero (c .before .before .before)) .0, c .before .before .address-bytes .ensures .0)
+shared-slice-read-wide c = omega (arith, read-fits _ _ (no-error (c .before .before .before)) .0, c .before .before .address-bytes .ensures .0)
 
 copy-out-requires : tie.Need-copy-out-requires
 copy-out-requires c κs =
-    let a = c .before .before .before .before .before .before .before .before .before .before .args in
-    let k = read-place (a .memory) (a .pdata .now) (a .mem .now) _ _ _ (c .before .before .before .before .before .before .before .before .before .before .pre .0) (zero (c .before .before .before .before .before)) (c .before .before .before .before .address-bytes .ensures .0) (c .before .before .before .address .ensures) (c .before .wide .ensures .0) in
+    let w = c .before in
+    let b = w .before .before .before in
+    let s = start (b .before) in
+    let k = read-inside (s .args .memory) (s .args .pdata .now) (s .args .mem .now) _ _ _ (s .pre .0)
+    (no-error (b .before)) (b .address-bytes .ensures .0) (w .before .before .address .ensures) (w .wide .ensures .0) in
     (k .0, omega (arith, k .1))
 
 returns-2 : tie.Need-returns-2
 returns-2 c =
-    let a = c .before .before .before .before .before .before .before .before .before .before .before .before .before .args in
-    read-served (a .memory) (a .pdata .now) (a .mem .now) _ _ _ (c .before .before .before .before .before .before .before .before .before .before .before .before .before .pre .0) (zero (c .before .before .before .before .before .before .before .before)) (c .before .before .before .before .before .before .before .address-bytes .ensures .0) (c .before .before .before .before .before .before .address .ensures) (c .before .before .before .before .wide .ensures .0)
-    (a .out .now) _ (c .before .before .copy-out .ensures)
+    let o = c .before .before in
+    let w = o .before .before in
+    let b = w .before .before .before in
+    let s = start (b .before) in
+    read-reply (s .args .memory) (s .args .pdata .now) (s .args .mem .now) _ _ _ (s .pre .0)
+    (no-error (b .before)) (b .address-bytes .ensures .0) (w .before .before .address .ensures) (w .wide .ensures .0)
+    (s .args .out .now) _ (o .copy-out .ensures)
 
 pub read-spec : {M : Type 1} → statement M
 read-spec =

@@ -1,5 +1,9 @@
+-- `request::request` meets its contract, by the PCMD.
 use borrow.Author.Tests.{eq-eqb, ne-eqb}
-use mathlib.Core.Path.{_∙_, sym}
+use mathlib.Core.Path.{_≡_, _∙_, sym}
+use mathlib.Core.Bool.{false}
+use lib.Dec.{eqb}
+use Rattle.memory.specs.Block.{readCommand}
 use Rattle.memory.specs.Request.{memoryRequest}
 use borrow.Author.Needs.{needs}
 use Rattle.memory.proofs.request.request.Statement.{statement}
@@ -7,15 +11,26 @@ use Rattle.memory.proofs.request.request.Tie as tie
 
 returns : tie.Need-returns
 unfolding memoryRequest
-returns c = simp (eq-eqb _ _ (c .before .before .before .before .before .if1 .taken ∙ c .before .before .before .before .before .before .read-command .ensures)) (c .before .before .read .ensures)
+returns c =
+    let r = c .before .before in
+    let t = r .before .before .before in
+    simp (eq-eqb _ _ (t .if1 .taken ∙ t .before .read-command .ensures)) (r .read .ensures)
+
+no-read : (c : tie.Else1) → let a = c .before .before .before .before .before .args in eqb (a .pcmd) (readCommand (a .memory)) ≡ false
+no-read c = ne-eqb _ _ (λ q. c .if1 .left (q ∙ sym (c .before .read-command .ensures)))
 
 returns-2 : tie.Need-returns-2
 unfolding memoryRequest
-returns-2 c = simp (ne-eqb _ _ (λ q. c .before .before .before .before .before .before .if1 .left (q ∙ sym (c .before .before .before .before .before .before .before .read-command .ensures))), eq-eqb _ _ (c .before .before .before .before .if2 .taken ∙ c .before .before .before .before .before .write-command .ensures)) (c .before .before .write .ensures (c .before .before .before .before .before .before .before .before .before .before .before .args .out .now))
+returns-2 c =
+    let w = c .before .before in
+    let t = w .before .before in
+    let l = t .before .before in
+    let s = l .before .before .before .before .before in
+    simp (no-read l, eq-eqb _ _ (t .if2 .taken ∙ t .before .write-command .ensures)) (w .write .ensures (s .args .out .now))
 
 returns-3 : tie.Need-returns-3
 unfolding memoryRequest
-returns-3 c = simp (ne-eqb _ _ (λ q. c .before .before .if1 .left (q ∙ sym (c .before .before .before .read-command .ensures))), ne-eqb _ _ (λ q. c .if2 .left (q ∙ sym (c .before .write-command .ensures))))
+returns-3 c = simp (no-read (c .before .before), ne-eqb _ _ (λ q. c .if2 .left (q ∙ sym (c .before .write-command .ensures))))
 
 pub request-spec : {M : Type 1} → statement M
 request-spec =

@@ -1,15 +1,19 @@
+-- `request::write` meets its contract: an accepted block lies inside the memory.
 use mathlib.Core.Path.{_≡_, sym, _∙_}
 use native.Mathlib.Omega.{arith}
 use lib.ListN.{length-take, length-drop}
 use Rattle.memory.specs.Request.{writeError}
-use Rattle.memory.proofs.Requests.{write-fits, write-place, write-refused, write-served}
+use Rattle.memory.proofs.Requests.{write-fits, write-inside, write-refused, write-reply}
 use borrow.Author.Needs.{needs}
 use Rattle.memory.proofs.request.write.Statement.{statement}
 use Rattle.memory.proofs.request.write.Tie as tie
 
--- past the test there is no error
-zero : (c : tie.Else1) → let a = c .before .before .before .before .args in writeError (a .memory) (a .pdata .now) ≡ 0
-zero c = sym (c .before .write-error .ensures) ∙ c .if1 .left
+abbrev start : tie.Else1 → tie.Start
+start c = c .before .before .before .before
+
+-- after the test there is no error
+no-error : (c : tie.Else1) → let a = start c .args in writeError (a .memory) (a .pdata .now) ≡ 0
+no-error c = sym (c .before .write-error .ensures) ∙ c .if1 .left
 
 returns : tie.Need-returns
 returns c =
@@ -17,24 +21,30 @@ returns c =
     λ o. write-refused (a .memory) (a .pdata .now) (a .mem .now) o _ (c .before .write-error .ensures) (c .if1 .taken)
 
 address-requires : tie.Need-address-requires
-address-requires c κs = omega (arith, write-fits _ _ (zero (c .before)) .0)
+address-requires c κs = omega (arith, write-fits _ _ (no-error (c .before)) .0)
 
 sub-copy-in : tie.Need-sub-copy-in
-sub-copy-in c = omega (arith, write-fits _ _ (zero (c .before .before .before)) .0, c .before .before .address-bytes .ensures .0)
+sub-copy-in c = omega (arith, write-fits _ _ (no-error (c .before .before .before)) .0, c .before .before .address-bytes .ensures .0)
 
 part-copy-in-start : tie.Need-part-copy-in-start
-part-copy-in-start c = omega (arith, write-fits _ _ (zero (c .before .before .before)) .0, c .before .before .address-bytes .ensures .0)
+part-copy-in-start c = omega (arith, write-fits _ _ (no-error (c .before .before .before)) .0, c .before .before .address-bytes .ensures .0)
 
 copy-in-requires : tie.Need-copy-in-requires
 copy-in-requires c κs =
-    let a = c .before .before .before .before .before .before .before .before .args in
-    let k = write-place (a .memory) (a .pdata .now) (a .mem .now) _ _ (zero (c .before .before .before .before)) (c .before .before .before .address-bytes .ensures .0) (c .before .before .address .ensures) (c .before .before .before .before .before .before .before .before .pre) in
+    let b = c .before .before .before in
+    let s = start (b .before) in
+    let k = write-inside (s .args .memory) (s .args .pdata .now) (s .args .mem .now) _ _ (no-error (b .before))
+    (b .address-bytes .ensures .0) (c .before .before .address .ensures) (s .pre) in
     simp (length-take, length-drop) (omega (arith, k))
 
 returns-2 : tie.Need-returns-2
 returns-2 c =
-    let a = c .before .before .before .before .before .before .before .before .before .before .before .args in
-    λ o. write-served (a .memory) (a .pdata .now) (a .mem .now) _ _ (zero (c .before .before .before .before .before .before .before)) (c .before .before .before .before .before .before .address-bytes .ensures .0) (c .before .before .before .before .before .address .ensures) o _ (c .before .before .copy-in .ensures)
+    let i = c .before .before in
+    let d = i .before .before .before in
+    let b = d .before in
+    let s = start (b .before) in
+    λ o. write-reply (s .args .memory) (s .args .pdata .now) (s .args .mem .now) _ _ (no-error (b .before))
+    (b .address-bytes .ensures .0) (d .address .ensures) o _ (i .copy-in .ensures)
 
 pub write-spec : {M : Type 1} → statement M
 write-spec =

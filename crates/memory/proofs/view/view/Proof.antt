@@ -1,62 +1,48 @@
+-- `view::view` meets its contract: the bytes of the slice, and where it starts.
 use native.Mathlib.Omega.{arith}
 use mathlib.Core.Path.{_≡_, sym, _∙_}
 use Rattle.memory.specs.View.{viewStatus}
-use Rattle.memory.proofs.Blocks.{counted}
-use Rattle.memory.proofs.Views.{Viewed, viewed, view-refused, view-eeprom, view-external, place-refused, place-eeprom, place-external}
+use Rattle.memory.proofs.Blocks.{end-minus-start}
+use Rattle.memory.proofs.Views.{ViewFits, view-fits, view-refused, view-eeprom, view-external, place-refused, place-eeprom, place-external}
 use borrow.Author.Needs.{needs}
 use Rattle.memory.proofs.view.view.Statement.{statement}
 use Rattle.memory.proofs.view.view.Tie as tie
 
--- the first test finds the refused views, and past it the view is not
+-- the first test returns for exactly the refused views
 refused : (c : tie.Then1) → let a = c .before .before .before .before .args in viewStatus (a .eeprom .now) (a .external .now) (a .pnum) (a .start) (a .count) ≡ 0 → ⊥
 refused c q = c .if1 .taken (c .before .view-status .ensures ∙ q)
 
-zero : (c : tie.Else1) → let a = c .before .before .before .before .args in viewStatus (a .eeprom .now) (a .external .now) (a .pnum) (a .start) (a .count) ≡ 0
-zero c = sym (c .before .view-status .ensures) ∙ c .if1 .left
+-- after it the view is accepted
+accepted : (c : tie.Else1) → let a = c .before .before .before .before .args in viewStatus (a .eeprom .now) (a .external .now) (a .pnum) (a .start) (a .count) ≡ 0
+accepted c = sym (c .before .view-status .ensures) ∙ c .if1 .left
 
-known : (c : tie.Else1) → let a = c .before .before .before .before .args in Viewed (a .eeprom .now) (a .external .now) (a .pnum) (a .start) (a .count)
-known c = viewed _ _ _ _ _ (zero c)
+inside : (c : tie.Else1) → let a = c .before .before .before .before .args in ViewFits (a .eeprom .now) (a .external .now) (a .pnum) (a .start) (a .count)
+inside c = view-fits _ _ _ _ _ (accepted c)
 
 returns : tie.Need-returns
 returns c = (sym (view-refused _ _ _ _ _ (refused (c .before))), sym (place-refused _ _ _ _ _ (refused (c .before))))
 
 add-end : tie.Need-add-end
-add-end c = omega (arith, known c .fits)
+add-end c = omega (arith, inside c .end-max)
 
 part-result-end-2 : tie.Need-part-result-end-2
-part-result-end-2 c = known (c .before) .eeprom (c .if2 .taken)
+part-result-end-2 c = let v = inside (c .before) in omega (arith, v .eeprom-size, v .in-eeprom (c .if2 .taken))
 
 returns-2 : tie.Need-returns-2
 returns-2 c =
     let t = c .before in
-    (rw counted (sym (view-eeprom _ _ _ _ _ (zero (t .before)) (t .if2 .taken))), sym (place-eeprom _ _ _ _ _ (zero (t .before)) (t .if2 .taken)))
-
-sub-result-3 : tie.Need-sub-result-3
-sub-result-3 c = search needs
+    (rw end-minus-start (sym (view-eeprom _ _ _ _ _ (accepted (t .before)) (t .if2 .taken))), sym (place-eeprom _ _ _ _ _ (accepted (t .before)) (t .if2 .taken)))
 
 part-result-end-3 : tie.Need-part-result-end-3
-part-result-end-3 c = known (c .before) .external (c .if2 .left)
+part-result-end-3 c = let v = inside (c .before) in omega (arith, v .external-size, v .end-max)
 
 returns-3 : tie.Need-returns-3
 returns-3 c =
     let l = c .before in
-    (rw counted (sym (view-external _ _ _ _ _ (zero (l .before)) (l .if2 .left))), sym (place-external _ _ _ _ _ (zero (l .before)) (l .if2 .left)))
+    (rw end-minus-start (sym (view-external _ _ _ _ _ (accepted (l .before)) (l .if2 .left))), sym (place-external _ _ _ _ _ (accepted (l .before)) (l .if2 .left)))
 
 pub view-spec : {M : Type 1} → statement M
 view-spec =
-    tie.close
-    (tie.spec
-    (λ c κs. search needs)
-    (λ c. search needs)
-    (λ c. search needs)
-    (λ c. search needs)
-    returns
-    add-end
-    (λ c. search needs)
-    (λ c. search needs)
-    part-result-end-2
-    returns-2
-    sub-result-3
-    (λ c. search needs)
-    part-result-end-3
-    returns-3)
+    tie.close (tie.spec (λ c κs. search needs) (λ c. search needs) (λ c. search needs) (λ c. search needs) returns
+    add-end (λ c. search needs) (λ c. search needs) part-result-end-2 returns-2 (λ c. search needs) (λ c. search needs)
+    part-result-end-3 returns-3)

@@ -4,7 +4,7 @@ use Prim.Native.Nat.{ℕ}
 use mathlib.Core.Path.{_≡_, ap, _∙_}
 use lib.ListN.{getD}
 use Rattle.lights.specs.Lamp.{off, actualLevel}
-use Rattle.node.proofs.Nodes.{node-settings, node-dimmed}
+use Rattle.node.proofs.Nodes.{node-settings, node-levels-in-range}
 use Rattle.node.proofs.TwoBits.{on-lit, on-stuck}
 use Rattle.node.proofs.frc.is_on.Statement.{statement}
 use Rattle.node.proofs.frc.is_on.Tie as tie
@@ -18,7 +18,7 @@ seen c =
     ∙ ap (λ (k : ℕ). actualLevel (n .settings) (getD (n .lamps) k off .level)) (c .before .before .before .wide .ensures .0)
 
 actual-level-requires : tie.Need-actual-level-requires
-actual-level-requires c κs = let p = c .before .before .before .pre in (node-settings _ (p .0), node-dimmed _ (p .0) _)
+actual-level-requires c κs = let p = c .before .before .before .pre in (node-settings _ (p .0), node-levels-in-range _ (p .0) _)
 
 returns : tie.Need-returns
 returns c = on-lit _ _ _ _ (seen (c .before)) (c .if1 .taken)

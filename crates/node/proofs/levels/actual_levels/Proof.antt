@@ -4,7 +4,7 @@ use mathlib.Core.Path.{_≡_, sym, _∙_}
 use mathlib.Core.Bool.{true}
 use borrow.Author.Tests.{not-true, not-false}
 use Rattle.node.specs.Node.{nodeOk, levelsOf}
-use Rattle.node.proofs.Nodes.{node-settings, node-dimmed}
+use Rattle.node.proofs.Nodes.{node-settings, node-levels-in-range}
 use Rattle.node.proofs.levels.actual_levels.Statement.{statement}
 use Rattle.node.proofs.levels.actual_levels.Tie as tie
 
@@ -16,7 +16,7 @@ unfolding levelsOf
 returns c = rw (sym (c .before .node-ok .ensures) ∙ not-true _ (c .if1 .taken))
 
 each-level-requires : tie.Need-each-level-requires
-each-level-requires c κs = (node-settings _ (sound (c .before)), node-dimmed _ (sound (c .before)))
+each-level-requires c κs = (node-settings _ (sound (c .before)), node-levels-in-range _ (sound (c .before)))
 
 returns-2 : tie.Need-returns-2
 unfolding levelsOf

@@ -5,7 +5,7 @@ use mathlib.Core.Path.{_≡_, refl, sym, _∙_}
 use native.Mathlib.Omega.{arith}
 use lib.ListN.{getD}
 use Rattle.dpa.specs.Lists.{allBelow}
-use Rattle.dpa.proofs.Bool.{all-more}
+use Rattle.dpa.proofs.Bool.{all-below-next}
 use Rattle.lights.specs.Lamp.{off, lampFits}
 use Rattle.lights.proofs.Lamps.{fits-below}
 use Rattle.node.proofs.record.implemented_ok.Statement.{statement}
@@ -23,7 +23,7 @@ loop-holds c = (omega arith, refl)
 
 loop-again : tie.Need-loop-again Inv-loop μ-loop
 loop-again c =
-    (omega arith, all-more _ _ _ _ (c .before .before .before .loop .inv .1) (c .lamp-ok .ensures ∙ sym (fits-below _ _ _ (c .before .before .loop-test .taken))))
+    (omega arith, all-below-next _ _ _ _ (c .before .before .before .loop .inv .1) (c .lamp-ok .ensures ∙ sym (fits-below _ _ _ (c .before .before .loop-test .taken))))
 
 returns : tie.Need-returns Inv-loop μ-loop
 returns c =

@@ -5,7 +5,7 @@ use mathlib.Core.Path.{_≡_, sym, _∙_}
 use native.Mathlib.Omega.{arith}
 use lib.ListN.{getD}
 use Rattle.dpa.specs.Lists.{allBelow}
-use Rattle.dpa.proofs.Bool.{all-more}
+use Rattle.dpa.proofs.Bool.{all-below-next}
 use Rattle.lights.specs.Lamp.{off, lampFits}
 use Rattle.lights.proofs.Lamps.{fits-above}
 use Rattle.node.specs.Node.{lampsOk}
@@ -24,7 +24,7 @@ loop-holds c = (omega arith, omega arith, c .implemented-ok .ensures)
 loop-again : tie.Need-loop-again Inv-loop μ-loop
 loop-again c =
     let v = c .before .before .before .loop .inv in
-    (omega arith, omega arith, all-more _ _ _ _ (v .2) (c .lamp-zero .ensures ∙ sym (fits-above _ _ _ (v .0))))
+    (omega arith, omega arith, all-below-next _ _ _ _ (v .2) (c .lamp-zero .ensures ∙ sym (fits-above _ _ _ (v .0))))
 
 returns : tie.Need-returns Inv-loop μ-loop
 unfolding lampsOk

@@ -1,3 +1,4 @@
+-- `compile::address_ok`: the broadcast address, or one in range.
 use mathlib.Core.Bool.{or-true, or-false}
 use borrow.Author.Tests.{le-leb, lt-leb, eq-eqb, ne-eqb}
 use Rattle.scene.specs.Call.{addressOk}

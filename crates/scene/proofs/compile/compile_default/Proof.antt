@@ -1,3 +1,4 @@
+-- `compile::compile_default`: `compile` with the HWPID that every node accepts.
 use borrow.Author.Needs.{needs}
 use Rattle.scene.proofs.compile.compile_default.Statement.{statement}
 use Rattle.scene.proofs.compile.compile_default.Tie as tie

@@ -1,3 +1,4 @@
+-- `compile::compile_scene`: the tests of book and number, then the steps of the scene.
 use mathlib.Core.Bool.{true}
 use mathlib.Core.Path.{_≡_, sym, ap, _∙_}
 use Prim.Native.Nat.{_+_, _*_, _<_, _≤_}
@@ -5,21 +6,23 @@ use native.Mathlib.Omega.{arith}
 use lib.ListN.{length, drop, length-drop}
 use borrow.Author.Needs.{needs}
 use borrow.Author.Tests.{le-leb, lt-leb, not-true, not-false}
-use Rattle.dpa.proofs.Lists.{to-end}
-use Rattle.book.specs.declared.contents.SceneLocation.{SceneLocation}
-use Rattle.book.specs.Book.{stepsMax, stepLength, countOf, bookOk, sceneOf, stepsIn}
-use Rattle.book.proofs.Books.{book-facts, body-within, scene-is}
+use Rattle.dpa.proofs.Lists.{slice-to-end}
+use Rattle.book.specs.declared.locations.SceneLocation.{SceneLocation}
+use Rattle.book.specs.Book.{stepsMax, stepLength, sceneCount, bookOk, sceneOf, stepsIn}
+use Rattle.book.proofs.Books.{book-facts, body-within, scene-at}
 use Rattle.scene.specs.declared.compile.CompileAnswer.{CompileAnswer}
-use Rattle.scene.specs.Call.{compiledAs, compileScene}
+use Rattle.scene.specs.Call.{compileResult, compileScene}
 use Rattle.scene.proofs.compile.compile_scene.Statement.{statement}
 use Rattle.scene.proofs.compile.compile_scene.Tie as tie
 
+-- what the tests on the way have shown
 book : (c : tie.Else1) → bookOk (c .before .before .before .before .before .args .book .now) ≡ true
 book c = sym (c .before .book-ok .ensures) ∙ not-false _ (c .if1 .left)
 
-below : (c : tie.Else2) → let a = c .before .before .before .before .before .before .before .before .args in a .scene < countOf (a .book .now)
+below : (c : tie.Else2) → let a = c .before .before .before .before .before .before .before .before .args in a .scene < sceneCount (a .book .now)
 below c = rw (c .before .wide .ensures .0) at (c .if2 .left)
 
+-- the scene's steps lie in the book
 inside : (c : tie.After-scene-location) → let a = c .before .before .before .before .before .before .before .before .before .args in
     let n = c .scene-location .result in
     (n .offset + stepLength * n .steps ≤ length (a .book .now)) × (n .steps ≤ stepsMax)
@@ -32,7 +35,7 @@ returns : tie.Need-returns
 unfolding compileScene
 returns c =
     rw (sym (c .before .before .book-ok .ensures) ∙ not-true _ (c .before .if1 .taken))
-    (ap (λ (r : CompileAnswer). compiledAs r (c .before .before .before .before .before .before .args .out .now)) (c .refused .ensures))
+    (ap (λ (r : CompileAnswer). compileResult r (c .before .before .before .before .before .before .args .out .now)) (c .refused .ensures))
 
 shared-slice-read-wide : tie.Need-shared-slice-read-wide
 shared-slice-read-wide c = omega (arith, book-facts _ (book (c .before)))
@@ -41,7 +44,7 @@ returns-2 : tie.Need-returns-2
 unfolding compileScene
 returns-2 c =
     rw (book (c .before .before .before .before), le-leb _ _ (rw (c .before .before .wide .ensures .0) at (c .before .if2 .taken)))
-    (ap (λ (r : CompileAnswer). compiledAs r (c .before .before .before .before .before .before .before .before .before .args .out .now)) (c .refused2 .ensures))
+    (ap (λ (r : CompileAnswer). compileResult r (c .before .before .before .before .before .before .before .before .before .args .out .now)) (c .refused2 .ensures))
 
 scene-location-requires : tie.Need-scene-location-requires
 scene-location-requires c κs = omega (arith, book-facts _ (book (c .before .before .before)), below c)
@@ -58,7 +61,7 @@ compile-steps-requires c κs =
     let s = d .before .before .before .before .before .before .before .before .before in
     let b = s .args .book .now in
     let i = inside d in
-    rw (to-end (d .scene-location .result .offset) b)
+    rw (slice-to-end (d .scene-location .result .offset) b)
     (omega (arith, i .0, length-drop (d .scene-location .result .offset) b), i .1, s .pre)
 
 returns-3 : tie.Need-returns-3
@@ -69,9 +72,9 @@ returns-3 c =
     let b = s .args .book .now in
     let p = d .scene-location .ensures in
     let scene : sceneOf b (s .args .scene) ≡ stepsIn (d .scene-location .result .steps) (drop (d .scene-location .result .offset) b) =
-    scene-is b (s .args .scene) (below (d .before)) ∙ ap (λ (x : SceneLocation). stepsIn (x .steps) (drop (x .offset) b)) (sym (p .0)) in
-    rw (book (d .before .before .before .before), lt-leb (countOf b) (s .args .scene) (below (d .before)), scene)
-    (rw (to-end (d .scene-location .result .offset) b) at (c .before .before .compile-steps .ensures))
+    scene-at b (s .args .scene) (below (d .before)) ∙ ap (λ (x : SceneLocation). stepsIn (x .steps) (drop (x .offset) b)) (sym (p .0)) in
+    rw (book (d .before .before .before .before), lt-leb (sceneCount b) (s .args .scene) (below (d .before)), scene)
+    (rw (slice-to-end (d .scene-location .result .offset) b) at (c .before .before .compile-steps .ensures))
 
 pub compile-scene-spec : {M : Type 1} → statement M
 compile-scene-spec =

@@ -1,3 +1,4 @@
+-- `fill::write_lengths`: each turn writes the span of one entry, and a length byte if the entry does not fit the open list.
 use mathlib.Core.List.{List, [], _∷_, _++_}
 use mathlib.Core.Path.{_≡_, refl, ap, _∙_}
 use Prim.Native.Nat.{ℕ, _+_, _-_, _≤_}
@@ -8,137 +9,135 @@ use Rattle.dpa.specs.Frame.{frame, headerBytes, headerSize, pdataMax}
 use Rattle.book.specs.declared.step.Step.{Step}
 use Rattle.book.specs.Book.{stepsIn}
 use Rattle.book.specs.Join.{entriesOf}
-use Rattle.book.proofs.Joining.{steps-length}
-use Rattle.book.proofs.Books.{good-steps}
+use Rattle.book.proofs.Positions.{steps-length}
+use Rattle.book.proofs.GoodSteps.{good-steps}
 use Rattle.scene.specs.Call.{lengths}
-use Rattle.scene.specs.Fill.{requestsWith, keptRoom}
+use Rattle.scene.specs.Fill.{requestsWith, maxSpanBytes}
 use Rattle.scene.proofs.Outputs.{lengths-length}
-use Rattle.scene.proofs.Lists.{entry-limit}
-use Rattle.scene.proofs.Filling.{lengthsLeft, lengths-begin}
-use Rattle.scene.proofs.Requests.{Left, left-start, Open, open-start, open-end, left-end, lengths-room, lengths-more}
-use Rattle.scene.proofs.Kept.{Keeps, kept-few, kept-more, kept-end}
+use Rattle.scene.proofs.Batches.{entry-limit}
+use Rattle.scene.proofs.Remaining.{remainingLengths, requests-lengths}
+use Rattle.scene.proofs.Progress.{Remaining, remaining-start, Progress, progress-start, progress-end, remaining-end, lengths-room, lengths-more}
+use Rattle.scene.proofs.Spans.{SpansWritten, span-room, spans-more, spans-end}
 use Rattle.scene.proofs.fill.write_lengths.Statement.{statement}
 use Rattle.scene.proofs.fill.write_lengths.Tie as tie
 
 abbrev Inv-loop : tie.InvT-loop
-Inv-loop body count most front kept₀ out₀ at head done₀ size₀ end₀ pair₀ kept out done size end pair =
-    Open (most .entry) (most .list) (lengthsLeft (most .list) head) (stepsIn count body) out₀ at done size out end
-    × Keeps (most .entry) (stepsIn count body) kept₀ done kept pair
+Inv-loop body count limits front spans₀ out₀ at prefix step₀ size₀ end₀ index₀ spans out step size end index =
+    Progress (limits .entry) (limits .list) (remainingLengths (limits .list) prefix) (stepsIn count body) out₀ at step size out end
+    × SpansWritten (limits .entry) (stepsIn count body) spans₀ step spans index
 
 abbrev μ-loop : tie.MeasureT-loop
-μ-loop body count most front kept₀ out₀ at head done₀ size₀ end₀ pair₀ kept out done size end pair = count - done
+μ-loop body count limits front spans₀ out₀ at prefix step₀ size₀ end₀ index₀ spans out step size end index = count - step
 
-abbrev steps : (s : tie.Start Inv-loop μ-loop) → List Step
+-- the start, from where there are steps
+abbrev start : tie.Else1 Inv-loop μ-loop → tie.Start Inv-loop μ-loop
+start c = c .before .before .before .before .before
+
+abbrev steps : tie.Start Inv-loop μ-loop → List Step
 steps s = stepsIn (s .args .count) (s .args .body .now)
 
--- all length bytes, for any header
-abbrev all : (s : tie.Start Inv-loop μ-loop) → List ℕ
-all s = lengthsLeft (s .args .most .list) (headerSize + length (s .args .front .now)) 1 (entriesOf (s .args .most .entry) (steps s))
+-- as many as the code counts
+count-of : (s : tie.Start Inv-loop μ-loop) → length (steps s) ≡ s .args .count
+count-of s = steps-length (s .args .count) (s .args .body .now)
 
-abbrev requests : (s : tie.Start Inv-loop μ-loop) → Frame → List (List ℕ)
-requests s f = requestsWith (s .args .most) f (s .args .front .now) (steps s)
+-- bytes of a request before its list
+abbrev prefix : tie.Start Inv-loop μ-loop → ℕ
+prefix s = headerSize + length (s .args .front .now)
 
--- any header will do
-abbrev any : Frame
-any = frame 0 0 0 0
+-- all length bytes; they are the same for every header
+abbrev all : tie.Start Inv-loop μ-loop → List ℕ
+all s = remainingLengths (s .args .limits .list) (prefix s) 1 (entriesOf (s .args .limits .entry) (steps s))
 
-all-is : (c : tie.Else1 Inv-loop μ-loop) (f : Frame) → let s = c .before .before .before .before .before in lengths (requests s f) ≡ all s
+abbrev requests : tie.Start Inv-loop μ-loop → Frame → List (List ℕ)
+requests s f = requestsWith (s .args .limits) f (s .args .front .now) (steps s)
+
+abbrev anyHeader : Frame
+anyHeader = frame 0 0 0 0
+
+all-is : (c : tie.Else1 Inv-loop μ-loop) (f : Frame) → lengths (requests (start c) f) ≡ all (start c)
 all-is c f =
-    let s = c .before .before .before .before .before in
-    let n : length (headerBytes f ++ s .args .front .now) ≡ headerSize + length (s .args .front .now) = omega arith in
-    lengths-begin (s .pre .3) (headerBytes f ++ s .args .front .now) (f .hwpid) (steps s)
-    (good-steps (s .args .count) (s .args .body .now) (s .pre .2))
-    (omega (arith, c .if1 .left, steps-length (s .args .count) (s .args .body .now)))
-    ∙ ap (λ (k : ℕ). lengthsLeft (s .args .most .list) k 1 (entriesOf (s .args .most .entry) (steps s))) n
+    let s = start c in
+    let n : length (headerBytes f ++ s .args .front .now) ≡ prefix s = omega arith in
+    requests-lengths (s .pre .3) (headerBytes f ++ s .args .front .now) (f .hwpid) (steps s)
+    (good-steps (s .args .count) (s .args .body .now) (s .pre .2)) (omega (arith, c .if1 .left, count-of s))
+    ∙ ap (λ (k : ℕ). remainingLengths (s .args .limits .list) k 1 (entriesOf (s .args .limits .entry) (steps s))) n
 
-room : (c : tie.Else1 Inv-loop μ-loop) → let s = c .before .before .before .before .before in s .args .at + length (all s) ≤ length (s .args .out .now)
-room c =
-    let s = c .before .before .before .before .before in
-    omega (arith, s .pre .5 any, ap length (all-is c any), lengths-length (requests s any))
+room : (c : tie.Else1 Inv-loop μ-loop) → start c .args .at + length (all (start c)) ≤ length (start c .args .out .now)
+room c = omega (arith, start c .pre .5 anyHeader, ap length (all-is c anyHeader), lengths-length (requests (start c) anyHeader))
 
 -- no steps, no requests
 returns : tie.Need-returns Inv-loop μ-loop
 returns c =
     let s = c .before .before .before .before .before in
-    rw (c .if1 .taken) ((λ f. (omega arith, refl)), record { unused = s .args .kept .now; begins = refl })
-
-add-head : tie.Need-add-head Inv-loop μ-loop
-add-head c = let s = c .before .before .before .before .before in omega (arith, s .pre .3 .frame)
+    rw (c .if1 .taken) ((λ f. (omega arith, refl)), record { unused = s .args .spans .now; starts = refl })
 
 loop-holds : tie.Need-loop-holds Inv-loop μ-loop
-loop-holds c = let s = c .before .before .before .before .before in (open-start (s .pre .3) _ _ _ _, left-start _ _ _)
+loop-holds c = (progress-start (start c .pre .3) _ _ _ _, remaining-start _ _ _)
 
 entry-from-requires : tie.Need-entry-from-requires Inv-loop μ-loop
 entry-from-requires c κs =
-    let s = c .before .before .before .before .before .before .before in
+    let s = start (c .before .before) in
     (s .pre .0, c .loop-test .taken, s .pre .1, entry-limit (s .pre .3))
 
--- the entry's two bytes have room
-few : (c : tie.After-entry-from Inv-loop μ-loop) → c .before .before .loop .pair + 2 ≤ keptRoom
-few c =
-    let s = c .before .before .before .before .before .before .before .before in
-    let l = c .before .before .loop in
+-- ---- an entry: d is the place where it is found
+abbrev start-of : tie.After-entry-from Inv-loop μ-loop → tie.Start Inv-loop μ-loop
+start-of d = start (d .before .before .before)
+
+-- its span has room
+in-spans : (d : tie.After-entry-from Inv-loop μ-loop) → d .before .before .loop .index + 2 ≤ maxSpanBytes
+in-spans d =
+    let s = start-of d in
+    let l = d .before .before .loop in
     omega (
       arith,
-      kept-few (s .args .most .entry) (steps s) (s .args .kept .now) (l .done) (l .kept) (l .pair) (l .inv .1) _ _ (c .entry-from .ensures),
-      steps-length (s .args .count) (s .args .body .now),
+      span-room (s .args .limits .entry) (steps s) (s .args .spans .now) (l .step) (l .spans) (l .index) (l .inv .1) _ _ (d .entry-from .ensures),
+      count-of s,
       s .pre .1,
     )
 
 -- its steps are within the scene
-part-of : (c : tie.After-entry-from Inv-loop μ-loop)
-    → c .before .before .loop .done + c .entry-from .result .steps ≤ c .before .before .before .before .before .before .before .before .args .count
-part-of c =
-    let s = c .before .before .before .before .before .before .before .before in
+in-scene : (d : tie.After-entry-from Inv-loop μ-loop) → d .before .before .loop .step + d .entry-from .result .steps ≤ start-of d .args .count
+in-scene d =
     omega (
       arith,
-      c .entry-from .ensures .within,
-      length-drop (c .before .before .loop .done) (steps s),
-      steps-length (s .args .count) (s .args .body .now),
-      c .before .loop-test .taken,
+      d .entry-from .ensures .within,
+      length-drop (d .before .before .loop .step) (steps (start-of d)),
+      count-of (start-of d),
+      d .before .loop-test .taken,
     )
 
 -- its PData fits a frame
-data-of : (c : tie.After-entry-from Inv-loop μ-loop) → c .entry-from .result .size ≤ pdataMax
-data-of c = let s = c .before .before .before .before .before .before .before .before in omega (arith, c .entry-from .ensures .small, entry-limit (s .pre .3) .frame)
+pdata-fits : (d : tie.After-entry-from Inv-loop μ-loop) → d .entry-from .result .size ≤ pdataMax
+pdata-fits d = omega (arith, d .entry-from .ensures .small, entry-limit (start-of d .pre .3) .frame)
 
-cast-kept : tie.Need-cast-kept Inv-loop μ-loop
-cast-kept c = omega (arith, part-of (c .before), c .before .before .before .before .before .before .before .before .before .pre .1)
+cast-spans : tie.Need-cast-spans Inv-loop μ-loop
+cast-spans c = omega (arith, in-scene (c .before), start-of (c .before) .pre .1)
 
-slice-write-kept : tie.Need-slice-write-kept Inv-loop μ-loop
-slice-write-kept c =
-    let s = c .before .before .before .before .before .before .before .before .before in
-    omega (arith, few (c .before), c .before .before .before .loop .inv .1 .kept, s .pre .4)
+slice-write-spans : tie.Need-slice-write-spans Inv-loop μ-loop
+slice-write-spans c =
+    let d = c .before in
+    omega (arith, in-spans d, d .before .before .loop .inv .1 .same-size, start-of d .pre .4)
 
-cast-kept-2 : tie.Need-cast-kept-2 Inv-loop μ-loop
-cast-kept-2 c = omega (arith, data-of (c .before .before))
-
-add-kept : tie.Need-add-kept Inv-loop μ-loop
-add-kept c = omega (arith, few (c .before .before))
-
-slice-write-kept-2 : tie.Need-slice-write-kept-2 Inv-loop μ-loop
-slice-write-kept-2 c =
-    let s = c .before .before .before .before .before .before .before .before .before .before in
-    rw length-set (omega (arith, few (c .before .before), c .before .before .before .before .loop .inv .1 .kept, s .pre .4))
-
-add-pair : tie.Need-add-pair Inv-loop μ-loop
-add-pair c = omega (arith, few (c .before .before))
+slice-write-spans-2 : tie.Need-slice-write-spans-2 Inv-loop μ-loop
+slice-write-spans-2 c =
+    let d = c .before .before in
+    rw length-set (omega (arith, in-spans d, d .before .before .loop .inv .1 .same-size, start-of d .pre .4))
 
 next-length-requires : tie.Need-next-length-requires Inv-loop μ-loop
 next-length-requires c κs =
     let d = c .before .before .before in
-    let s = d .before .before .before .before .before .before .before .before in
+    let s = start-of d in
     let l = d .before .before .loop in (
       l .inv .0 .small,
-      data-of d,
+      pdata-fits d,
       omega (arith, s .pre .3 .frame),
       lengths-room (s .pre .3) _ _ _ _ _ _ _ _ _ (d .entry-from .ensures) _ (l .inv .0) (room (d .before .before .before)),
     )
 
-add-done : tie.Need-add-done Inv-loop μ-loop
-add-done c =
+add-step : tie.Need-add-step Inv-loop μ-loop
+add-step c =
     let d = c .before .before .before .before .before .before .before in
-    omega (arith, part-of d, d .before .before .before .before .before .before .before .before .pre .1)
+    omega (arith, in-scene d, start-of d .pre .1)
 
 loop-less : tie.Need-loop-less Inv-loop μ-loop
 loop-less c =
@@ -149,52 +148,44 @@ loop-again : tie.Need-loop-again Inv-loop μ-loop
 loop-again c =
     let p = c .before .before .before .next-length .ensures in
     let d = c .before .before .before .before .before .before .before in
-    let s = d .before .before .before .before .before .before .before .before in
+    let s = start-of d in
     let l = d .before .before .loop in (
       lengths-more (s .pre .3) _ _ _ _ _ _ _ _ _ (d .entry-from .ensures) _ (l .inv .0) _ _ _ (p .2) (p .0) (p .1),
-      kept-more (s .args .most .entry) _ _ _ _ _ (l .inv .1) _ _ (d .entry-from .ensures),
+      spans-more (s .args .limits .entry) _ _ _ _ _ (l .inv .1) _ _ (d .entry-from .ensures),
     )
 
-add-out : tie.Need-add-out Inv-loop μ-loop
-add-out c = omega (arith, c .before .loop .inv .0 .small, c .before .before .before .before .before .before .before .pre .3 .frame)
+-- ---- after the last entry
 
-cast-out : tie.Need-cast-out Inv-loop μ-loop
-cast-out c = omega (arith, c .before .loop .inv .0 .small, c .before .before .before .before .before .before .before .pre .3 .frame)
+-- the last length byte fits a byte
+last-small : (c : tie.After-loop Inv-loop μ-loop) → c .before .loop .size + prefix (start (c .before .before)) ≤ headerSize + pdataMax
+last-small c = omega (arith, c .before .loop .inv .0 .small, start (c .before .before) .pre .3 .frame)
 
--- all steps are done
-done-all : (c : tie.After-loop Inv-loop μ-loop) → length (steps (c .before .before .before .before .before .before .before)) ≤ c .before .loop .done
-done-all c =
-    let s = c .before .before .before .before .before .before .before in
-    omega (arith, steps-length (s .args .count) (s .args .body .now), c .loop-test .left)
+all-done : (c : tie.After-loop Inv-loop μ-loop) → length (steps (start (c .before .before))) ≤ c .before .loop .step
+all-done c = omega (arith, count-of (start (c .before .before)), c .loop-test .left)
 
--- the last length byte
-last : (c : tie.After-loop Inv-loop μ-loop) → let s = c .before .before .before .before .before .before .before in
-    Left (s .args .out .now) (s .args .at) (all s) (c .before .loop .out) (c .before .loop .end)
-    ((c .before .loop .size + (headerSize + length (s .args .front .now))) ∷ [])
+-- only that byte remains
+last : (c : tie.After-loop Inv-loop μ-loop) → let s = start (c .before .before) in
+    Remaining (s .args .out .now) (s .args .at) (all s) (c .before .loop .out) (c .before .loop .end) ((c .before .loop .size + prefix s) ∷ [])
 last c =
-    let s = c .before .before .before .before .before .before .before in
-    open-end (s .pre .3) (lengthsLeft (s .args .most .list) (headerSize + length (s .args .front .now))) (steps s) (s .args .out .now) (s .args .at) _ _ _ _
-    (c .before .loop .inv .0) (done-all c)
+    let s = start (c .before .before) in
+    progress-end (s .pre .3) (remainingLengths (s .args .limits .list) (prefix s)) (steps s) (s .args .out .now) (s .args .at) _ _ _ _
+    (c .before .loop .inv .0) (all-done c)
 
 slice-write-out : tie.Need-slice-write-out Inv-loop μ-loop
-slice-write-out c = omega (arith, last c .place, last c .kept, room (c .before .before))
+slice-write-out c = omega (arith, last c .end, last c .same-size, room (c .before .before))
 
 add-result : tie.Need-add-result Inv-loop μ-loop
-add-result c = omega (arith, last c .place, last c .kept, room (c .before .before))
-
-same-length : tie.Need-same-length Inv-loop μ-loop
-same-length c = c .before .loop .inv .1 .kept
+add-result c = omega (arith, last c .end, last c .same-size, room (c .before .before))
 
 same-length-2 : tie.Need-same-length-2 Inv-loop μ-loop
-same-length-2 c = length-set (c .before .loop .out) (c .before .loop .end) _ ∙ c .before .loop .inv .0 .rest .kept
+same-length-2 c = length-set (c .before .loop .out) (c .before .loop .end) _ ∙ c .before .loop .inv .0 .rest .same-size
 
 returns-2 : tie.Need-returns-2 Inv-loop μ-loop
 returns-2 c =
-    let s = c .before .before .before .before .before .before .before in
-    let x = left-end (s .args .out .now) (s .args .at) _ _ _ _ (last c) _ _ refl refl in (
+    let s = start (c .before .before) in
+    let x = remaining-end (s .args .out .now) (s .args .at) _ _ _ _ (last c) _ _ refl refl in (
       λ f. let e = all-is (c .before .before) f in rw e (omega (arith, x .0, ap length e, lengths-length (requests s f)), x .1),
-      kept-end (s .args .most .entry) (steps s) _ _ _ _ (c .before .loop .inv .1) (done-all c)
-          (omega (arith, s .pre .4, s .pre .1, steps-length (s .args .count) (s .args .body .now))),
+      spans-end (s .args .limits .entry) (steps s) _ _ _ _ (c .before .loop .inv .1) (all-done c) (omega (arith, s .pre .4, s .pre .1, count-of s)),
     )
 
 pub write-lengths-spec : {M : Type 1} → statement M
@@ -204,23 +195,23 @@ write-lengths-spec =
     Inv-loop
     μ-loop
     returns
-    add-head
+    (λ c. omega (arith, start c .pre .3 .frame))
     loop-holds
     entry-from-requires
-    cast-kept
-    slice-write-kept
-    cast-kept-2
-    add-kept
-    slice-write-kept-2
-    add-pair
+    cast-spans
+    slice-write-spans
+    (λ c. omega (arith, pdata-fits (c .before .before)))
+    (λ c. omega (arith, in-spans (c .before .before)))
+    slice-write-spans-2
+    (λ c. omega (arith, in-spans (c .before .before)))
     next-length-requires
-    add-done
+    add-step
     loop-less
     loop-again
-    add-out
-    cast-out
+    (λ c. omega (arith, last-small c))
+    (λ c. omega (arith, last-small c))
     slice-write-out
     add-result
-    same-length
+    (λ c. c .before .loop .inv .1 .same-size)
     same-length-2
     returns-2)

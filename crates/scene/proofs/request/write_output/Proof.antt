@@ -1,3 +1,4 @@
+-- `request::write_output`: the length bytes from byte 1 on, their count, then the requests.
 use mathlib.Core.List.{List}
 use mathlib.Core.Path.{_∙_}
 use Prim.Native.Nat.{ℕ, suc, _+_, _≤_}
@@ -6,24 +7,24 @@ use lib.ListN.{length, length-set}
 use borrow.Author.Needs.{needs}
 use Rattle.dpa.specs.declared.frame.Frame.{Frame}
 use Rattle.book.specs.Book.{stepsIn}
-use Rattle.book.specs.Group.{joined}
-use Rattle.book.proofs.Joining.{steps-length}
+use Rattle.book.specs.Group.{concat}
+use Rattle.book.proofs.Positions.{steps-length}
 use Rattle.scene.specs.Fill.{requestsWith}
-use Rattle.scene.proofs.Outputs.{output-length, requests-few}
-use Rattle.scene.proofs.Requests.{short, output-written}
+use Rattle.scene.proofs.Outputs.{output-length, request-count}
+use Rattle.scene.proofs.Progress.{steps-fit, output-written}
 use Rattle.scene.proofs.request.write_output.Statement.{statement}
 use Rattle.scene.proofs.request.write_output.Tie as tie
 
 abbrev requests : (s : tie.Start) → Frame → List (List ℕ)
-requests s f = requestsWith (s .args .most) f (s .args .front .now) (stepsIn (s .args .count) (s .args .body .now))
+requests s f = requestsWith (s .args .limits) f (s .args .front .now) (stepsIn (s .args .count) (s .args .body .now))
 
 -- the output fits, for any header
-room : (s : tie.Start) (f : Frame) → suc (length (requests s f) + length (joined (requests s f))) ≤ length (s .args .out .now)
+room : (s : tie.Start) (f : Frame) → suc (length (requests s f) + length (concat (requests s f))) ≤ length (s .args .out .now)
 room s f =
     omega (
       arith,
       s .pre .4,
-      short (s .args .most) f (s .args .front .now) (s .pre .3) (s .args .count) (s .args .body .now) (s .pre .2) (s .pre .1),
+      steps-fit (s .args .limits) f (s .args .front .now) (s .pre .3) (s .args .count) (s .args .body .now) (s .pre .2) (s .pre .1),
       output-length (requests s f),
     )
 
@@ -33,15 +34,15 @@ write-lengths-requires c κs =
     (s .pre .0, s .pre .1, s .pre .2, s .pre .3, omega arith, λ f. omega (arith, room s f))
 
 sub-requests : tie.Need-sub-requests
-sub-requests c = let s = c .before .before .before .before .before .before .before .before .before in omega (arith, c .before .before .before .write-lengths .ensures .0 (s .args .head) .0)
+sub-requests c = let s = c .before .before .before .before .before .before .before .before .before in omega (arith, c .before .before .before .write-lengths .ensures .0 (s .args .header) .0)
 
 cast-out : tie.Need-cast-out
 cast-out c =
     let s = c .before .before .before .before .before .before .before .before .before in
     omega (
       arith,
-      c .before .before .before .write-lengths .ensures .0 (s .args .head) .0,
-      requests-few (s .args .most) (s .args .head) (s .args .front .now) (stepsIn (s .args .count) (s .args .body .now)),
+      c .before .before .before .write-lengths .ensures .0 (s .args .header) .0,
+      request-count (s .args .limits) (s .args .header) (s .args .front .now) (stepsIn (s .args .count) (s .args .body .now)),
       steps-length (s .args .count) (s .args .body .now),
       s .pre .1,
     )
@@ -55,7 +56,7 @@ write-requests-requires c κs =
       s .pre .2,
       s .pre .3,
       p .ensures .1,
-      rw length-set (omega (arith, room s (s .args .head), p .ensures .0 (s .args .head) .0, p .kept .1 .1 .1 .1 .1 .0)),
+      rw length-set (omega (arith, room s (s .args .header), p .ensures .0 (s .args .header) .0, p .kept .1 .1 .1 .1 .1 .0)),
     )
 
 same-length : tie.Need-same-length
@@ -67,9 +68,9 @@ returns : tie.Need-returns
 returns c =
     let s = c .before .before .before .before .before .before .before .before .before .before .before .before .before .before in
     let p = c .before .before .before .before .before .before .before .before .write-lengths in
-    let l = p .ensures .0 (s .args .head) in
+    let l = p .ensures .0 (s .args .header) in
     let q = c .before .before .write-requests .ensures in
-    output-written (s .args .out .now) (p .last .1 .1 .1 .1 .1 .0) _ (requests s (s .args .head)) _ (p .result) _ (omega (arith, l .0))
+    output-written (s .args .out .now) (p .last .1 .1 .1 .1 .1 .0) _ (requests s (s .args .header)) _ (p .result) _ (omega (arith, l .0))
     (l .1) (l .0) (q .1) (q .0)
 
 pub write-output-spec : {M : Type 1} → statement M

@@ -1,9 +1,10 @@
+-- `sums::Sums::add_block` meets its contract. The invariant: adding the bytes from `i` on gives the sums of the block.
 use Prim.Native.Nat.{_≤_, _-_}
 use mathlib.Core.Path.{_≡_, refl, sym, _∙_}
 use native.Mathlib.Omega.{arith}
 use lib.ListN.{length, drop}
 use Rattle.checksum.specs.Sums.{sums}
-use Rattle.checksum.proofs.Fletcher.{byte-more, sums-done}
+use Rattle.checksum.proofs.Fletcher.{sums-next-byte, sums-done}
 use Rattle.checksum.proofs.sums.Sums.add_block.Statement.{statement}
 use Rattle.checksum.proofs.sums.Sums.add_block.Tie as tie
 
@@ -16,13 +17,10 @@ abbrev μ-loop : tie.MeasureT-loop
 loop-holds : tie.Need-loop-holds Inv-loop μ-loop
 loop-holds c = (omega arith, refl)
 
-add-byte-requires : tie.Need-add-byte-requires Inv-loop μ-loop
-add-byte-requires c κs = tt
-
 loop-again : tie.Need-loop-again Inv-loop μ-loop
 loop-again c =
     let l = c .before .before .before in
-    (omega arith, rw (c .add-byte .ensures) (sym (byte-more (l .before .before .args .block .now) (l .loop .s) (l .loop .i) (c .before .before .loop-test .taken)) ∙ l .loop .inv .1))
+    (omega arith, rw (c .add-byte .ensures) (sym (sums-next-byte (l .before .before .args .block .now) (l .loop .s) (l .loop .i) (c .before .before .loop-test .taken)) ∙ l .loop .inv .1))
 
 returns : tie.Need-returns Inv-loop μ-loop
 returns c =
@@ -31,5 +29,5 @@ returns c =
 
 pub add-block-spec : {M : Type 1} → statement M
 add-block-spec =
-    tie.close (tie.spec Inv-loop μ-loop loop-holds (λ c. omega arith) add-byte-requires (λ c. omega arith)
+    tie.close (tie.spec Inv-loop μ-loop loop-holds (λ c. omega arith) (λ c κs. tt) (λ c. omega arith)
     (λ c. omega arith) loop-again returns)

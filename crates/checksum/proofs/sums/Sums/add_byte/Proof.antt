@@ -1,3 +1,4 @@
+-- `sums::Sums::add_byte` meets its contract.
 use Rattle.checksum.proofs.Fletcher.{byte-added}
 use borrow.Author.Needs.{needs}
 use Rattle.checksum.proofs.sums.Sums.add_byte.Statement.{statement}

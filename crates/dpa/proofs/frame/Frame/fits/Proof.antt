@@ -1,3 +1,4 @@
+-- `frame::Frame::fits` meets its contract: each return computes the definition from the tests before it.
 use borrow.Author.Tests.{lt-leb, le-leb}
 use Rattle.dpa.specs.Frame.{frameFits}
 use Rattle.dpa.proofs.frame.Frame.fits.Statement.{statement}

@@ -1,3 +1,4 @@
+-- `frame::Frame::read` meets its contract.
 use borrow.Author.Needs.{needs}
 use Rattle.dpa.proofs.frame.Frame.read.Statement.{statement}
 use Rattle.dpa.proofs.frame.Frame.read.Tie as tie

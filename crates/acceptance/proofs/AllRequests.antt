@@ -1,0 +1,87 @@
+-- The requests of a scene, handled in order: each succeeds, and together they do what the steps of the scene do.
+use mathlib.Core.Path.{_≡_, refl, sym, ap, subst, _∙_}
+use mathlib.Core.Logic.{_⊎_}
+use mathlib.Core.List.{List, [], _∷_, _++_, map}
+use mathlib.Core.Bool.{true}
+use Prim.Native.Nat.{ℕ, suc, _≤_}
+use lib.ListN.{length}
+use Rattle.dpa.specs.declared.settings.Settings.{Settings}
+use Rattle.dpa.specs.Frame.{longestResponse, broadcastNadr, frame}
+use Rattle.dpa.specs.Pnum.{osPnum}
+use Rattle.batch.specs.Batch.{Item, item, listBytes}
+use Rattle.dpa.specs.Lists.{All}
+use Rattle.handler.specs.Request.{State, SoundState, hwpidMatches, batchRequest, execute, handleRequest}
+use Rattle.book.specs.declared.step.Step.{Step}
+use Rattle.book.specs.Group.{concat}
+use Rattle.book.specs.Machine.{machine}
+use Rattle.scene.specs.Compile.{Limits, joinedItems, batchesOf, requestBytes, requestsOf}
+use Rattle.book.proofs.Groups.{concat-append}
+use Rattle.book.proofs.MachineLaws.{machine-append, machine-stays}
+use Rattle.book.proofs.Faults.{Good}
+use Rattle.book.proofs.EntryGroups.{EntryGroup, joining-keeps}
+use Rattle.scene.proofs.Batches.{BatchRule, batches-rule, filling-keeps}
+use Rattle.scene.proofs.Sizes.{batch-fits}
+use Rattle.acceptance.specs.Condition3.{Success, AllSucceed, afterCalls, MatchesMachine}
+use Rattle.acceptance.proofs.Batches.{AllPerform, entries-perform, batch-performs}
+use Rattle.acceptance.proofs.OneRequest.{call-leaves, call-sound, call-succeeds}
+
+-- a call succeeds, leaves the state that the step machine reaches by these steps, and leaves it sound
+pub record Done (pcmd a : ℕ) (s : Settings) (request : List ℕ) (steps : List Step) (st : State) (o : List ℕ) : Type 0 where
+  pub success : Success pcmd a s request st o
+  pub after : handleRequest request st o .after ≡ machine steps st
+  pub sound : SoundState (handleRequest request st o .after)
+
+-- For any two limits, and any PCMD and bytes in front of the list with which a node with settings s executes the list as a batch.
+-- This is asked of readable lists only.
+module _ {entryMost listMost : ℕ} {front : List ℕ} (limits : Limits entryMost listMost front) (pcmd a h : ℕ) (s : Settings)
+    (addressed-to : (a ≡ s .address) ⊎ (a ≡ broadcastNadr)) (hwpid-matches : hwpidMatches s h ≡ true)
+    (as-batch : (items : List Item) (st : State) → st .node .settings ≡ s
+    → execute (item osPnum pcmd h (front ++ listBytes items)) st ≡ batchRequest (listBytes items) st)
+    (performs : AllPerform h (EntryGroup entryMost)) where
+  -- a request with a batch that joining and filling make
+  pub request-done : (groups : List (List Step)) (st : State) (o : List ℕ) → BatchRule entryMost listMost h groups
+      → SoundState st → st .node .settings ≡ s → longestResponse ≤ length o → Done pcmd a s (requestBytes pcmd front a h groups) (concat groups) st o
+  request-done groups st o b k e room =
+      let list = listBytes (joinedItems h groups) in
+      let own : hwpidMatches (st .node .settings) h ≡ true = ap (λ (n : Settings). hwpidMatches n h) e ∙ hwpid-matches in
+      let to : (a ≡ st .node .settings .address) ⊎ (a ≡ broadcastNadr) = subst (λ (n : Settings). (a ≡ n .address) ⊎ (a ≡ broadcastNadr)) (sym e) addressed-to in
+      let executed = as-batch (joinedItems h groups) st e ∙ batch-performs h (EntryGroup entryMost) performs groups st (b .entries) k own in
+      let length-max = batch-fits limits (frame a osPnum pcmd h) groups b .1 in
+      record {
+        success =
+            subst (λ (n : Settings). Success pcmd a n (requestBytes pcmd front a h groups) st o) e
+            (call-succeeds pcmd a h (front ++ list) st o k length-max room to executed
+            (entries-perform h (EntryGroup entryMost) performs groups st (b .entries) k own .0));
+        after = call-leaves pcmd a h (front ++ list) st o k length-max room to executed;
+        sound = call-sound pcmd a h (front ++ list) st o k length-max room to executed;
+      }
+
+  requests-done : (bs : List (List (List Step))) (buffers : ℕ → List ℕ) (st : State)
+      → All (BatchRule entryMost listMost h) bs → SoundState st → st .node .settings ≡ s → ((k : ℕ) → longestResponse ≤ length (buffers k))
+      → AllSucceed pcmd a s buffers (map (requestBytes pcmd front a h) bs) st
+      × (afterCalls buffers (map (requestBytes pcmd front a h) bs) st ≡ machine (concat (concat bs)) st)
+  requests-done [] buffers st b k e room = (tt, refl)
+  requests-done (groups ∷ bs) buffers st b k e room =
+      let first = request-done groups st (buffers 0) (b .0) k e (room 0) in
+      let next = handleRequest (requestBytes pcmd front a h groups) st (buffers 0) .after in
+      let same : next .node .settings ≡ s = ap (λ (t : State). t .node .settings) (first .after) ∙ machine-stays (concat groups) st .settings ∙ e in
+      let rest = requests-done bs (λ j. buffers (suc j)) next (b .1) (first .sound) same (λ j. room (suc j)) in (
+        (first .success, rest .0),
+        rest .1
+            ∙ ap (machine (concat (concat bs))) (first .after)
+            ∙ sym (machine-append (concat groups) (concat (concat bs)) st)
+            ∙ sym (ap (λ (l : List Step). machine l st) (concat-append groups (concat bs))),
+      )
+
+  -- the requests of good steps
+  pub steps-done : (steps : List Step) (buffers : ℕ → List ℕ) (st : State)
+      → All Good steps → SoundState st → st .node .settings ≡ s → ((k : ℕ) → longestResponse ≤ length (buffers k))
+      → MatchesMachine pcmd a buffers (requestsOf entryMost listMost pcmd front a h steps) steps st
+  steps-done steps buffers st allValid k e room =
+      let bs = batchesOf entryMost listMost h steps in
+      let executed = requests-done bs buffers st (batches-rule limits h steps allValid) k e room in
+      let whole : concat (concat bs) ≡ steps = ap concat (filling-keeps entryMost listMost h steps) ∙ joining-keeps entryMost steps in
+      record {
+        calls = subst (λ (n : Settings). AllSucceed pcmd a n buffers (requestsOf entryMost listMost pcmd front a h steps) st) (sym e) (executed .0);
+        final = executed .1 ∙ ap (λ (l : List Step). machine l st) whole;
+      }

@@ -1,0 +1,28 @@
+-- `run::handle_output`: the length bytes and the requests are the two parts of the output.
+use borrow.Author.Needs.{needs}
+use mathlib.Core.Path.{ap, _∙_}
+use mathlib.Core.List.{List}
+use Prim.Native.Nat.{ℕ}
+use Rattle.handler.specs.Request.{state}
+use Rattle.acceptance.specs.Condition3.{afterCalls}
+use Rattle.acceptance.specs.RunScene.{zeroBuffer}
+use Rattle.acceptance.proofs.OutputRequests.{parts-covered, parts-requests}
+use Rattle.acceptance.proofs.run.handle_output.Statement.{statement}
+use Rattle.acceptance.proofs.run.handle_output.Tie as tie
+
+handle-all-requires : tie.Need-handle-all-requires
+handle-all-requires c κs =
+    let a = c .before .before .before .before .before .before .before .before .before .args in
+    parts-covered (a .output .now) (c .before .before .before .before .wide .ensures .0) (c .before .before .before .before .before .before .before .before .before .pre)
+
+returns : tie.Need-returns
+returns c =
+    let a = c .before .before .before .before .before .before .before .before .before .before .before .before .before .before .args in
+    c .before .before .before .before .handle-all .ensures
+    ∙ ap (λ (rs : List (List ℕ)). afterCalls (λ _. zeroBuffer) rs (state (a .node) (a .eeprom .now) (a .external .now))) (parts-requests (a .output .now) (c .before .before .before .before .before .before .before .before .before .wide .ensures .0))
+
+pub handle-output-spec : {M : Type 1} → statement M
+handle-output-spec =
+    tie.close (tie.spec (λ c. search needs) (λ c κs. search needs) (λ c. search needs) (λ c. search needs)
+    (λ c. search needs) (λ c. search needs) (λ c. search needs) (λ c. search needs) (λ c. search needs)
+    handle-all-requires (λ c. search needs) (λ c. search needs) returns)

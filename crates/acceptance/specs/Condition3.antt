@@ -1,0 +1,140 @@
+-- Condition 3 as one statement: `Condition3`, at the end of this file. It has three parts:
+--   refusals  compiling is refused exactly for the faults that document 01 names, each with its own number
+--   requests  a node that handles the requests of a scene in order refuses none of them, reports no error for any entry in
+--             them, and ends in the state that the step machine ends in
+--   buffer    the same holds for the requests that are read back from the output buffer of the compile call
+-- Proved in proofs/Scenes (`condition-3`). proofs/Instance gives a node and a book that meet all assumptions.
+--
+-- Sources: document 01, "Frames", "Scenes" and "Strength of the contracts". The statement is about what the contracts say that
+-- the calls compute: `compileFor` and `requestsIn` (scene/specs/Call), `handleRequest` and `execute` (handler/specs/Request);
+-- and about the rules of the book (`bookOk`, book/specs/Book), of a step (`stepFault`, book/specs/Step), of compiling
+-- (`sceneRequests`, scene/specs/Compile) and of the step machine (`machine`, book/specs/Machine).
+use Prim.Native.Nat.{ℕ, suc, _≤_, _<_}
+use mathlib.Core.Path.{_≡_}
+use mathlib.Core.Logic.{_⊎_, _↔_}
+use mathlib.Core.Bool.{true, false, cond}
+use mathlib.Core.List.{List, [], _∷_, _++_}
+use lib.ListN.{length}
+use lib.Dec.{eqb}
+use Rattle.dpa.specs.declared.settings.Settings.{Settings}
+use Rattle.dpa.specs.Lists.{overwriteFront, All}
+use Rattle.dpa.specs.Frame.{responseHeaderSize, longestResponse, broadcastNadr, anyHwpid, responseHeader}
+use Rattle.dpa.specs.Pnum.{osPnum}
+use Rattle.dpa.specs.Settings.{lastAddress}
+use Rattle.handler.specs.Request.{State, SoundState, frameItem, noReport, batchPcmd, execute, handleRequest}
+use Rattle.book.specs.declared.step.Step.{Step}
+use Rattle.book.specs.Book.{sceneCount, bookOk, sceneOf}
+use Rattle.book.specs.Step.{stepFault}
+use Rattle.book.specs.Machine.{machine}
+use Rattle.scene.specs.Compile.{sceneRequests}
+use Rattle.scene.specs.Call.{CompileResult, minOutput, requestsIn, compileFor}
+
+-- ---- refusals
+
+-- An address that a scene can be compiled for: a node's, 1 to 239, or the broadcast address, 255.
+abbrev pub Addressable : ℕ → Type 0
+Addressable a = ((1 ≤ a) × (a ≤ lastAddress)) ⊎ (a ≡ broadcastNadr)
+
+-- A step without a fault.
+abbrev pub NoFault : Step → Type 0
+NoFault s = stepFault s ≡ 0
+
+-- A scene without a fault: the book is well-formed and has the scene, and no step of the scene is bad.
+pub record SceneRule (book : List ℕ) (scene : ℕ) : Type 0 where
+  pub well-formed : bookOk book ≡ true
+  pub known : scene < sceneCount book
+  pub no-fault : All NoFault (sceneOf book scene)
+
+-- Step k, counted from 0, is the first bad step.
+pub record FirstBad (steps : List Step) (k : ℕ) : Type 0 where
+  pub earlier : List Step
+  pub bad : Step
+  pub later : List Step
+  pub order : steps ≡ earlier ++ (bad ∷ later)
+  pub number : length earlier ≡ k
+  pub no-fault : All NoFault earlier
+  pub fault : ¬ NoFault bad
+
+-- The result r of a compile call. Each refusal number is given exactly for its fault, if no fault with a smaller number applies;
+-- 0 is given exactly if there is no fault.
+pub record Refusals (book : List ℕ) (scene a : ℕ) (out : List ℕ) (r : CompileResult) : Type 0 where
+  -- 1: the address
+  pub address : (r .refusal ≡ 1) ↔ (¬ Addressable a)
+  -- 6: the bytes are no scene book
+  pub ill-formed : (r .refusal ≡ 6) ↔ (Addressable a × (bookOk book ≡ false))
+  -- 7: the book has no scene of that number
+  pub unknown : (r .refusal ≡ 7) ↔ (Addressable a × (bookOk book ≡ true) × (sceneCount book ≤ scene))
+  -- 8, with the number of the first bad step
+  pub bad-step : (k : ℕ) → ((r .refusal ≡ 8) × (r .step ≡ k))
+      ↔ (Addressable a × (bookOk book ≡ true) × (scene < sceneCount book) × FirstBad (sceneOf book scene) k)
+  -- 9: the output buffer is too small
+  pub no-room : (r .refusal ≡ 9) ↔ (Addressable a × SceneRule book scene × (length out < minOutput))
+  -- 0: compiled
+  pub none : (r .refusal ≡ 0) ↔ (Addressable a × SceneRule book scene × (minOutput ≤ length out))
+  -- the number of a step is given with refusal 8 only
+  pub other-step : ¬ (r .refusal ≡ 8) → r .step ≡ 0
+  -- a refused call has no output and leaves the buffer unchanged
+  pub unwritten : ¬ (r .refusal ≡ 0) → (r .length ≡ 0) × (r .buffer ≡ out)
+
+-- ---- the requests of a scene, handled by a node
+
+-- The assumptions: the node is sound and its memories have their sizes; lamps, timers and bytes are arbitrary. Call k has the
+-- response buffer `buffers k`, large enough and with any contents. The scene is compiled for the node's address or for
+-- broadcast, and for the node's profile or for any profile.
+pub record Given (st : State) (buffers : ℕ → List ℕ) (a h : ℕ) : Type 0 where
+  pub sound : SoundState st
+  pub room : (k : ℕ) → longestResponse ≤ length (buffers k)
+  pub address : (a ≡ st .node .settings .address) ⊎ (a ≡ broadcastNadr)
+  pub profile : (h ≡ st .node .settings .hwpid) ⊎ (h ≡ anyHwpid)
+
+-- A request to peripheral OS, sent to address a, that a node with settings s handles without any error.
+pub record Success (pcmd a : ℕ) (s : Settings) (request : List ℕ) (st : State) (buffer : List ℕ) : Type 0 where
+  -- the call is not refused
+  pub refusal : handleRequest request st buffer .refusal ≡ 0
+  -- neither the request nor any entry in it has an error, sent or not
+  pub error : execute (frameItem request) st .error ≡ 0
+  pub entries : All (λ (e : ℕ). e ≡ 0) (execute (frameItem request) st .entries)
+  -- the response is a header without PData, the later bytes of the buffer unchanged; a broadcast has no response
+  pub length : handleRequest request st buffer .length ≡ cond (eqb a broadcastNadr) 0 responseHeaderSize
+  pub response : handleRequest request st buffer .response ≡ cond (eqb a broadcastNadr) buffer (overwriteFront (responseHeader s osPnum pcmd 0) buffer)
+  -- no report, and the request is addressed to this node
+  pub report : handleRequest request st buffer .report ≡ noReport
+  pub addressed : handleRequest request st buffer .addressed ≡ true
+
+-- All requests succeed, in order: each call starts from the state that the one before left.
+abbrev pub AllSucceed : ℕ → ℕ → Settings → (ℕ → List ℕ) → List (List ℕ) → State → Type 0
+AllSucceed pcmd a s buffers [] st = Unit
+AllSucceed pcmd a s buffers (r ∷ rs) st =
+    Success pcmd a s r st (buffers 0)
+    × AllSucceed pcmd a s (λ k. buffers (suc k)) rs (handleRequest r st (buffers 0) .after)
+
+-- The state after these calls.
+abbrev pub afterCalls : (ℕ → List ℕ) → List (List ℕ) → State → State
+afterCalls buffers [] st = st
+afterCalls buffers (r ∷ rs) st = afterCalls (λ k. buffers (suc k)) rs (handleRequest r st (buffers 0) .after)
+
+-- Every call succeeds, and the final state is the one that the step machine reaches from the same start.
+pub record MatchesMachine (pcmd a : ℕ) (buffers : ℕ → List ℕ) (requests : List (List ℕ)) (steps : List Step) (st : State) : Type 0 where
+  pub calls : AllSucceed pcmd a (st .node .settings) buffers requests st
+  pub final : afterCalls buffers requests st ≡ machine steps st
+
+-- For the requests that the compiling rule gives for a scene without a fault.
+abbrev pub SceneTheorem : Type 0
+SceneTheorem =
+    (st : State) (buffers : ℕ → List ℕ) (book : List ℕ) (scene a h : ℕ)
+    → Given st buffers a h → SceneRule book scene
+    → MatchesMachine batchPcmd a buffers (sceneRequests a h (sceneOf book scene)) (sceneOf book scene) st
+
+-- For the requests read back from the output buffer, after any compile call that is not refused.
+abbrev pub BufferTheorem : Type 0
+BufferTheorem =
+    (st : State) (buffers : ℕ → List ℕ) (book : List ℕ) (scene a h : ℕ) (out : List ℕ)
+    → Given st buffers a h → compileFor book scene a h out .refusal ≡ 0
+    → MatchesMachine batchPcmd a buffers (requestsIn (compileFor book scene a h out .buffer)) (sceneOf book scene) st
+
+-- ---- condition 3
+
+pub record Condition3 : Type 0 where
+  pub refusals : (book : List ℕ) (scene a h : ℕ) (out : List ℕ) → Refusals book scene a out (compileFor book scene a h out)
+  pub requests : SceneTheorem
+  pub buffer : BufferTheorem

@@ -1,0 +1,43 @@
+-- The size of an entry's PData, for any limit, and the first entry of a list of steps.
+use mathlib.Core.Bool.{cond, _&&_}
+use mathlib.Core.List.{List, _∷_}
+use mathlib.Core.Path.{_≡_}
+use Prim.Native.Nat.{ℕ, _+_, _≤_}
+use lib.Dec.{leb, eqb}
+use lib.ListN.{length, take, drop}
+use Rattle.dpa.specs.Frame.{pdataMax}
+use Rattle.book.specs.declared.step.Step.{Step}
+use Rattle.book.specs.Step.{isLamp}
+use Rattle.book.specs.Entry.{groupData}
+use Rattle.book.specs.Join.{follows, entriesOf}
+
+-- the bytes of a step in a lamp entry, and in an entry of kind k
+unfoldable pub powerSize : Step → ℕ
+powerSize s = cond (eqb (s .time) 0) 1 2
+
+unfoldable pub stepSize : ℕ → Step → ℕ
+stepSize k s = cond (isLamp k) (powerSize s) 1
+
+-- the PData size of an entry of one step, and the largest such size
+unfoldable pub firstSize : Step → ℕ
+firstSize s = stepSize (s .kind) s + cond (isLamp (s .kind)) 4 1
+
+abbrev pub oneStepMax : ℕ
+oneStepMax = 6
+
+-- the PData size of an entry of kind k and `size` bytes after x joins it, or 0 if x does not join; p is its last step
+unfoldable pub joinedSize : ℕ → Step → Step → ℕ → ℕ → ℕ
+joinedSize entryMost p x k size = cond (follows p x && leb (stepSize k x + size) entryMost) (stepSize k x + size) 0
+
+-- a usable limit: any single step fits into an entry, and the entry's PData fits into a frame
+pub record EntryLimit (entryMost : ℕ) : Type 0 where
+  pub step : oneStepMax ≤ entryMost
+  pub frame : entryMost ≤ pdataMax
+
+-- the first entry has k steps and `size` bytes of PData
+pub record FirstEntry (entryMost : ℕ) (ss : List Step) (k size : ℕ) : Type 0 where
+  pub some : 1 ≤ k
+  pub within : k ≤ length ss
+  pub small : size ≤ entryMost
+  pub fits : size ≡ length (groupData (take k ss))
+  pub first : entriesOf entryMost ss ≡ take k ss ∷ entriesOf entryMost (drop k ss)

@@ -1,0 +1,133 @@
+-- The call: refusals, the address of the frame, and the response.
+use mathlib.Core.Path.{_≡_, ap, sym, _∙_}
+use mathlib.Core.List.{List, _++_}
+use mathlib.Core.Bool.{true, _&&_, _||_}
+use Prim.Native.Nat.{ℕ, _+_, _-_, _≤_}
+use native.Mathlib.Omega.{arith}
+use lib.Dec.{ltb, eqb}
+use lib.ListN.{length, take, drop}
+use borrow.Rule.Slice.PartMut.{midOf, putMid}
+use borrow.Author.Tests.{eq-eqb, ne-eqb, eqb-true, ltb-false}
+use Rattle.dpa.specs.declared.frame.Frame.{Frame}
+use Rattle.dpa.specs.Lists.{overwriteFront}
+use Rattle.dpa.specs.Frame.{headerSize, responseHeaderSize, longestResponse, broadcastNadr, headerOf, frameFits, responseHeader}
+use Rattle.dpa.proofs.Bool.{by-cond, then-taken, else-taken}
+use Rattle.dpa.proofs.Headers.{fits-sizes}
+use Rattle.dpa.proofs.Lists.{slice-to-end, tail-borrowed, tail-returned, overwrite-append}
+use Rattle.memory.specs.declared.block.Memory.the-variants.{Eeprom, External}
+use Rattle.memory.specs.Block.{sizeOf}
+use Rattle.batch.specs.Batch.{Item, item}
+use Rattle.node.specs.declared.record.Node.{Node}
+use Rattle.node.specs.declared.record.ReadOnly.{ReadOnly}
+use Rattle.handler.specs.declared.reply.RequestReply.{RequestReply}
+use Rattle.handler.specs.declared.answer.RequestAnswer.{RequestAnswer}
+use Rattle.node.specs.Node.{nodeOk}
+use Rattle.handler.specs.Request.{State, state, SoundState, Outcome, frameItem, execute, CallResult, unhandledResult, broadcastResult, unicastResult, handleFrame, requestRefusal, callRefusal, handleRequest}
+use Rattle.handler.specs.Seen.{SeenOutcome, outcomeSeen, outcomeInBuffer, callResult, callResultFromParts}
+
+-- the request that the code reads from a frame
+pub frame-item-read : (f : List ℕ) {h : Frame} → h ≡ headerOf f → item (h .pnum) (h .pcmd) (h .hwpid) (take (length f - headerSize) (drop headerSize f)) ≡ frameItem f
+frame-item-read f e =
+    ap (λ (h : Frame). item (h .pnum) (h .pcmd) (h .hwpid) (take (length f - headerSize) (drop headerSize f))) e
+    ∙ ap (item (headerOf f .pnum) (headerOf f .pcmd) (headerOf f .hwpid)) (slice-to-end headerSize f)
+
+module _ (f : List ℕ) (st : State) (o : List ℕ) where
+  -- a broadcast
+  pub frame-broadcast : headerOf f .nadr ≡ broadcastNadr → handleFrame f st o ≡ broadcastResult (execute (frameItem f) st) o
+  unfolding handleFrame
+  frame-broadcast e = rw (eq-eqb (headerOf f .nadr) broadcastNadr e)
+
+  module _ (n : headerOf f .nadr ≡ broadcastNadr → ⊥) where
+    -- a frame for this node
+    pub frame-unicast : headerOf f .nadr ≡ st .node .settings .address
+        → handleFrame f st o ≡ unicastResult (st .node .settings) (frameItem f) (execute (frameItem f) st) o
+    unfolding handleFrame
+    frame-unicast e = rw (ne-eqb (headerOf f .nadr) broadcastNadr n, eq-eqb (headerOf f .nadr) (st .node .settings .address) e)
+
+    -- a frame for another node
+    pub frame-other : (headerOf f .nadr ≡ st .node .settings .address → ⊥) → handleFrame f st o ≡ unhandledResult st 0 o
+    unfolding handleFrame
+    frame-other e = rw (ne-eqb (headerOf f .nadr) broadcastNadr n, ne-eqb (headerOf f .nadr) (st .node .settings .address) e)
+
+  -- a refused call changes nothing
+  pub call-refused : {k : ℕ} → k ≡ callRefusal f st o → (k ≡ 0 → ⊥) → unhandledResult st k o ≡ handleRequest f st o
+  unfolding handleRequest
+  call-refused e n =
+      rw (ne-eqb (callRefusal f st o) 0 (λ z. n (e ∙ z))) (ap (λ (r : ℕ). unhandledResult st r o) e)
+
+  -- a call that is not refused handles the frame
+  pub call-accepted : callRefusal f st o ≡ 0 → handleRequest f st o ≡ handleFrame f st o
+  unfolding handleRequest
+  call-accepted e = rw (eq-eqb (callRefusal f st o) 0 e)
+
+-- A property of results holds for every call if it holds where nothing is done, for a broadcast and for a response.
+pub call-cases : (P : CallResult → Type 0) (f : List ℕ) (st : State) (o : List ℕ) → ((k : ℕ) → P (unhandledResult st k o))
+    → (callRefusal f st o ≡ 0 → P (broadcastResult (execute (frameItem f) st) o))
+    → (callRefusal f st o ≡ 0 → P (unicastResult (st .node .settings) (frameItem f) (execute (frameItem f) st) o))
+    → P (handleRequest f st o)
+unfolding handleRequest handleFrame
+call-cases P f st o nothing all own =
+    by-cond P (eqb (callRefusal f st o) 0) _ _
+    (λ z. by-cond P (eqb (headerOf f .nadr) broadcastNadr) _ _ (λ _. all (eqb-true _ _ z))
+    (λ _. by-cond P (eqb (headerOf f .nadr) (st .node .settings .address)) _ _ (λ _. own (eqb-true _ _ z)) (λ _. nothing 0)))
+    (λ _. nothing (callRefusal f st o))
+
+-- a call reports "addressed" exactly if it is not refused and NADR is the broadcast's or the node's
+pub addressed-exact : (f : List ℕ) (st : State) (o : List ℕ)
+    → handleRequest f st o .addressed
+    ≡ (eqb (handleRequest f st o .refusal) 0 && (eqb (headerOf f .nadr) broadcastNadr || eqb (headerOf f .nadr) (st .node .settings .address)))
+unfolding handleRequest handleFrame
+addressed-exact f st o =
+    let all = eqb (headerOf f .nadr) broadcastNadr in
+    let own = eqb (headerOf f .nadr) (st .node .settings .address) in
+    let Exact : CallResult → Type 0 = λ a. a .addressed ≡ (eqb (a .refusal) 0 && (all || own)) in
+    by-cond Exact (eqb (callRefusal f st o) 0) _ _
+    (λ _. by-cond Exact all _ _ (λ e. rw e) (λ e. by-cond Exact own _ _ (λ q. rw (e, q)) (λ q. rw (e, q))))
+    (λ e. rw e)
+
+module _ (n : Node) (f e x r : ℕ) (z : requestRefusal n f e x r ≡ 0) where
+  -- what a call without a refusal was given
+  pub not-refused-facts : (nodeOk n ≡ true) × (headerSize ≤ f) × (longestResponse ≤ r) × (e ≡ sizeOf Eeprom) × (x ≡ sizeOf External)
+  unfolding requestRefusal
+  not-refused-facts =
+      let a = then-taken (nodeOk n) _ 1 0 (λ q. omega arith) z in
+      let b = then-taken (frameFits f) _ 2 0 (λ q. omega arith) (a .1) in
+      let c = else-taken (ltb r longestResponse) 3 _ 0 (λ q. omega arith) (b .1) in
+      let d = then-taken (eqb e (sizeOf Eeprom)) _ 4 0 (λ q. omega arith) (c .1) in
+      let g = then-taken (eqb x (sizeOf External)) 0 4 0 (λ q. omega arith) (d .1) in
+      (a .0, fits-sizes f (b .0) .0, ltb-false _ _ (c .0), eqb-true _ _ (d .0), eqb-true _ _ (g .0))
+
+-- a call without a refusal was given a sound state
+pub accepted-sound : (n : Node) (e x : List ℕ) (f r : ℕ) → requestRefusal n f (length e) (length x) r ≡ 0 → SoundState (state n e x)
+accepted-sound n e x f r z =
+    let k = not-refused-facts n f (length e) (length x) r z in
+    record { node-ok = k .0; eeprom-size = k .3; external-size = k .4 }
+
+-- ---- as the code shows it
+
+-- equal answers show equal results
+pub call-result-as : {r t : RequestAnswer} {e x o : List ℕ} → r ≡ t → callResult r e x o ≡ callResult t e x o
+call-result-as {r} {t} {e} {x} {o} q = ap (λ (u : RequestAnswer). callResult u e x o) q
+
+-- the response: the data is written to the buffer after the header, then the header in front
+pub unicast-response : (o m : List ℕ) → responseHeaderSize ≤ length o → (k : ReadOnly) (i : Item) (a : Outcome) {c : RequestReply} {r e x w : List ℕ}
+    → outcomeSeen k c r e x m ≡ outcomeInBuffer a (midOf responseHeaderSize (length o - responseHeaderSize) o)
+    → w ≡ responseHeader (k .settings) (i .pnum) (i .pcmd) (c .error) ++ drop responseHeaderSize (putMid responseHeaderSize (length o - responseHeaderSize) o m)
+    → callResultFromParts k (record { length = responseHeaderSize + c .length; report = c .report; lamps = c .lamps }) r e x w ≡ unicastResult (k .settings) i a o
+unicast-response o m h k i a {c} {r} {e} {x} {w} q u =
+    ap (callResultFromParts k (record { length = responseHeaderSize + c .length; report = c .report; lamps = c .lamps }) r e x)
+    (u ∙ ap (λ (l : List ℕ). responseHeader (k .settings) (i .pnum) (i .pcmd) (c .error) ++ l) (tail-returned responseHeaderSize o m h))
+    ∙ ap headed q
+    ∙ ap answered (tail-borrowed responseHeaderSize o)
+    ∙ ap (λ (l : List ℕ). record { after = a .after; refusal = 0; length = responseHeaderSize + length (a .bytes); report = a .report; addressed = true; response = l })
+    (sym (overwrite-append (responseHeader (k .settings) (i .pnum) (i .pcmd) (a .error)) (a .bytes) o))
+  where
+    -- the header in front of what was seen
+    headed : SeenOutcome → CallResult
+    headed l =
+        record { after = l .after; refusal = 0; length = responseHeaderSize + l .length; report = l .report; addressed = true; response = responseHeader (k .settings) (i .pnum) (i .pcmd) (l .error) ++ l .out }
+
+    -- the header in front of the data in a buffer
+    answered : List ℕ → CallResult
+    answered l =
+        record { after = a .after; refusal = 0; length = responseHeaderSize + length (a .bytes); report = a .report; addressed = true; response = responseHeader (k .settings) (i .pnum) (i .pcmd) (a .error) ++ overwriteFront (a .bytes) l }

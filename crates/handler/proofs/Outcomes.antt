@@ -1,0 +1,109 @@
+-- Executing a request, by the tests on the way: batch, OS request, HWPID and PNUM.
+use mathlib.Core.Path.{_≡_, ap, sym}
+use mathlib.Core.List.{List}
+use mathlib.Core.Bool.{Bool, true, false}
+use Prim.Native.Nat.{ℕ}
+use lib.Dec.{eqb}
+use lib.ListN.{length}
+use borrow.Author.Tests.{eq-eqb, ne-eqb}
+use Rattle.dpa.specs.Pnum.{osPnum}
+use Rattle.dpa.specs.Reply.{Reply, SeenReply, replySeen, replyInBuffer, refused}
+use Rattle.dpa.proofs.Bool.{by-cond}
+use Rattle.checksum.specs.Check.{codeCheck}
+use Rattle.batch.specs.Batch.{Item, reading, listError}
+use Rattle.batch.specs.declared.list.ListCheck.the-variants.{Sound, Broken}
+use Rattle.node.specs.declared.record.ReadOnly.{ReadOnly}
+use Rattle.handler.specs.declared.reply.RequestReply.{RequestReply}
+use Rattle.handler.specs.Request.{State, peripheralRequest, hwpidMatches, loadReport, noReport, Outcome, replyOnly, batchOutcome, batchRequest, codeCheckRequest, batchPcmd, codeCheckPcmd, osRequest, execute}
+use Rattle.handler.specs.Seen.{outcomeSeen, outcomeInBuffer}
+
+module _ (d : List ℕ) (st : State) where
+  -- a batch without PData
+  pub batch-empty : length d ≡ 0 → batchRequest d st ≡ replyOnly (refused st 5)
+  unfolding batchRequest
+  batch-empty e = rw (eq-eqb (length d) 0 e)
+
+  -- a list that cannot be read runs nothing
+  pub batch-broken : (length d ≡ 0 → ⊥) → {r a : ℕ} → reading d .check ≡ Broken r a → {k : ℕ} → k ≡ listError (reading d .check) → batchRequest d st ≡ replyOnly (refused st k)
+  unfolding batchRequest
+  batch-broken n e q = rw (q, ne-eqb (length d) 0 n, e)
+
+  -- a sound list runs its entries
+  pub batch-runs : (length d ≡ 0 → ⊥) → reading d .check ≡ Sound → batchRequest d st ≡ batchOutcome (reading d .items) st
+  unfolding batchRequest
+  batch-runs n e = rw (ne-eqb (length d) 0 n, e)
+
+module _ (pcmd : ℕ) (d : List ℕ) (st : State) where
+  -- the PCMD of a batch
+  pub os-batch : pcmd ≡ batchPcmd → osRequest pcmd d st ≡ batchRequest d st
+  unfolding osRequest
+  os-batch e = ap (λ (c : ℕ). osRequest c d st) e
+
+  -- the PCMD of a code check
+  pub os-check : pcmd ≡ codeCheckPcmd → osRequest pcmd d st ≡ codeCheckRequest d st
+  unfolding osRequest
+  os-check e = ap (λ (c : ℕ). osRequest c d st) e
+
+  -- any other PCMD
+  pub os-unknown : (pcmd ≡ batchPcmd → ⊥) → (pcmd ≡ codeCheckPcmd → ⊥) → osRequest pcmd d st ≡ replyOnly (refused st 2)
+  unfolding osRequest
+  os-unknown a b = simp (ne-eqb pcmd batchPcmd a, ne-eqb pcmd codeCheckPcmd b)
+
+module _ (i : Item) (st : State) where
+  -- another HWPID is ErrN 7
+  pub execute-mismatch : hwpidMatches (st .node .settings) (i .hwpid) ≡ false → execute i st ≡ replyOnly (refused st 7)
+  unfolding execute
+  execute-mismatch e = rw e
+
+  module _ (e : hwpidMatches (st .node .settings) (i .hwpid) ≡ true) where
+    -- the PNUM of the OS
+    pub execute-os : i .pnum ≡ osPnum → execute i st ≡ osRequest (i .pcmd) (i .pdata) st
+    unfolding execute
+    execute-os p = rw (e, eq-eqb (i .pnum) osPnum p)
+
+    -- any other PNUM
+    pub execute-peripheral : (i .pnum ≡ osPnum → ⊥) → execute i st ≡ replyOnly (peripheralRequest (i .pnum) (i .pcmd) (i .pdata) st)
+    unfolding execute
+    execute-peripheral p = rw (e, ne-eqb (i .pnum) 2 p)
+
+-- A property of outcomes holds for every request if it holds for each kind of request and for every error.
+module _ (P : Outcome → Type 0) (st : State) (error : (e : ℕ) → P (replyOnly (refused st e))) where
+  -- OS requests: a batch that runs, the code check, an error
+  pub os-cases : (pcmd : ℕ) (d : List ℕ) → P (batchOutcome (reading d .items) st) → P (codeCheckRequest d st) → P (osRequest pcmd d st)
+  unfolding osRequest batchRequest
+  os-cases pcmd d runs check =
+      by-cond P (eqb pcmd batchPcmd) _ _
+      (λ _. by-cond P (eqb (length d) 0) _ _ (λ _. error 5)
+      (λ _. by-cond P (eqb (listError (reading d .check)) 0) _ _ (λ _. runs) (λ _. error (listError (reading d .check)))))
+      (λ _. by-cond P (eqb pcmd codeCheckPcmd) _ _ (λ _. check) (λ _. error 2))
+
+  -- all requests: an OS request, a request to a peripheral, an error
+  pub execute-cases : (i : Item) → P (osRequest (i .pcmd) (i .pdata) st) → P (replyOnly (peripheralRequest (i .pnum) (i .pcmd) (i .pdata) st)) → P (execute i st)
+  unfolding execute
+  execute-cases i os peripheral =
+      by-cond P (hwpidMatches (st .node .settings) (i .hwpid)) _ _
+      (λ _. by-cond P (eqb (i .pnum) osPnum) _ _ (λ _. os) (λ _. peripheral))
+      (λ _. error 7)
+
+-- ---- as the code shows it
+
+-- equal replies show equal outcomes
+pub outcome-as : {k : ReadOnly} {c d : RequestReply} {r e x o : List ℕ} → c ≡ d → outcomeSeen k c r e x o ≡ outcomeSeen k d r e x o
+outcome-as {k} {c} {d} {r} {e} {x} {o} q = ap (λ (t : RequestReply). outcomeSeen k t r e x o) q
+
+-- the reply of a peripheral shows its outcome
+pub outcome-reply-only : {st : State} {e n : ℕ} {out : List ℕ} (a : Reply State) (o : List ℕ) → replySeen st e n out ≡ replyInBuffer a o
+    → record { after = st; error = e; length = n; report = noReport; out = out } ≡ outcomeInBuffer (replyOnly a) o
+outcome-reply-only a o q =
+    ap (λ (l : SeenReply State). record { after = l .after; error = l .error; length = l .length; report = noReport; out = l .out }) q
+
+-- equal outcomes are equal in the buffer
+pub in-buffer : (o : List ℕ) {a b : Outcome} → a ≡ b → outcomeInBuffer b o ≡ outcomeInBuffer a o
+in-buffer o q = ap (λ (x : Outcome). outcomeInBuffer x o) (sym q)
+
+-- the reply of the code check shows its outcome
+pub outcome-check : (st : State) (d : List ℕ) {b : Bool} {e n : ℕ} {out : List ℕ} (o : List ℕ) → replySeen b e n out ≡ replyInBuffer (codeCheck (st .external) d) o
+    → record { after = st; error = e; length = n; report = loadReport b; out = out } ≡ outcomeInBuffer (codeCheckRequest d st) o
+unfolding codeCheckRequest
+outcome-check st d o q =
+    ap (λ (l : SeenReply Bool). record { after = st; error = l .error; length = l .length; report = loadReport (l .after); out = l .out }) q

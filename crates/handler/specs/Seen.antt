@@ -1,0 +1,58 @@
+-- How the code's results and buffers show the outcome of a request and the result of a call.
+use Prim.Native.Nat.{ℕ}
+use mathlib.Core.List.{List}
+use mathlib.Core.Bool.{Bool, true}
+use lib.ListN.{length}
+use Rattle.dpa.specs.Lists.{overwriteFront}
+use Rattle.lights.specs.declared.lamp.Lamp.{Lamp}
+use Rattle.node.specs.declared.record.Node.{Node}
+use Rattle.node.specs.declared.record.ReadOnly.{ReadOnly}
+use Rattle.node.specs.Node.{nodeFromParts}
+use Rattle.handler.specs.declared.reply.Report.{Report}
+use Rattle.handler.specs.declared.reply.RequestReply.{RequestReply}
+use Rattle.handler.specs.declared.answer.Handled.{Handled}
+use Rattle.handler.specs.declared.answer.RequestAnswer.{RequestAnswer}
+use Rattle.handler.specs.Request.{State, state, Outcome, CallResult}
+
+-- ---- inside the handler: the node is split into parts
+
+-- the state, from the read-only part of the node, lamps, RAM, EEPROM and external memory
+abbrev pub stateFromParts : ReadOnly → List Lamp → List ℕ → List ℕ → List ℕ → State
+stateFromParts k ls r e x = state (nodeFromParts k ls r) e x
+
+-- what executing a request leaves: the state, ErrN, the length of the data, the report, and the buffer for the data
+pub record SeenOutcome : Type 0 where
+  pub after : State
+  pub error : ℕ
+  pub length : ℕ
+  pub report : Report
+  pub out : List ℕ
+
+-- as the code has it: a reply, the memories and the buffer
+abbrev pub outcomeSeen : ReadOnly → RequestReply → List ℕ → List ℕ → List ℕ → List ℕ → SeenOutcome
+outcomeSeen k c r e x o =
+    record { after = stateFromParts k (c .lamps) r e x; error = c .error; length = c .length; report = c .report; out = o }
+
+-- as the definitions have it: an outcome whose data was written to the front of the buffer
+abbrev pub outcomeInBuffer : Outcome → List ℕ → SeenOutcome
+outcomeInBuffer a o =
+    record { after = a .after; error = a .error; length = length (a .bytes); report = a .report; out = overwriteFront (a .bytes) o }
+
+-- the result of a call that was not refused, from its parts
+abbrev pub callResultFromParts : ReadOnly → Handled → List ℕ → List ℕ → List ℕ → List ℕ → CallResult
+callResultFromParts k t r e x o =
+    record { after = stateFromParts k (t .lamps) r e x; refusal = 0; length = t .length; report = t .report; addressed = true; response = o }
+
+-- ---- at the public call
+
+-- the struct that the call returns; it has the fields of the report among its own
+abbrev pub requestAnswer : ℕ → ℕ → Report → Bool → Node → RequestAnswer
+requestAnswer refusal length m b n = record { refusal = refusal; length = length; load = m .load; addressed = b; node = n }
+
+abbrev pub answerReport : RequestAnswer → Report
+answerReport r = record { load = r .load }
+
+-- the result of a call, from the struct that it returns, both memories and the response buffer
+abbrev pub callResult : RequestAnswer → List ℕ → List ℕ → List ℕ → CallResult
+callResult r e x o =
+    record { after = state (r .node) e x; refusal = r .refusal; length = r .length; report = answerReport r; addressed = r .addressed; response = o }

@@ -1,0 +1,60 @@
+// The reply to a request, made from the reply of the part of the node that executed it.
+use dpa::reply::Reply;
+use lights::lamp::LAMPS;
+use lights::lamp::Lamp;
+use lights::request::LampsReply;
+ghost use mathlib.Core.Path.{_≡_};
+ghost use Rattle.handler.specs.Request.{noReport};
+
+// What a request reports to the caller beside the response: the load mark.
+pub struct Report {
+    pub load: bool,
+}
+
+impl Report {
+    pub const NONE: Report = Report { load: false };
+}
+
+// ErrN, the report, the length of the response data, and the lamps after the request.
+pub struct RequestReply {
+    pub error: u8,
+    pub report: Report,
+    pub length: usize,
+    pub lamps: [Lamp; LAMPS],
+}
+
+// A reply without data.
+pub fn without_data(lamps: [Lamp; LAMPS], error: u8) -> RequestReply
+    ensures { λ r. ⌜ r ≡ record { error = error; report = noReport; length = 0; lamps = lamps } ⌝ }
+{
+    RequestReply {
+        error,
+        report: Report::NONE,
+        length: 0,
+        lamps,
+    }
+}
+
+// The reply of a memory; the lamps stay.
+pub fn memory_reply(lamps: [Lamp; LAMPS], reply: Reply) -> LampsReply
+    ensures { λ r. ⌜ r ≡ record { error = reply .error; length = reply .length; lamps = lamps } ⌝ }
+{
+    LampsReply {
+        error: reply.error,
+        length: reply.length,
+        lamps,
+    }
+}
+
+// The reply of a peripheral, which has nothing to report.
+pub fn peripheral_reply(reply: LampsReply) -> RequestReply
+    ensures { λ r. ⌜ r ≡ record { error = reply .error; report = noReport; length = reply .length; lamps = reply .lamps } ⌝ }
+{
+    let lamps = reply.lamps;
+    RequestReply {
+        error: reply.error,
+        report: Report::NONE,
+        length: reply.length,
+        lamps,
+    }
+}

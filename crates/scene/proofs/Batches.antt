@@ -1,0 +1,52 @@
+-- The batches of a scene: each is a list of entries within the size limit.
+use mathlib.Core.Bool.{true}
+use mathlib.Core.List.{List, [], _∷_, _++_}
+use mathlib.Core.Path.{_≡_}
+use Prim.Native.Nat.{ℕ, _≤_}
+use native.Mathlib.Omega.{arith}
+use lib.ListN.{length, length-append}
+use borrow.Author.Tests.{leb-true}
+use Rattle.batch.specs.Batch.{entriesBytes, entryBytes}
+use Rattle.dpa.specs.Lists.{All}
+use Rattle.book.specs.declared.step.Step.{Step}
+use Rattle.book.specs.Join.{entriesOf, entryLimit}
+use Rattle.book.specs.EntrySize.{EntryLimit}
+use Rattle.book.specs.Group.{concat}
+use Rattle.book.proofs.Groups.{all-group, concat-group}
+use Rattle.dpa.proofs.All.{all-snoc}
+use Rattle.book.proofs.Faults.{Good}
+use Rattle.book.proofs.EntryGroups.{EntryGroup, entry-groups}
+use Rattle.scene.specs.Compile.{Limits, fitsBatch, listOf, batchesOf, listLimit}
+
+-- groups that joining makes, in a list of at most `listMost` bytes
+pub record BatchRule (entryMost listMost h : ℕ) (rs : List (List Step)) : Type 0 where
+  pub entries : All (EntryGroup entryMost) rs
+  pub size : length (listOf h rs) ≤ listMost
+
+module _ {entryMost listMost : ℕ} {front : List ℕ} (l : Limits entryMost listMost front) (h : ℕ) where
+  batch-one : (r : List Step) → EntryGroup entryMost r → BatchRule entryMost listMost h (r ∷ [])
+  unfolding entriesBytes entryBytes
+  batch-one [] r = absurd r
+  batch-one (s ∷ ss) r = record { entries = (r, tt); size = simp length-append (omega (arith, r .2, l .list)) }
+
+  batch-more : (rs : List (List Step)) (r : List Step) → BatchRule entryMost listMost h rs → EntryGroup entryMost r → fitsBatch listMost h rs r ≡ true
+      → BatchRule entryMost listMost h (rs ++ (r ∷ []))
+  batch-more rs r b q f = record { entries = all-snoc (EntryGroup entryMost) rs r (b .entries) q; size = leb-true _ _ f }
+
+  -- each batch of good steps keeps this rule
+  pub batches-rule : (ss : List Step) → All Good ss → All (BatchRule entryMost listMost h) (batchesOf entryMost listMost h ss)
+  batches-rule ss a =
+      all-group (fitsBatch listMost h) (BatchRule entryMost listMost h) (EntryGroup entryMost) batch-one batch-more (entriesOf entryMost ss)
+      (entry-groups entryMost (l .entry) ss a)
+
+-- the limit of an entry alone
+pub entry-limit : {entryMost listMost : ℕ} {front : List ℕ} → Limits entryMost listMost front → EntryLimit entryMost
+entry-limit l = record { step = l .entry; frame = omega (arith, l .list, l .frame) }
+
+-- the limits of a batch are possible limits
+pub batch-limits : Limits entryLimit listLimit []
+batch-limits = record { entry = omega arith; list = omega arith; frame = omega arith }
+
+-- filling loses and reorders no entry
+pub filling-keeps : (entryMost listMost h : ℕ) (ss : List Step) → concat (batchesOf entryMost listMost h ss) ≡ entriesOf entryMost ss
+filling-keeps entryMost listMost h ss = concat-group (fitsBatch listMost h) (entriesOf entryMost ss)

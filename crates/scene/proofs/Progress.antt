@@ -1,0 +1,167 @@
+-- Progress of the two loops that write an output: what is written so far, and what remains.
+use mathlib.Core.List.{List, [], _∷_, _++_, append-assoc}
+use mathlib.Core.Path.{_≡_, refl, sym, ap, _∙_}
+use Prim.Native.Nat.{ℕ, suc, _+_, _≤_}
+use native.Mathlib.Omega.{arith}
+use lib.ListN.{length, take, drop, set, length-append, length-drop, drop-of-length-le}
+use lib.Seq.{sets, length-sets, set-comm}
+use Rattle.batch.specs.Batch.{entryBytes}
+use Rattle.batch.proofs.RoundTrip.{entry-length}
+use Rattle.dpa.specs.declared.frame.Frame.{Frame}
+use Rattle.book.specs.declared.step.Step.{Step}
+use Rattle.book.specs.Book.{stepsMax, stepsIn}
+use Rattle.book.specs.Group.{concat}
+use Rattle.book.specs.Entry.{joinedItem}
+use Rattle.book.specs.Join.{entriesOf}
+use Rattle.book.specs.EntrySize.{FirstEntry}
+use Rattle.book.specs.Writing.{AllStepsGood}
+use Rattle.book.proofs.Writing.{sets-append, two-writes}
+use Rattle.book.proofs.Positions.{steps-length}
+use Rattle.book.proofs.GoodSteps.{good-steps}
+use Rattle.scene.specs.declared.fill.SizeLimits.{SizeLimits}
+use Rattle.scene.specs.Compile.{Limits}
+use Rattle.scene.specs.Call.{lengths, output, minOutput}
+use Rattle.scene.specs.Fill.{requestsWith, nextSize, separatorBytes, separatorLength}
+use Rattle.scene.proofs.Remaining.{remainingBytes, remainingLengths, next-small, bytes-next, lengths-next}
+use Rattle.scene.proofs.Outputs.{lengths-length, output-length, output-fits}
+
+-- writing `all` into `old` at `at` amounts to writing `rest` into `out` at w
+pub record Remaining (old : List ℕ) (at : ℕ) (all out : List ℕ) (w : ℕ) (rest : List ℕ) : Type 0 where
+  pub end : w + length rest ≡ at + length all
+  pub bytes : sets old at all ≡ sets out w rest
+  pub same-size : length out ≡ length old
+
+-- before anything is written, all remains
+pub remaining-start : (old : List ℕ) (at : ℕ) (all : List ℕ) → Remaining old at all old at all
+remaining-start old at all = record { end = refl; bytes = refl; same-size = refl }
+
+module _ (old : List ℕ) (at : ℕ) (all out : List ℕ) (w : ℕ) (rest : List ℕ) (l : Remaining old at all out w rest) where
+  -- part of the rest is written
+  pub remaining-more : (xs ys out′ : List ℕ) (w′ : ℕ) → rest ≡ xs ++ ys → out′ ≡ sets out w xs → w′ ≡ w + length xs → Remaining old at all out′ w′ ys
+  remaining-more xs ys out′ w′ er eo ew =
+      record {
+        end = omega (arith, l .end, ap length er, length-append xs ys, ew);
+        bytes = l .bytes ∙ rw (er, eo, ew) (sets-append out w xs ys);
+        same-size = ap length eo ∙ length-sets out w xs ∙ l .same-size;
+      }
+
+  -- there is room for each part of the rest
+  pub remaining-room : (xs ys : List ℕ) → rest ≡ xs ++ ys → at + length all ≤ length old → w + length xs ≤ length out
+  remaining-room xs ys er c = omega (arith, l .end, l .same-size, ap length er, length-append xs ys)
+
+  -- the rest is written
+  pub remaining-end : (out′ : List ℕ) (w′ : ℕ) → out′ ≡ sets out w rest → w′ ≡ w + length rest → (w′ ≡ at + length all) × (out′ ≡ sets old at all)
+  remaining-end out′ w′ eo ew = (omega (arith, l .end), eo ∙ sym (l .bytes))
+
+-- ---- the loops over the entries of a scene: a list of `size` bytes is open, and step `step` is next. `remaining` gives the bytes
+-- that remain after an open list of a size, when the entries of these groups remain.
+pub record Progress (entryMost listMost : ℕ) (remaining : ℕ → List (List Step) → List ℕ) (ss : List Step) (old : List ℕ) (at step size : ℕ)
+    (out : List ℕ) (w : ℕ) : Type 0 where
+  pub within : step ≤ length ss
+  pub small : size ≤ listMost
+  pub rest : Remaining old at (remaining 1 (entriesOf entryMost ss)) out w (remaining size (entriesOf entryMost (drop step ss)))
+
+module _ {entryMost listMost : ℕ} {front : List ℕ} (l : Limits entryMost listMost front) (remaining : ℕ → List (List Step) → List ℕ)
+    (ss : List Step) (old : List ℕ) (at : ℕ) where
+  -- before the first entry
+  pub progress-start : Progress entryMost listMost remaining ss old at 0 1 old at
+  progress-start = record { within = omega arith; small = omega (arith, l .list); rest = remaining-start _ _ _ }
+
+  module _ (step size : ℕ) (out : List ℕ) (w : ℕ) (o : Progress entryMost listMost remaining ss old at step size out w) where
+    -- after an entry of k steps
+    pub progress-more : (k sz : ℕ) → FirstEntry entryMost (drop step ss) k sz → (xs out′ : List ℕ) (w′ size′ : ℕ)
+        → remaining size (entriesOf entryMost (drop step ss)) ≡ xs ++ remaining (nextSize listMost size sz) (entriesOf entryMost (drop (step + k) ss))
+        → out′ ≡ sets out w xs → w′ ≡ w + length xs → size′ ≡ nextSize listMost size sz
+        → Progress entryMost listMost remaining ss old at (step + k) size′ out′ w′
+    progress-more k sz f xs out′ w′ size′ e eo ew es =
+        rw es
+        (record {
+          within = omega (arith, f .within, length-drop step ss, o .within);
+          small = next-small l size sz (f .small);
+          rest = remaining-more old at _ out w _ (o .rest) xs _ out′ w′ e eo ew;
+        })
+
+    -- after the last step only the end of the open list remains
+    pub progress-end : length ss ≤ step → Remaining old at (remaining 1 (entriesOf entryMost ss)) out w (remaining size [])
+    progress-end d =
+        let none : drop step ss ≡ [] = drop-of-length-le ss {i = step} d in
+        rw none at (o .rest)
+
+-- ---- the next entry, of k steps with sz bytes of PData
+module _ {entryMost listMost : ℕ} {front : List ℕ} (l : Limits entryMost listMost front) (ss : List Step) (old : List ℕ) (at step size : ℕ)
+    (out : List ℕ) (w k sz : ℕ) (f : FirstEntry entryMost (drop step ss) k sz) where
+  -- the length bytes: one more if the entry does not fit the open list
+  module _ (prefix : ℕ) (o : Progress entryMost listMost (remainingLengths listMost prefix) ss old at step size out w) where
+    abbrev laterLengths : List ℕ
+    laterLengths = remainingLengths listMost prefix (nextSize listMost size sz) (entriesOf entryMost (drop (step + k) ss))
+
+    -- which has room
+    pub lengths-room : at + length (remainingLengths listMost prefix 1 (entriesOf entryMost ss)) ≤ length old
+        → w + length (separatorLength listMost prefix size sz) ≤ length out
+    lengths-room =
+        remaining-room old at _ out w _ (o .rest) (separatorLength listMost prefix size sz) laterLengths (lengths-next entryMost listMost ss step k sz f prefix size)
+
+    -- and after which the loop goes on
+    pub lengths-more : (out′ : List ℕ) (w′ size′ : ℕ) → out′ ≡ sets out w (separatorLength listMost prefix size sz)
+        → w′ ≡ w + length (separatorLength listMost prefix size sz) → size′ ≡ nextSize listMost size sz
+        → Progress entryMost listMost (remainingLengths listMost prefix) ss old at (step + k) size′ out′ w′
+    lengths-more out′ w′ size′ =
+        progress-more l (remainingLengths listMost prefix) ss old at step size out w o k sz f (separatorLength listMost prefix size sz) out′ w′ size′
+        (lengths-next entryMost listMost ss step k sz f prefix size)
+
+  -- the requests: the separator, then the entry
+  module _ (prefix : List ℕ) (h : ℕ) (o : Progress entryMost listMost (remainingBytes listMost prefix h) ss old at step size out w) where
+    abbrev separator : List ℕ
+    separator = separatorBytes listMost prefix size sz
+
+    abbrev entry : List ℕ
+    entry = entryBytes (joinedItem h (take k (drop step ss)))
+
+    abbrev laterBytes : List ℕ
+    laterBytes = remainingBytes listMost prefix h (nextSize listMost size sz) (entriesOf entryMost (drop (step + k) ss))
+
+    -- the separator has room
+    pub separator-room : at + length (remainingBytes listMost prefix h 1 (entriesOf entryMost ss)) ≤ length old → w + length separator ≤ length out
+    separator-room = remaining-room old at _ out w _ (o .rest) separator (entry ++ laterBytes) (bytes-next entryMost listMost ss step k sz f prefix h size)
+
+    module _ (out′ : List ℕ) (w′ : ℕ) (eo : out′ ≡ sets out w separator) (ew : w′ ≡ w + length separator) where
+      -- and so has the entry
+      pub entry-room : at + length (remainingBytes listMost prefix h 1 (entriesOf entryMost ss)) ≤ length old → w′ + 5 + sz ≤ length out′
+      entry-room c =
+          let x = remaining-more old at _ out w _ (o .rest) separator (entry ++ laterBytes) out′ w′ (bytes-next entryMost listMost ss step k sz f prefix h size) eo ew in
+          omega (
+            arith,
+            remaining-room old at _ out′ w′ _ x entry laterBytes refl c,
+            entry-length (joinedItem h (take k (drop step ss))),
+            f .fits,
+          )
+
+      -- after both the loop goes on
+      pub bytes-more : (out″ : List ℕ) (w″ size′ : ℕ) → out″ ≡ sets out′ w′ entry → w″ ≡ w′ + 5 + sz → size′ ≡ nextSize listMost size sz
+          → Progress entryMost listMost (remainingBytes listMost prefix h) ss old at (step + k) size′ out″ w″
+      bytes-more out″ w″ size′ fo fw =
+          let n : w″ ≡ w′ + length entry = omega (arith, entry-length (joinedItem h (take k (drop step ss))), f .fits) in
+          let both = two-writes out out′ out″ separator entry (separator ++ entry) w w′ w″ eo ew fo n refl in
+          progress-more l (remainingBytes listMost prefix h) ss old at step size out w o k sz f (separator ++ entry) out″ w″ size′
+          (bytes-next entryMost listMost ss step k sz f prefix h size ∙ sym (append-assoc separator entry laterBytes)) (both .1) (both .0)
+
+-- ---- the whole output
+set-sets : (l : List ℕ) (c i : ℕ) (xs : List ℕ) → set (sets l (suc i) xs) 0 c ≡ sets (set l 0 c) (suc i) xs
+set-sets l c i [] = refl
+set-sets l c i (x ∷ xs) =
+    set-sets (set l (suc i) x) c (suc i) xs ∙ ap (λ (t : List ℕ). sets t (suc (suc i)) xs) (set-comm l (suc i) 0 x c (λ z. omega arith))
+
+-- the count, the lengths and the requests, written one after another, are the output
+pub output-written : (old out out′ : List ℕ) (rs : List (List ℕ)) (count w r : ℕ) → count ≡ length rs
+    → out ≡ sets old 1 (lengths rs) → w ≡ 1 + length rs
+    → out′ ≡ sets (set out 0 count) w (concat rs) → r ≡ w + length (concat rs) → (r ≡ length (output rs)) × (out′ ≡ sets old 0 (output rs))
+output-written old out out′ rs count w r ec eo ew fo fr =
+    let v : w ≡ 1 + length (lengths rs) = omega (arith, lengths-length rs) in (
+      omega (arith, output-length rs),
+      fo ∙ rw (eo, v, ec, set-sets old (length rs) 0 (lengths rs)) (sym (sets-append (set old 0 (length rs)) 1 (lengths rs) (concat rs))),
+    )
+
+-- the output of good steps fits its buffer, within any limits
+pub steps-fit : (limits : SizeLimits) (header : Frame) (front : List ℕ) → Limits (limits .entry) (limits .list) front → (n : ℕ) (a : List ℕ) → AllStepsGood a n → n ≤ stepsMax
+    → length (output (requestsWith limits header front (stepsIn n a))) ≤ minOutput
+steps-fit limits header front l n a g m = output-fits limits header front l (stepsIn n a) (omega (arith, steps-length n a)) (good-steps n a g)
