@@ -1,4 +1,4 @@
--- `tick::tick_lamps` meets its contract. The invariant: the lamps before `i` have ticked, the others are as they were.
+-- `tick::tick_lamps` meets its contract. The invariant: the lamps before `i` have ticked, the others are unchanged.
 use borrow.Author.Needs.{needs}
 use Prim.Native.Nat.{_≤_, _-_}
 use mathlib.Core.Path.{_≡_, refl}
@@ -7,7 +7,7 @@ use native.Mathlib.Omega.{arith}
 use lib.ListN.{take, drop}
 use Rattle.lights.specs.Lamp.{off, tickLamp}
 use Rattle.node.specs.Node.{tickLamps}
-use Rattle.node.proofs.Maps.{map-more, map-still, map-done}
+use Rattle.node.proofs.Maps.{map-next, map-unchanged, map-done}
 use Rattle.node.proofs.tick.tick_lamps.Statement.{statement}
 use Rattle.node.proofs.tick.tick_lamps.Tie as tie
 
@@ -24,7 +24,7 @@ loop-again : tie.Need-loop-again Inv-loop μ-loop
 loop-again c =
     let l = c .before .before .before .loop in
     let e = l .inv .1 in
-    (omega arith, rw (c .tick-lamp .ensures, map-still tickLamp _ (l .next) (l .i) off (omega arith) e) (map-more _ _ _ _ _ e off (omega arith) (omega arith)))
+    (omega arith, rw (c .tick-lamp .ensures, map-unchanged tickLamp _ (l .next) (l .i) off (omega arith) e) (map-next _ _ _ _ _ e off (omega arith) (omega arith)))
 
 returns : tie.Need-returns Inv-loop μ-loop
 unfolding tickLamps
