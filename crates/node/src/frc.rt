@@ -9,6 +9,7 @@ use lights::lamp::actual_level;
 ghost use mathlib.Core.Path.{_≡_};
 ghost use mathlib.Core.Bool.{true};
 ghost use Prim.Native.Nat.{_<_};
+ghost use Rattle.dpa.specs.Settings.{maxLamps};
 ghost use Rattle.node.specs.Node.{nodeOk};
 ghost use Rattle.node.specs.Frc.{bitSet, isCommand, asksLamp, isOn, twoBits, frcAnswer, frcOf};
 
@@ -72,7 +73,7 @@ fn asks_lamp(count: u8, command: u8, user_data: &[u8]) -> bool
 }
 
 fn is_on(node: Node, index: u8, stuck: u32) -> bool
-    requires { ⌜ (nodeOk node ≡ true) × (index < 32) ⌝ }
+    requires { ⌜ (nodeOk node ≡ true) × (index < maxLamps) ⌝ }
     ensures { λ r. ⌜ r ≡ isOn node index stuck ⌝ }
 {
     let lamp = node.lamps[wide(index)];

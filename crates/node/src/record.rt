@@ -10,6 +10,7 @@ ghost use mathlib.Core.Path.{_≡_};
 ghost use Prim.Native.Nat.{_≤_};
 ghost use lib.ListN.{getD};
 ghost use Rattle.dpa.specs.Lists.{allBelow};
+ghost use Rattle.dpa.specs.Settings.{maxLamps};
 ghost use Rattle.lights.specs.Lamp.{off, lampFits};
 ghost use Rattle.node.specs.Node.{readOnlyOf, nodeFromParts, lampsOk, nodeOk};
 
@@ -56,7 +57,7 @@ pub fn node_from_parts(fixed: ReadOnly, lamps: [Lamp; LAMPS], ram: [u8; RAM_SIZE
 
 // Returns whether every implemented lamp follows the lamp rule. The loop has no early exit, so that it can be vectorized.
 fn implemented_ok(count: usize, lamps: [Lamp; LAMPS]) -> bool
-    requires { ⌜ count ≤ 32 ⌝ }
+    requires { ⌜ count ≤ maxLamps ⌝ }
     ensures { λ r. ⌜ r ≡ allBelow count (λ k. lampFits count k (getD lamps k off)) ⌝ }
 {
     let mut ok = true;
@@ -71,7 +72,7 @@ fn implemented_ok(count: usize, lamps: [Lamp; LAMPS]) -> bool
 
 // Returns whether every lamp follows the rule for its place: lamps from the count on are zero.
 fn lamps_ok(count: usize, lamps: [Lamp; LAMPS]) -> bool
-    requires { ⌜ count ≤ 32 ⌝ }
+    requires { ⌜ count ≤ maxLamps ⌝ }
     ensures { λ r. ⌜ r ≡ lampsOk count lamps ⌝ }
 {
     let mut ok = implemented_ok(count, lamps);

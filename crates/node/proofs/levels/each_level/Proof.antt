@@ -4,6 +4,7 @@ use mathlib.Core.Path.{_≡_, refl}
 use mathlib.Core.List.{_++_, map}
 use native.Mathlib.Omega.{arith}
 use lib.ListN.{take, drop}
+use Rattle.dpa.specs.Settings.{maxLamps}
 use Rattle.lights.specs.declared.lamp.Lamp.{Lamp}
 use Rattle.lights.specs.Lamp.{off, actualLevel}
 use Rattle.node.specs.Node.{actualLevels}
@@ -13,10 +14,10 @@ use Rattle.node.proofs.levels.each_level.Tie as tie
 
 abbrev Inv-loop : tie.InvT-loop
 Inv-loop settings lamps levels₀ i₀ levels i =
-    (i ≤ 32) × (levels ≡ map (λ (l : Lamp). actualLevel settings (l .level)) (take i lamps) ++ drop i levels₀)
+    (i ≤ maxLamps) × (levels ≡ map (λ (l : Lamp). actualLevel settings (l .level)) (take i lamps) ++ drop i levels₀)
 
 abbrev μ-loop : tie.MeasureT-loop
-μ-loop settings lamps levels₀ i₀ levels i = 32 - i
+μ-loop settings lamps levels₀ i₀ levels i = maxLamps - i
 
 loop-holds : tie.Need-loop-holds Inv-loop μ-loop
 loop-holds c = (omega arith, refl)

@@ -5,6 +5,7 @@ use mathlib.Core.Path.{_≡_, refl}
 use mathlib.Core.List.{_++_, map}
 use native.Mathlib.Omega.{arith}
 use lib.ListN.{take, drop}
+use Rattle.dpa.specs.Settings.{maxLamps}
 use Rattle.lights.specs.Lamp.{off, tickLamp}
 use Rattle.node.specs.Node.{tickLamps}
 use Rattle.node.proofs.Maps.{map-next, map-unchanged, map-done}
@@ -12,10 +13,10 @@ use Rattle.node.proofs.tick.tick_lamps.Statement.{statement}
 use Rattle.node.proofs.tick.tick_lamps.Tie as tie
 
 abbrev Inv-loop : tie.InvT-loop
-Inv-loop next₀ i₀ next i = (i ≤ 32) × (next ≡ map tickLamp (take i next₀) ++ drop i next₀)
+Inv-loop next₀ i₀ next i = (i ≤ maxLamps) × (next ≡ map tickLamp (take i next₀) ++ drop i next₀)
 
 abbrev μ-loop : tie.MeasureT-loop
-μ-loop next₀ i₀ next i = 32 - i
+μ-loop next₀ i₀ next i = maxLamps - i
 
 loop-holds : tie.Need-loop-holds Inv-loop μ-loop
 loop-holds c = (omega arith, refl)
