@@ -1,4 +1,4 @@
--- Laws of the node record: its rule as facts, what keeps it, start, the actual levels and the tick.
+-- Laws of the node: the node rule as a test and as facts, start, the tick, actual levels.
 use Prim.Native.Nat.{ℕ, _-_, _≤_, _<_}
 use mathlib.Core.Path.{_≡_, refl, sym, ap, _∙_}
 use mathlib.Core.Bool.{true, false, _&&_}
@@ -8,19 +8,19 @@ use lib.ListN.{getD, replicate, length, length-map, List·getD-map, List·getD-e
 use lib.Dec.{ltb, eqb}
 use borrow.Author.Tests.{eqb-true, eq-eqb, ltb-true, ltb-false}
 use Rattle.dpa.specs.declared.settings.Settings.{Settings}
-use Rattle.dpa.specs.Settings.{settingsOk}
+use Rattle.dpa.specs.Settings.{maxLamps, settingsOk}
 use Rattle.dpa.proofs.Bool.{and-left, and-right, both, by-test, all-below-intro, all-below-elim}
 use Rattle.dpa.proofs.Ranges.{settings-facts}
 use Rattle.lights.specs.declared.lamp.Lamp.{Lamp}
 use Rattle.lights.specs.Lamp.{off, lampFits, LevelsInRange, actualLevel, tickLamp}
 use Rattle.lights.proofs.Lamps.{lamp-facts, zero-facts, off-rule, fits-below, fits-above, fits-test, fits-rule, tick-keeps, tick-seconds, tick-ends, tick-level, actual-max, actual-off}
 use Rattle.node.specs.declared.record.Node.{Node}
-use Rattle.node.specs.Node.{withLamps, withRam, shapeOk, lampsOk, nodeOk, NodeRule, answer, fresh, blank, startOf, actualLevels, levelsOf, tickLamps, tickNode, tickOf}
+use Rattle.node.specs.Node.{ramSize, withLamps, withRam, shapeOk, lampsOk, nodeOk, NodeRule, nodeAnswer, fresh, blank, startOf, actualLevels, levelsOf, tickLamps, tickNode, tickOf}
 
 -- The node rule, as a test and as facts
 
--- a record with arrays of the right lengths has the shape
-pub shape-test : (n : Node) → length (n .lamps) ≡ 32 → length (n .ram) ≡ 48 → shapeOk n ≡ true
+-- the two lengths give the shape test
+pub shape-test : (n : Node) → length (n .lamps) ≡ maxLamps → length (n .ram) ≡ ramSize → shapeOk n ≡ true
 unfolding shapeOk
 shape-test n a b = both (eq-eqb _ _ a) (eq-eqb _ _ b)
 
@@ -35,32 +35,32 @@ module _ (n : Node) (e : nodeOk n ≡ true) where
   node-settings = and-right (shapeOk n) _ (and-left _ (lampsOk (n .settings .«lamp_count») (n .lamps)) e)
 
   -- it has thirty-two lamps
-  pub node-lamps : length (n .lamps) ≡ 32
+  pub node-lamps : length (n .lamps) ≡ maxLamps
   unfolding shapeOk
-  node-lamps = eqb-true _ _ (and-left _ (eqb (length (n .ram)) 48) shaped)
+  node-lamps = eqb-true _ _ (and-left _ (eqb (length (n .ram)) ramSize) shaped)
 
   -- and 48 bytes of RAM
-  pub node-ram : length (n .ram) ≡ 48
+  pub node-ram : length (n .ram) ≡ ramSize
   unfolding shapeOk
-  node-ram = eqb-true _ _ (and-right (eqb (length (n .lamps)) 32) _ shaped)
+  node-ram = eqb-true _ _ (and-right (eqb (length (n .lamps)) maxLamps) _ shaped)
 
-  -- each of a sound node's lamps keeps the rule of its place
-  pub node-fits : (k : ℕ) → k < 32 → lampFits (n .settings .«lamp_count») k (getD (n .lamps) k off) ≡ true
+  -- each of its lamps follows the rule for its place
+  pub node-fits : (k : ℕ) → k < maxLamps → lampFits (n .settings .«lamp_count») k (getD (n .lamps) k off) ≡ true
   unfolding nodeOk lampsOk
-  node-fits = all-below-elim 32 _ (and-right (shapeOk n && settingsOk (n .settings)) (lampsOk (n .settings .«lamp_count») (n .lamps)) e)
+  node-fits = all-below-elim maxLamps _ (and-right (shapeOk n && settingsOk (n .settings)) (lampsOk (n .settings .«lamp_count») (n .lamps)) e)
 
-  -- no level of a sound node is over 100
+  -- none of its levels is over 100
   pub node-levels-in-range : LevelsInRange (n .lamps)
   node-levels-in-range k =
-      by-test (ltb k 32)
+      by-test (ltb k maxLamps)
       (λ t. fits-rule _ k _ (node-fits k (ltb-true _ _ t)) .level-max)
-      (λ t. let z : getD (n .lamps) k off ≡ off = List·getD-eq-default (n .lamps) off (omega (arith, node-lamps, ltb-false k 32 t)) in
+      (λ t. let z : getD (n .lamps) k off ≡ off = List·getD-eq-default (n .lamps) off (omega (arith, node-lamps, ltb-false k maxLamps t)) in
       rw z (omega arith))
 
   -- the test gives the facts
   pub node-facts : NodeRule n
   node-facts =
-      let most : n .settings .«lamp_count» ≤ 32 = settings-facts (n .settings) node-settings .count-max in
+      let most : n .settings .«lamp_count» ≤ maxLamps = settings-facts (n .settings) node-settings .count-max in
       record {
         lamps-length = node-lamps;
         ram-length = node-ram;
@@ -69,12 +69,12 @@ module _ (n : Node) (e : nodeOk n ≡ true) where
         unimplemented = λ k h l. zero-facts _ (sym (fits-above _ k _ h) ∙ node-fits k l);
       }
 
--- a record of the right lengths with settings in range, each of whose lamps keeps the rule of its place, is sound
-pub node-sound : (n : Node) → length (n .lamps) ≡ 32 → length (n .ram) ≡ 48 → settingsOk (n .settings) ≡ true
-    → ((k : ℕ) → k < 32 → lampFits (n .settings .«lamp_count») k (getD (n .lamps) k off) ≡ true)
+-- a node with the right lengths, settings in range, and lamps that follow the rule for their place is sound
+pub node-sound : (n : Node) → length (n .lamps) ≡ maxLamps → length (n .ram) ≡ ramSize → settingsOk (n .settings) ≡ true
+    → ((k : ℕ) → k < maxLamps → lampFits (n .settings .«lamp_count») k (getD (n .lamps) k off) ≡ true)
     → nodeOk n ≡ true
 unfolding nodeOk lampsOk
-node-sound n a b s f = both (both (shape-test n a b) s) (all-below-intro 32 _ f)
+node-sound n a b s f = both (both (shape-test n a b) s) (all-below-intro maxLamps _ f)
 
 -- the facts give the test
 pub node-test : (n : Node) → NodeRule n → nodeOk n ≡ true
@@ -82,16 +82,16 @@ node-test n r =
     node-sound n (r .lamps-length) (r .ram-length) (r .settings-valid)
     (λ k l. fits-test (n .settings .«lamp_count») k (getD (n .lamps) k off) (r .implemented k) (λ h. r .unimplemented k h l))
 
--- What keeps a sound node sound
+-- A sound node stays sound
 
--- other lamps, each of which keeps the rule of its place
-pub lamps-sound : (n : Node) (ls : List Lamp) → nodeOk n ≡ true → length ls ≡ 32
-    → ((k : ℕ) → k < 32 → lampFits (n .settings .«lamp_count») k (getD ls k off) ≡ true)
+-- with other lamps that follow the rule for their place
+pub lamps-sound : (n : Node) (ls : List Lamp) → nodeOk n ≡ true → length ls ≡ maxLamps
+    → ((k : ℕ) → k < maxLamps → lampFits (n .settings .«lamp_count») k (getD ls k off) ≡ true)
     → nodeOk (withLamps n ls) ≡ true
 lamps-sound n ls e l f = node-sound (withLamps n ls) l (node-ram n e) (node-settings n e) f
 
--- other RAM
-pub ram-sound : (n : Node) (bytes : List ℕ) → nodeOk n ≡ true → length bytes ≡ 48 → nodeOk (withRam n bytes) ≡ true
+-- with other RAM
+pub ram-sound : (n : Node) (bytes : List ℕ) → nodeOk n ≡ true → length bytes ≡ ramSize → nodeOk (withRam n bytes) ≡ true
 ram-sound n bytes e l = node-sound (withRam n bytes) (node-lamps n e) l (node-settings n e) (node-fits n e)
 
 -- Start
@@ -101,17 +101,17 @@ pub start-sound : (s : Settings) → settingsOk s ≡ true → nodeOk (startOf s
 unfolding startOf
 start-sound s e =
     rw e (node-sound (fresh s) refl refl e
-    (λ k l. let z : getD (replicate 32 off) k off ≡ off = getD-replicate 32 k off off l in
+    (λ k l. let z : getD (replicate maxLamps off) k off ≡ off = getD-replicate maxLamps k off off l in
     rw z (fits-test (s .«lamp_count») k off (λ _. off-rule) (λ _. refl))))
 
--- a refused start hands back a record of zeros
-pub start-refused : (s : Settings) → settingsOk s ≡ false → startOf s ≡ answer 1 blank
+-- a refused start returns a record of zeros
+pub start-refused : (s : Settings) → settingsOk s ≡ false → startOf s ≡ nodeAnswer 1 blank
 unfolding startOf
 start-refused s e = rw e
 
 -- The tick
 
--- the tick at a place is that of its lamp
+-- the lamp at a place after a tick
 pub tick-at : (ls : List Lamp) (k : ℕ) → getD (tickLamps ls) k off ≡ tickLamp (getD ls k off)
 unfolding tickLamps tickLamp
 tick-at ls k = List·getD-map tickLamp ls k off
@@ -123,32 +123,32 @@ tick-sound n e =
     lamps-sound n (tickLamps (n .lamps)) e (length-map (n .lamps) tickLamp ∙ node-lamps n e)
     (λ k l. rw tick-at (tick-keeps (n .settings .«lamp_count») k (getD (n .lamps) k off) (node-fits n e k l)))
 
--- a refused tick hands the node back
-pub tick-refused : (n : Node) → nodeOk n ≡ false → tickOf n ≡ answer 1 n
+-- a refused tick returns the same node
+pub tick-refused : (n : Node) → nodeOk n ≡ false → tickOf n ≡ nodeAnswer 1 n
 unfolding tickOf
 tick-refused n e = rw e
 
 -- a sound node is ticked
-pub tick-answered : (n : Node) → nodeOk n ≡ true → tickOf n ≡ answer 0 (tickNode n)
+pub tick-answered : (n : Node) → nodeOk n ≡ true → tickOf n ≡ nodeAnswer 0 (tickNode n)
 unfolding tickOf
 tick-answered n e = rw e
 
--- settings and RAM stay
+-- a tick changes neither settings nor RAM
 pub tick-rest : (n : Node) → tickNode n ≡ withLamps n (tickNode n .lamps)
 unfolding tickNode
 tick-rest n = refl
 
--- every running timer falls by one
+-- every running timer is lowered by one
 pub timer-falls : (n : Node) (k : ℕ) → getD (tickNode n .lamps) k off .seconds ≡ getD (n .lamps) k off .seconds - 1
 unfolding tickNode
 timer-falls n k = ap (λ (l : Lamp). l .seconds) (tick-at (n .lamps) k) ∙ tick-seconds (getD (n .lamps) k off)
 
--- a timer that ends puts its lamp to level 0
+-- the level becomes 0 when the timer ends
 pub timer-ends : (n : Node) (k : ℕ) → getD (n .lamps) k off .seconds ≡ 1 → getD (tickNode n .lamps) k off .level ≡ 0
 unfolding tickNode
 timer-ends n k e = ap (λ (l : Lamp). l .level) (tick-at (n .lamps) k) ∙ tick-ends (getD (n .lamps) k off) e
 
--- every other level stays
+-- every other level is unchanged
 pub level-stays : (n : Node) (k : ℕ) → (getD (n .lamps) k off .seconds ≡ 1 → ⊥)
     → getD (tickNode n .lamps) k off .level ≡ getD (n .lamps) k off .level
 unfolding tickNode
@@ -157,7 +157,7 @@ level-stays n k h = ap (λ (l : Lamp). l .level) (tick-at (n .lamps) k) ∙ tick
 -- The actual levels of a sound node
 
 module _ (n : Node) (e : nodeOk n ≡ true) where
-  -- the figure at a place is the actual level of its lamp
+  -- the value at a place is the actual level of that lamp
   pub levels-at : (k : ℕ) → getD (levelsOf n .levels) k 0 ≡ actualLevel (n .settings) (getD (n .lamps) k off .level)
   unfolding levelsOf actualLevels
   levels-at k =
@@ -165,7 +165,7 @@ module _ (n : Node) (e : nodeOk n ≡ true) where
       rw e (ap (λ (d : ℕ). getD (map f (n .lamps)) k d) (sym (actual-off (n .settings) (node-settings n e))) ∙ List·getD-map f (n .lamps) k off)
 
   -- there are thirty-two
-  pub levels-length : length (levelsOf n .levels) ≡ 32
+  pub levels-length : length (levelsOf n .levels) ≡ maxLamps
   unfolding levelsOf actualLevels
   levels-length = rw e (length-map (n .lamps) (λ (l : Lamp). actualLevel (n .settings) (l .level)) ∙ node-lamps n e)
 

@@ -1,23 +1,24 @@
-// The two-bit answer to an FRC command.
+// FRC: two bits from each node, which answer a question about one of its lamps.
 use crate::record::Node;
 use crate::record::node_ok;
 use dpa::number::wide;
 use dpa::pnum;
 use dpa::refusal;
+use dpa::settings::MAX_LAMPS;
 use lights::lamp::actual_level;
 ghost use mathlib.Core.Path.{_≡_};
-ghost use mathlib.Core.Bool.{true, cond};
+ghost use mathlib.Core.Bool.{true};
 ghost use Prim.Native.Nat.{_<_};
+ghost use Rattle.dpa.specs.Settings.{maxLamps};
 ghost use Rattle.node.specs.Node.{nodeOk};
-ghost use Rattle.node.specs.Frc.{bitSet, isCommand, asksLamp, isOn, frcOf};
+ghost use Rattle.node.specs.Frc.{bitSet, isCommand, asksLamp, isOn, twoBits, frcAnswer, frcOf};
 
-// Is the lamp on?
+// The commands: is the lamp on, and is its alarm set?
 pub const ON: u8 = 0x10;
 
-// Is the lamp's alarm set?
 pub const ALARM: u8 = 0x11;
 
-// The answers: not asked of this node, no, yes.
+// The values: this node is not asked, no, yes.
 const NOT_ASKED: u8 = 1;
 
 const NO: u8 = 2;
@@ -30,11 +31,20 @@ pub struct FrcAnswer {
     pub value: u8,
 }
 
-fn bit_set(mask: u32, at: u32) -> bool
-    requires { ⌜ at < 32 ⌝ }
-    ensures { λ r. ⌜ r ≡ bitSet mask at ⌝ }
+fn frc_answer(number: u8, value: u8) -> FrcAnswer
+    ensures { λ r. ⌜ r ≡ frcAnswer number value ⌝ }
 {
-    (mask >> at) % 2 == 1
+    FrcAnswer {
+        refusal: number,
+        value,
+    }
+}
+
+fn bit_set(mask: u32, bit: u32) -> bool
+    requires { ⌜ bit < 32 ⌝ }
+    ensures { λ r. ⌜ r ≡ bitSet mask bit ⌝ }
+{
+    (mask >> bit) % 2 == 1
 }
 
 fn is_command(command: u8) -> bool
@@ -46,7 +56,7 @@ fn is_command(command: u8) -> bool
     command == ALARM
 }
 
-// Whether the command and the user data ask for a lamp below the count.
+// Returns whether the command asks about one of this node's lamps. User data is PNUM, then the lamp in the low five bits of a byte.
 fn asks_lamp(count: u8, command: u8, user_data: &[u8]) -> bool
     ensures { λ r. ⌜ r ≡ asksLamp count command (now («user_data» .entry)) ⌝ }
 {
@@ -59,22 +69,22 @@ fn asks_lamp(count: u8, command: u8, user_data: &[u8]) -> bool
     if user_data[0] != pnum::LIGHTS {
         return false;
     }
-    user_data[1] % 32 < count
+    user_data[1] % MAX_LAMPS < count
 }
 
-fn is_on(node: Node, at: u8, stuck: u32) -> bool
-    requires { ⌜ (nodeOk node ≡ true) × (at < 32) ⌝ }
-    ensures { λ r. ⌜ r ≡ isOn node at stuck ⌝ }
+fn is_on(node: Node, index: u8, stuck: u32) -> bool
+    requires { ⌜ (nodeOk node ≡ true) × (index < maxLamps) ⌝ }
+    ensures { λ r. ⌜ r ≡ isOn node index stuck ⌝ }
 {
-    let lamp = node.lamps[wide(at)];
+    let lamp = node.lamps[wide(index)];
     if actual_level(node.settings, lamp.level) != 0 {
         return true;
     }
-    bit_set(stuck, at as u32)
+    bit_set(stuck, index as u32)
 }
 
 fn two_bits(yes: bool) -> u8
-    ensures { λ r. ⌜ r ≡ cond yes 3 2 ⌝ }
+    ensures { λ r. ⌜ r ≡ twoBits yes ⌝ }
 {
     if yes {
         return YES;
@@ -82,33 +92,21 @@ fn two_bits(yes: bool) -> u8
     NO
 }
 
-// The answer to a command: whether a lamp is on or stuck, or has its alarm set.
+// Answers a command: whether a lamp is on or stuck, or whether its alarm is set.
 pub fn frc(node: Node, command: u8, user_data: &[u8], stuck: u32, alarm: u32) -> FrcAnswer
     ensures { λ r. ⌜ r ≡ frcOf node command (now («user_data» .entry)) stuck alarm ⌝ }
 {
     if !node_ok(node) {
-        return FrcAnswer {
-            refusal: refusal::NODE,
-            value: 0,
-        };
+        return frc_answer(refusal::NODE, 0);
     }
     if !asks_lamp(node.settings.lamp_count, command, user_data) {
-        return FrcAnswer {
-            refusal: refusal::NONE,
-            value: NOT_ASKED,
-        };
+        return frc_answer(refusal::NONE, NOT_ASKED);
     }
-    let at = user_data[1] % 32;
+    let index = user_data[1] % MAX_LAMPS;
     if command == ON {
-        let on = is_on(node, at, stuck);
-        return FrcAnswer {
-            refusal: refusal::NONE,
-            value: two_bits(on),
-        };
+        let on = is_on(node, index, stuck);
+        return frc_answer(refusal::NONE, two_bits(on));
     }
-    let set = bit_set(alarm, at as u32);
-    FrcAnswer {
-        refusal: refusal::NONE,
-        value: two_bits(set),
-    }
+    let set = bit_set(alarm, index as u32);
+    frc_answer(refusal::NONE, two_bits(set))
 }

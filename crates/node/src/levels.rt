@@ -32,7 +32,7 @@ fn each_level(settings: Settings, lamps: [Lamp; LAMPS]) -> [u8; LAMPS]
     levels
 }
 
-// The actual level of each lamp.
+// Returns the actual level of each lamp.
 pub fn actual_levels(node: Node) -> LevelsAnswer
     ensures { λ r. ⌜ r ≡ levelsOf node ⌝ }
 {

@@ -1,4 +1,4 @@
-// The node record and its rule, start, tick, actual levels, FRC.
+// A node: its record and the rule for it, start, tick, actual levels, FRC.
 pub mod frc;
 pub mod levels;
 pub mod record;

@@ -1,4 +1,4 @@
-// The node record and its rule.
+// The node record and the node rule.
 use dpa::number::wide;
 use dpa::settings::Settings;
 use dpa::settings::settings_ok;
@@ -10,14 +10,18 @@ ghost use mathlib.Core.Path.{_≡_};
 ghost use Prim.Native.Nat.{_≤_};
 ghost use lib.ListN.{getD};
 ghost use Rattle.dpa.specs.Lists.{allBelow};
+ghost use Rattle.dpa.specs.Settings.{maxLamps};
 ghost use Rattle.lights.specs.Lamp.{off, lampFits};
 ghost use Rattle.node.specs.Node.{readOnlyOf, nodeFromParts, lampsOk, nodeOk};
+
+// Bytes of RAM.
+pub const RAM_SIZE: usize = 48;
 
 #[repr(C)]
 pub struct Node {
     pub settings: Settings,
     pub lamps: [Lamp; LAMPS],
-    pub ram: [u8; 48],
+    pub ram: [u8; RAM_SIZE],
 }
 
 // The part of a node that a request only reads.
@@ -25,7 +29,7 @@ pub struct ReadOnly {
     pub settings: Settings,
 }
 
-// A refusal's number, or 0, and the node.
+// A refusal number and the node.
 #[repr(C)]
 pub struct NodeAnswer {
     pub refusal: u8,
@@ -39,8 +43,8 @@ pub fn read_only(node: Node) -> ReadOnly
     ReadOnly { settings }
 }
 
-// The node put together again.
-pub fn node_from_parts(fixed: ReadOnly, lamps: [Lamp; LAMPS], ram: [u8; 48]) -> Node
+// The node made of its parts.
+pub fn node_from_parts(fixed: ReadOnly, lamps: [Lamp; LAMPS], ram: [u8; RAM_SIZE]) -> Node
     ensures { λ r. ⌜ r ≡ nodeFromParts fixed lamps ram ⌝ }
 {
     let settings = fixed.settings;
@@ -51,9 +55,9 @@ pub fn node_from_parts(fixed: ReadOnly, lamps: [Lamp; LAMPS], ram: [u8; 48]) -> 
     }
 }
 
-// Whether each implemented lamp keeps its rule. The loop has no way out before its end, so it goes over several lamps at once.
+// Returns whether every implemented lamp follows the lamp rule. The loop has no early exit, so that it can be vectorized.
 fn implemented_ok(count: usize, lamps: [Lamp; LAMPS]) -> bool
-    requires { ⌜ count ≤ 32 ⌝ }
+    requires { ⌜ count ≤ maxLamps ⌝ }
     ensures { λ r. ⌜ r ≡ allBelow count (λ k. lampFits count k (getD lamps k off)) ⌝ }
 {
     let mut ok = true;
@@ -66,8 +70,9 @@ fn implemented_ok(count: usize, lamps: [Lamp; LAMPS]) -> bool
     ok
 }
 
+// Returns whether every lamp follows the rule for its place: lamps from the count on are zero.
 fn lamps_ok(count: usize, lamps: [Lamp; LAMPS]) -> bool
-    requires { ⌜ count ≤ 32 ⌝ }
+    requires { ⌜ count ≤ maxLamps ⌝ }
     ensures { λ r. ⌜ r ≡ lampsOk count lamps ⌝ }
 {
     let mut ok = implemented_ok(count, lamps);
@@ -80,7 +85,7 @@ fn lamps_ok(count: usize, lamps: [Lamp; LAMPS]) -> bool
     ok
 }
 
-// The node rule.
+// Returns whether a node follows the node rule.
 pub fn node_ok(node: Node) -> bool
     ensures { λ r. ⌜ r ≡ nodeOk node ⌝ }
 {

@@ -1,6 +1,7 @@
-// A node as it starts: every lamp and RAM byte 0.
+// Starting a node.
 use crate::record::Node;
 use crate::record::NodeAnswer;
+use crate::record::RAM_SIZE;
 use dpa::refusal;
 use dpa::settings::Settings;
 use dpa::settings::settings_ok;
@@ -9,6 +10,7 @@ use lights::lamp::Lamp;
 ghost use mathlib.Core.Path.{_≡_};
 ghost use Rattle.node.specs.Node.{fresh, startOf};
 
+// A node with every lamp off and every RAM byte 0.
 fn fresh_node(settings: Settings) -> Node
     ensures { λ r. ⌜ r ≡ fresh settings ⌝ }
 {
@@ -19,16 +21,16 @@ fn fresh_node(settings: Settings) -> Node
     Node {
         settings,
         lamps: [off; LAMPS],
-        ram: [0; 48],
+        ram: [0; RAM_SIZE],
     }
 }
 
-// A fresh node, or a record of zeros for settings out of range.
+// Returns a fresh node, or a record of zeros if the settings are out of range.
 pub fn start(settings: Settings) -> NodeAnswer
     ensures { λ r. ⌜ r ≡ startOf settings ⌝ }
 {
     if !settings_ok(settings) {
-        let none = Settings {
+        let zero_settings = Settings {
             address: 0,
             hwpid: 0,
             dpa_value: 0,
@@ -37,7 +39,7 @@ pub fn start(settings: Settings) -> NodeAnswer
         };
         return NodeAnswer {
             refusal: refusal::NODE,
-            node: fresh_node(none),
+            node: fresh_node(zero_settings),
         };
     }
     NodeAnswer {

@@ -1,4 +1,4 @@
-// A second passing.
+// The tick, which the main loop calls once a second.
 use crate::record::Node;
 use crate::record::NodeAnswer;
 use crate::record::node_ok;
@@ -22,7 +22,7 @@ fn tick_lamps(lamps: [Lamp; LAMPS]) -> [Lamp; LAMPS]
     next
 }
 
-// The node one second later.
+// Returns the node one second later.
 pub fn tick(node: Node) -> NodeAnswer
     ensures { λ r. ⌜ r ≡ tickOf node ⌝ }
 {
@@ -42,7 +42,7 @@ pub fn tick(node: Node) -> NodeAnswer
     }
 }
 
-// The tick over a node that the caller lends: afterwards it is what the plain tick hands back.
+// Ticks the caller's node record in place and returns the refusal.
 pub fn tick_in_place(node: &mut Node) -> u8
     ensures { λ r. ⌜ (r ≡ tickOf (now (node .entry)) .refusal) × (now (node .exit) ≡ tickOf (now (node .entry)) .node) ⌝ }
 {

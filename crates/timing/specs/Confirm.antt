@@ -10,38 +10,46 @@ use Rattle.timing.specs.declared.slot.Network.{Network}
 use Rattle.timing.specs.declared.confirm.LengthAnswer.{LengthAnswer}
 use Rattle.timing.specs.Slot.{slotOf}
 
--- response hops, written 0 with NADR 0x00FF
+-- the status that marks a confirmation
+abbrev pub statusConfirmation : ℕ
+statusConfirmation = 0xFF
+
+-- bytes of a confirmation
+abbrev pub confirmationLength : ℕ
+confirmationLength = 11
+
+-- response hops; 0 for a broadcast
 unfoldable pub responseHopsSent : List ℕ → ℕ → ℕ
-responseHopsSent frame back = cond (eqb (headerOf frame .nadr) broadcastNadr) 0 back
+responseHopsSent frame responseHops = cond (eqb (headerOf frame .nadr) broadcastNadr) 0 responseHops
 
 -- the request's first six bytes, FF hex, DpaValue, hops, timeslot, response hops
 abbrev pub confirmBytes : List ℕ → ℕ → ℕ → ℕ → ℕ → List ℕ
-confirmBytes frame dpaValue hops slot back =
-    take headerSize frame ++ (0xFF ∷ dpaValue ∷ hops ∷ slot ∷ responseHopsSent frame back ∷ [])
+confirmBytes frame dpaValue hops slot responseHops =
+    take headerSize frame ++ (statusConfirmation ∷ dpaValue ∷ hops ∷ slot ∷ responseHopsSent frame responseHops ∷ [])
 
--- the slot is that of the request's PData
+-- the confirmation of a frame; the slot is that of its PData
 abbrev pub confirmation : List ℕ → ℕ → ℕ → ℕ → Network → List ℕ
-confirmation frame dpaValue hops back net =
-    confirmBytes frame dpaValue hops (slotOf (length (pdataOf frame)) net) back
+confirmation frame dpaValue hops responseHops net =
+    confirmBytes frame dpaValue hops (slotOf (length (pdataOf frame)) net) responseHops
 
--- what `confirm` leaves: its answer and the lent buffer
-pub record Confirmed : Type 0 where
+-- what `confirm` leaves: its answer and the buffer
+pub record ConfirmResult : Type 0 where
   pub refusal : ℕ
   pub length : ℕ
   pub out : List ℕ
 
-abbrev pub confirmResult : LengthAnswer → List ℕ → Confirmed
+abbrev pub confirmResult : LengthAnswer → List ℕ → ConfirmResult
 confirmResult r o = record { refusal = r .refusal; length = r .length; out = o }
 
--- bytes at the front of the buffer, and their count
-abbrev pub wrote : ℕ → List ℕ → List ℕ → Confirmed
-wrote e xs o = record { refusal = e; length = length xs; out = overwriteFront xs o }
+-- bytes written to the front of the buffer, and their number
+abbrev pub resultInBuffer : ℕ → List ℕ → List ℕ → ConfirmResult
+resultInBuffer e xs o = record { refusal = e; length = length xs; out = overwriteFront xs o }
 
--- `confirm`: a frame of 6 to 62 bytes, then 64 bytes of room; NADR isn't tested
-unfoldable pub confirmOf : List ℕ → ℕ → ℕ → ℕ → Network → List ℕ → Confirmed
-confirmOf frame dpaValue hops back net o =
+-- `confirm`: not a frame of 6 to 62 bytes: 2; a buffer under 64 bytes: 3; NADR is not tested
+unfoldable pub confirmOf : List ℕ → ℕ → ℕ → ℕ → Network → List ℕ → ConfirmResult
+confirmOf frame dpaValue hops responseHops net o =
     cond (frameFits (length frame))
     (cond (ltb (length o) longestResponse)
-    (wrote 3 [] o)
-    (wrote 0 (confirmation frame dpaValue hops back net) o))
-    (wrote 2 [] o)
+    (resultInBuffer 3 [] o)
+    (resultInBuffer 0 (confirmation frame dpaValue hops responseHops net) o))
+    (resultInBuffer 2 [] o)

@@ -8,7 +8,7 @@ use Rattle.timing.specs.declared.slot.Network.the-variants.{Std, StdLp}
 use Rattle.timing.specs.declared.slot.SlotAnswer.{SlotAnswer}
 use Rattle.timing.specs.declared.slot.SendAnswer.{SendAnswer}
 
--- under 17 bytes of PData, 17 to 40, over 40
+-- the slot by PData length: under 17 bytes, 17 to 40, over 40
 unfoldable pub baseSlot : ℕ → ℕ
 baseSlot n = cond (ltb n 17) 4 (cond (leb n 40) 5 6)
 
@@ -21,24 +21,31 @@ networkExtra StdLp = 4
 unfoldable pub slotOf : ℕ → Network → ℕ
 slotOf n net = baseSlot n + networkExtra net
 
--- the milliseconds of a way
+-- time for one direction: (hops + 1) slots of 10 ms units, in ms
 unfoldable pub directionTime : ℕ → ℕ → ℕ
 directionTime hops slot = (hops + 1) * slot * 10
 
--- `timeslot`: refusal 5 above 56 bytes of PData
+-- the longest time for one direction: 256 slots of at most 2,550 ms
+abbrev pub directionMax : ℕ
+directionMax = 652800
+
+-- `timeslot`: refusal 5 if PData is over 56 bytes
 unfoldable pub timeslotOf : ℕ → Network → SlotAnswer
 timeslotOf n net =
     cond (ltb pdataMax n) (record { refusal = 5; slot = 0 })
     (record { refusal = 0; slot = slotOf n net })
 
--- the way there, the node's delay, and the way back but for a broadcast
+-- time for the request, the node's delay and, unless it is a broadcast, the response
 unfoldable pub earliestOf : ℕ → ℕ → ℕ → ℕ → ℕ → Network → Bool → ℕ
-earliestOf hops request delay back response net broadcast =
-    directionTime hops (slotOf request net) + delay + cond broadcast 0 (directionTime back (slotOf response net))
+earliestOf hops requestLength delay responseHops responseLength net broadcast =
+    directionTime hops (slotOf requestLength net) + delay + cond broadcast 0 (directionTime responseHops (slotOf responseLength net))
+
+abbrev pub sendAnswer : ℕ → ℕ → SendAnswer
+sendAnswer refusal ms = record { refusal = refusal; milliseconds = ms }
 
 -- `earliest_send`: both lengths are tested, for a broadcast too
 unfoldable pub sendOf : ℕ → ℕ → ℕ → ℕ → ℕ → Network → Bool → SendAnswer
-sendOf hops request delay back response net broadcast =
-    cond (ltb pdataMax request) (record { refusal = 5; milliseconds = 0 })
-    (cond (ltb pdataMax response) (record { refusal = 5; milliseconds = 0 })
-    (record { refusal = 0; milliseconds = earliestOf hops request delay back response net broadcast }))
+sendOf hops requestLength delay responseHops responseLength net broadcast =
+    cond (ltb pdataMax requestLength) (sendAnswer 5 0)
+    (cond (ltb pdataMax responseLength) (sendAnswer 5 0)
+    (sendAnswer 0 (earliestOf hops requestLength delay responseHops responseLength net broadcast)))

@@ -1,4 +1,4 @@
-// The confirmation of a request by the coordinator's interface.
+// The confirmation that the gateway returns for a request.
 use crate::slot::Network;
 use crate::slot::slot_of;
 use dpa::frame::Frame;
@@ -8,7 +8,7 @@ ghost use Prim.Native.Nat.{_≤_};
 ghost use lib.ListN.{length};
 ghost use Rattle.dpa.specs.Frame.{headerSize};
 ghost use Rattle.dpa.specs.Lists.{overwriteFront};
-ghost use Rattle.timing.specs.Confirm.{responseHopsSent, confirmBytes, confirmResult, confirmOf};
+ghost use Rattle.timing.specs.Confirm.{confirmationLength, responseHopsSent, confirmBytes, confirmResult, confirmOf};
 
 #[repr(C)]
 pub struct LengthAnswer {
@@ -16,11 +16,13 @@ pub struct LengthAnswer {
     pub length: usize,
 }
 
-const CONFIRMATION: u8 = 0xFF;
+// The status that marks a confirmation; it is where a response has ErrN.
+const STATUS_CONFIRMATION: u8 = 0xFF;
 
-const CONFIRMATION_LENGTH: usize = 11;
+// The request's header, status, DpaValue, hops, timeslot, response hops.
+const CONFIRMATION_LENGTH: usize = Frame::HEADER + 5;
 
-// A broadcast has no response, so there are no hops of one to tell.
+// A broadcast has no response, so its response hops are 0.
 fn response_hops_sent(frame: &[u8], response_hops: u8) -> u8
     requires { ⌜ headerSize ≤ length (now frame) ⌝ }
     ensures { λ r. ⌜ r ≡ responseHopsSent (now (frame .entry)) «response_hops» ⌝ }
@@ -32,7 +34,7 @@ fn response_hops_sent(frame: &[u8], response_hops: u8) -> u8
     response_hops
 }
 
-// The bytes of a confirmation, at the front of its buffer.
+// Writes a confirmation to the front of its buffer.
 fn write_confirmation(
     frame: &[u8],
     dpa_value: u8,
@@ -41,18 +43,18 @@ fn write_confirmation(
     response_hops: u8,
     out: &mut [u8],
 )
-    requires { ⌜ (headerSize ≤ length (now frame)) × (11 ≤ length (now out)) ⌝ }
+    requires { ⌜ (headerSize ≤ length (now frame)) × (confirmationLength ≤ length (now out)) ⌝ }
     ensures { λ _. ⌜ now (out .exit) ≡ overwriteFront (confirmBytes (now (frame .entry)) «dpa_value» hops slot «response_hops») (now (out .entry)) ⌝ }
 {
     bytes::copy(&frame[0..Frame::HEADER], out);
-    out[6] = CONFIRMATION;
-    out[7] = dpa_value;
-    out[8] = hops;
-    out[9] = slot;
-    out[10] = response_hops_sent(frame, response_hops);
+    out[Frame::HEADER] = STATUS_CONFIRMATION;
+    out[Frame::HEADER + 1] = dpa_value;
+    out[Frame::HEADER + 2] = hops;
+    out[Frame::HEADER + 3] = slot;
+    out[Frame::HEADER + 4] = response_hops_sent(frame, response_hops);
 }
 
-// Confirms a request; NADR is left to the node that takes it.
+// Confirms a request. NADR is not checked.
 pub fn confirm(
     frame: &[u8],
     dpa_value: u8,

@@ -1,3 +1,3 @@
-// The gateway's side of a request: how long its ways take, and the confirmation that its sender gets.
+// The gateway's side of a request: how long it takes, and its confirmation.
 pub mod confirm;
 pub mod slot;

@@ -1,15 +1,32 @@
-// Timeslots, and the sums made of them.
+// Timeslots, and the times computed from them.
 use dpa::frame::Frame;
 use dpa::refusal;
 ghost use mathlib.Core.Path.{_≡_};
 ghost use Prim.Native.Nat.{_≤_};
-ghost use Rattle.timing.specs.Slot.{baseSlot, networkExtra, slotOf, directionTime, timeslotOf, sendOf};
+ghost use Rattle.timing.specs.Slot.{baseSlot, networkExtra, slotOf, directionTime, directionMax, timeslotOf, sendAnswer, sendOf};
 
 // The network type.
 pub enum Network {
     Std,
     StdLp,
 }
+
+// PData lengths of a medium slot; shorter PData takes a short slot, longer PData a long one.
+const MEDIUM_MIN: usize = 17;
+
+const MEDIUM_MAX: usize = 40;
+
+// Slots in units of 10 ms.
+const SHORT_SLOT: u8 = 4;
+
+const MEDIUM_SLOT: u8 = 5;
+
+const LONG_SLOT: u8 = 6;
+
+// What a low-power network adds to a slot.
+const LP_EXTRA: u8 = 4;
+
+const SLOT_UNIT_MS: u32 = 10;
 
 #[repr(C)]
 pub struct SlotAnswer {
@@ -23,44 +40,53 @@ pub struct SendAnswer {
     pub milliseconds: u32,
 }
 
-// The part of a slot that the PData length decides.
+fn send_answer(number: u8, milliseconds: u32) -> SendAnswer
+    ensures { λ r. ⌜ r ≡ sendAnswer number milliseconds ⌝ }
+{
+    SendAnswer {
+        refusal: number,
+        milliseconds,
+    }
+}
+
+// The part of a slot that depends on the PData length.
 fn base_slot(pdata_length: usize) -> u8
     ensures { λ r. ⌜ (r ≡ baseSlot «pdata_length») × (r ≤ 6) ⌝ }
 {
-    if pdata_length < 17 {
-        return 4;
+    if pdata_length < MEDIUM_MIN {
+        return SHORT_SLOT;
     }
-    if pdata_length <= 40 {
-        return 5;
+    if pdata_length <= MEDIUM_MAX {
+        return MEDIUM_SLOT;
     }
-    6
+    LONG_SLOT
 }
 
-// What the network type adds to it.
+// The part of a slot that depends on the network type.
 fn network_extra(network: Network) -> u8
     ensures { λ r. ⌜ (r ≡ networkExtra network) × (r ≤ 4) ⌝ }
 {
     match network {
         Network::Std => 0,
-        Network::StdLp => 4,
+        Network::StdLp => LP_EXTRA,
     }
 }
 
-// The slot of a PData length, in units of 10 ms.
+// The slot for a PData length, in units of 10 ms.
 pub fn slot_of(pdata_length: usize, network: Network) -> u8
     ensures { λ r. ⌜ r ≡ slotOf «pdata_length» network ⌝ }
 {
     base_slot(pdata_length) + network_extra(network)
 }
 
-// The milliseconds of a way: one slot more than it has hops.
+// Time for one direction: (hops + 1) slots, in ms.
 fn direction_time(hops: u8, slot: u8) -> u32
-    ensures { λ r. ⌜ (r ≡ directionTime hops slot) × (r ≤ 652800) ⌝ }
+    ensures { λ r. ⌜ (r ≡ directionTime hops slot) × (r ≤ directionMax) ⌝ }
 {
-    (hops as u32 + 1) * (slot as u32) * 10
+    (hops as u32 + 1) * (slot as u32) * SLOT_UNIT_MS
 }
 
-// The slot of a PData length; one that no frame can have is refused.
+// The slot for a PData length that fits in a frame.
 pub fn timeslot(pdata_length: usize, network: Network) -> SlotAnswer
     ensures { λ r. ⌜ r ≡ timeslotOf «pdata_length» network ⌝ }
 {
@@ -76,7 +102,7 @@ pub fn timeslot(pdata_length: usize, network: Network) -> SlotAnswer
     }
 }
 
-// How long after the confirmation the network is free again.
+// How long after the confirmation the next request may be sent.
 pub fn earliest_send(
     hops: u8,
     request_length: usize,
@@ -89,27 +115,15 @@ pub fn earliest_send(
     ensures { λ r. ⌜ r ≡ sendOf hops «request_length» delay «response_hops» «response_length» network broadcast ⌝ }
 {
     if Frame::PDATA_MAX < request_length {
-        return SendAnswer {
-            refusal: refusal::PDATA,
-            milliseconds: 0,
-        };
+        return send_answer(refusal::PDATA, 0);
     }
     if Frame::PDATA_MAX < response_length {
-        return SendAnswer {
-            refusal: refusal::PDATA,
-            milliseconds: 0,
-        };
+        return send_answer(refusal::PDATA, 0);
     }
-    let there = direction_time(hops, slot_of(request_length, network)) + delay as u32;
+    let request_and_delay = direction_time(hops, slot_of(request_length, network)) + delay as u32;
     if broadcast {
-        return SendAnswer {
-            refusal: refusal::NONE,
-            milliseconds: there,
-        };
+        return send_answer(refusal::NONE, request_and_delay);
     }
-    let back = direction_time(response_hops, slot_of(response_length, network));
-    SendAnswer {
-        refusal: refusal::NONE,
-        milliseconds: there + back,
-    }
+    let response = direction_time(response_hops, slot_of(response_length, network));
+    send_answer(refusal::NONE, request_and_delay + response)
 }

@@ -1,4 +1,4 @@
--- `frc::asks_lamp` meets its contract: each return computes the definition from the tests on its way.
+-- `frc::asks_lamp` meets its contract: each return computes the definition from the tests before it.
 use borrow.Author.Needs.{needs}
 use mathlib.Core.Path.{_≡_, sym, _∙_}
 use mathlib.Core.Bool.{true}

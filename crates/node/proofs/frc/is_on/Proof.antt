@@ -9,10 +9,10 @@ use Rattle.node.proofs.TwoBits.{on-lit, on-stuck}
 use Rattle.node.proofs.frc.is_on.Statement.{statement}
 use Rattle.node.proofs.frc.is_on.Tie as tie
 
--- what the lamp's level is seen as
-seen : (c : tie.After-actual-level) → let a = c .before .before .before .before .args in
-    c .actual-level .result ≡ actualLevel (a .t1 .settings) (getD (a .t1 .lamps) (a .at) off .level)
-seen c =
+-- the actual level of the lamp
+level-is : (c : tie.After-actual-level) → let a = c .before .before .before .before .args in
+    c .actual-level .result ≡ actualLevel (a .t1 .settings) (getD (a .t1 .lamps) (a .index) off .level)
+level-is c =
     let n = c .before .before .before .before .args .t1 in
     c .actual-level .ensures
     ∙ ap (λ (k : ℕ). actualLevel (n .settings) (getD (n .lamps) k off .level)) (c .before .before .before .wide .ensures .0)
@@ -21,10 +21,10 @@ actual-level-requires : tie.Need-actual-level-requires
 actual-level-requires c κs = let p = c .before .before .before .pre in (node-settings _ (p .0), node-levels-in-range _ (p .0) _)
 
 returns : tie.Need-returns
-returns c = on-lit _ _ _ _ (seen (c .before)) (c .if1 .taken)
+returns c = on-lit _ _ _ _ (level-is (c .before)) (c .if1 .taken)
 
 returns-2 : tie.Need-returns-2
-returns-2 c = on-stuck _ _ _ _ (seen (c .before .before)) (c .before .if1 .left) (c .bit-set .ensures)
+returns-2 c = on-stuck _ _ _ _ (level-is (c .before .before)) (c .before .if1 .left) (c .bit-set .ensures)
 
 pub is-on-spec : {M : Type 1} → statement M
 is-on-spec =

@@ -1,22 +1,23 @@
--- `levels::each_level` meets its contract. The invariant: the levels before `i` are those of the lamps, the others are 0.
+-- `levels::each_level` meets its contract. The invariant: the levels before `i` are those of the lamps, the others are still 0.
 use Prim.Native.Nat.{_≤_, _-_}
 use mathlib.Core.Path.{_≡_, refl}
 use mathlib.Core.List.{_++_, map}
 use native.Mathlib.Omega.{arith}
 use lib.ListN.{take, drop}
+use Rattle.dpa.specs.Settings.{maxLamps}
 use Rattle.lights.specs.declared.lamp.Lamp.{Lamp}
 use Rattle.lights.specs.Lamp.{off, actualLevel}
 use Rattle.node.specs.Node.{actualLevels}
-use Rattle.node.proofs.Maps.{map-more, map-done}
+use Rattle.node.proofs.Maps.{map-next, map-done}
 use Rattle.node.proofs.levels.each_level.Statement.{statement}
 use Rattle.node.proofs.levels.each_level.Tie as tie
 
 abbrev Inv-loop : tie.InvT-loop
 Inv-loop settings lamps levels₀ i₀ levels i =
-    (i ≤ 32) × (levels ≡ map (λ (l : Lamp). actualLevel settings (l .level)) (take i lamps) ++ drop i levels₀)
+    (i ≤ maxLamps) × (levels ≡ map (λ (l : Lamp). actualLevel settings (l .level)) (take i lamps) ++ drop i levels₀)
 
 abbrev μ-loop : tie.MeasureT-loop
-μ-loop settings lamps levels₀ i₀ levels i = 32 - i
+μ-loop settings lamps levels₀ i₀ levels i = maxLamps - i
 
 loop-holds : tie.Need-loop-holds Inv-loop μ-loop
 loop-holds c = (omega arith, refl)
@@ -27,7 +28,7 @@ actual-level-requires c κs = let p = c .before .before .before .pre in (p .0, p
 loop-again : tie.Need-loop-again Inv-loop μ-loop
 loop-again c =
     let e = c .before .before .before .loop .inv .1 in
-    (omega arith, rw (c .actual-level .ensures) (map-more _ _ _ _ _ e off (omega arith) (omega arith)))
+    (omega arith, rw (c .actual-level .ensures) (map-next _ _ _ _ _ e off (omega arith) (omega arith)))
 
 returns : tie.Need-returns Inv-loop μ-loop
 unfolding actualLevels

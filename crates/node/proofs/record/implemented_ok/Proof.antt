@@ -1,4 +1,4 @@
--- `record::implemented_ok` meets its contract. The invariant: the verdict is that over the lamps before `i`.
+-- `record::implemented_ok` meets its contract. The invariant: `ok` is the test over the lamps before `i`.
 use borrow.Author.Needs.{needs}
 use Prim.Native.Nat.{_≤_, _-_}
 use mathlib.Core.Path.{_≡_, refl, sym, _∙_}

@@ -12,7 +12,7 @@ use Rattle.node.proofs.Nodes.{shape-test}
 use Rattle.node.proofs.record.node_ok.Statement.{statement}
 use Rattle.node.proofs.record.node_ok.Tie as tie
 
--- a node of the code has the right lengths
+-- the arrays of a node record have the right lengths
 shaped : (c : tie.Start) → shapeOk (c .args .node) ≡ true
 shaped c =
     shape-test _

@@ -1,3 +1,4 @@
+-- `confirm::confirm` meets its contract: one law for each return.
 use mathlib.Core.Path.{_≡_, sym, _∙_}
 use mathlib.Core.Bool.{true}
 use lib.ListN.{length}
@@ -5,7 +6,7 @@ use native.Mathlib.Omega.{arith}
 use borrow.Author.Tests.{not-true, not-false}
 use Rattle.dpa.specs.Frame.{frameFits}
 use Rattle.dpa.proofs.Headers.{fits-sizes}
-use Rattle.timing.proofs.Confirmations.{no-frame, no-room, answered}
+use Rattle.timing.proofs.Confirmations.{frame-refused, buffer-refused, confirmation-answered}
 use borrow.Author.Needs.{needs}
 use Rattle.timing.proofs.confirm.confirm.Statement.{statement}
 use Rattle.timing.proofs.confirm.confirm.Tie as tie
@@ -17,12 +18,12 @@ fits c = sym (c .before .fits2 .ensures) ∙ not-false _ (c .if1 .left)
 returns : tie.Need-returns
 returns c =
     let a = c .before .before .before .before .args in
-    no-frame (a .frame .now) (a .dpa-value) (a .hops) (a .response-hops) (a .network) (a .out .now) (sym (c .before .fits2 .ensures) ∙ not-true _ (c .if1 .taken))
+    frame-refused (a .frame .now) (a .dpa-value) (a .hops) (a .response-hops) (a .network) (a .out .now) (sym (c .before .fits2 .ensures) ∙ not-true _ (c .if1 .taken))
 
 returns-2 : tie.Need-returns-2
 returns-2 c =
     let a = c .before .before .before .before .before .args in
-    no-room (a .frame .now) (a .dpa-value) (a .hops) (a .response-hops) (a .network) (a .out .now) (fits (c .before)) (c .if2 .taken)
+    buffer-refused (a .frame .now) (a .dpa-value) (a .hops) (a .response-hops) (a .network) (a .out .now) (fits (c .before)) (c .if2 .taken)
 
 sub-slot-of : tie.Need-sub-slot-of
 sub-slot-of c = omega (arith, fits-sizes _ (fits (c .before)))
@@ -32,9 +33,11 @@ write-confirmation-requires c κs = (fits-sizes _ (fits (c .before .before .befo
 
 returns-3 : tie.Need-returns-3
 returns-3 c =
-    let a = c .before .before .before .before .before .before .before .before .before .before .args in
-    answered (a .frame .now) (a .dpa-value) (a .hops) (a .response-hops) (a .network) (a .out .now) (fits (c .before .before .before .before .before .before)) (c .before .before .before .before .before .if2 .left)
-    _ _ (c .before .before .before .before .slot-of .ensures) (c .before .before .write-confirmation .ensures)
+    let written = c .before .before in
+    let room = written .before .before .before in
+    let a = room .before .before .before .before .before .args in
+    confirmation-answered (a .frame .now) (a .dpa-value) (a .hops) (a .response-hops) (a .network) (a .out .now) (fits (room .before)) (room .if2 .left)
+    _ _ (written .before .before .slot-of .ensures) (written .write-confirmation .ensures)
 
 pub confirm-spec : {M : Type 1} → statement M
 confirm-spec =

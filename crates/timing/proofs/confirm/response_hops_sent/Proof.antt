@@ -1,3 +1,4 @@
+-- `confirm::response_hops_sent` meets its contract.
 use Rattle.dpa.specs.declared.frame.Frame.{Frame}
 use mathlib.Core.Path.{sym, ap, _∙_}
 use borrow.Author.Tests.{eq-eqb, ne-eqb}

@@ -1,3 +1,4 @@
+-- `slot::base_slot` meets its contract.
 use native.Mathlib.Omega.{arith}
 use borrow.Author.Tests.{lt-ltb, le-ltb, le-leb, lt-leb}
 use Rattle.timing.specs.Slot.{baseSlot}

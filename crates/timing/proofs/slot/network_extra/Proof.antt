@@ -1,3 +1,4 @@
+-- `slot::network_extra` meets its contract.
 use native.Mathlib.Omega.{arith}
 use mathlib.Core.Path.{refl}
 use Rattle.timing.specs.Slot.{networkExtra}

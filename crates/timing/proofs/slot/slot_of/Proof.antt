@@ -1,3 +1,4 @@
+-- `slot::slot_of` meets its contract.
 use Rattle.timing.specs.Slot.{slotOf}
 use borrow.Author.Needs.{needs}
 use Rattle.timing.proofs.slot.slot_of.Statement.{statement}

@@ -1,3 +1,4 @@
+-- `slot::timeslot` meets its contract.
 use borrow.Author.Tests.{lt-ltb, le-ltb}
 use Rattle.timing.specs.Slot.{timeslotOf}
 use borrow.Author.Needs.{needs}
