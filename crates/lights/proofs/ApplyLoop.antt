@@ -11,8 +11,8 @@ use Rattle.dpa.specs.Lists.{overwriteFront}
 use Rattle.dpa.specs.Reply.{reply, replySeen, replyInBuffer}
 use Rattle.dpa.specs.declared.settings.Settings.{Settings}
 use Rattle.dpa.proofs.Lists.{kept-next, kept-more, front-written}
-use Rattle.lights.specs.Bits.{bits, count}
-use Rattle.lights.specs.Lamp.{off, LevelsInRange, actualLevel}
+use Rattle.lights.specs.Bits.{bitmapSize, bits, count}
+use Rattle.lights.specs.Lamp.{maxLevel, maxLamps, off, LevelsInRange, actualLevel}
 use Rattle.lights.specs.Lights.{PowerEntries, firstPowerEntry, isValid, prepend, powerEntries, areValid, lampAfter, lampsAfter, levelsBefore, levelsReply}
 use Rattle.lights.proofs.Bits.{bits-length, bits-more, bits-inside, bits-half}
 use Rattle.lights.proofs.PowerEntries.{changesOf, valid-changes, first-valid, valid-prepend, changes-prepend, first-room}
@@ -25,30 +25,30 @@ use Rattle.lights.specs.declared.power.PowerEntry.the-variants.{Valid}
 
 -- the entries that are left at lamp i, read from a place on
 abbrev pub entriesFrom : List ℕ → ℕ → ℕ → ℕ → PowerEntries
-entriesFrom src i m at = powerEntries (count (bits (32 - i) m)) (drop at src)
+entriesFrom src i m at = powerEntries (count (bits (maxLamps - i) m)) (drop at src)
 
 -- the walk over lamps ls and a lent buffer old: lamps below i and bytes below k are as they will be, the others as they were
 pub record ApplyLoop (s : Settings) (c : Command) (mask : ℕ) (src : List ℕ) (ls : List Lamp) (old : List ℕ) (n : ℕ)
     (after : List Lamp) (out : List ℕ) (m at k i : ℕ) : Type 0 where
   pub count-is : n ≡ s .«lamp_count»
-  pub lamps-length : length ls ≡ 32
-  pub after-length : length after ≡ 32
+  pub lamps-length : length ls ≡ maxLamps
+  pub after-length : length after ≡ maxLamps
   pub after-unchanged : drop i after ≡ drop i ls
-  pub old-length : 32 ≤ length old
+  pub old-length : maxLamps ≤ length old
   pub out-length : length out ≡ length old
   pub out-unchanged : drop k out ≡ drop k old
-  pub i-max : i ≤ 32
+  pub i-max : i ≤ maxLamps
   pub k-max : k ≤ i
   pub at-max : at ≤ length src
-  pub mask-max : m < 2 ^ (32 - i)
-  pub all-valid : areValid (entriesFrom src 0 mask 4) ≡ true
+  pub mask-max : m < 2 ^ (maxLamps - i)
+  pub all-valid : areValid (entriesFrom src 0 mask bitmapSize) ≡ true
   pub valid : areValid (entriesFrom src i m at) ≡ true
-  pub lamps : lampsAfter c n (bits 32 mask) (changesOf (entriesFrom src 0 mask 4)) ls ≡ lampsFrom c n i m (changesOf (entriesFrom src i m at)) after
-  pub levels : levelsBefore s n (bits 32 mask) ls ≡ take k out ++ levelsFrom s n ls i m
+  pub lamps : lampsAfter c n (bits maxLamps mask) (changesOf (entriesFrom src 0 mask bitmapSize)) ls ≡ lampsFrom c n i m (changesOf (entriesFrom src i m at)) after
+  pub levels : levelsBefore s n (bits maxLamps mask) ls ≡ take k out ++ levelsFrom s n ls i m
 
 module _ (s : Settings) (c : Command) (mask : ℕ) (src : List ℕ) (ls : List Lamp) (old : List ℕ) (n : ℕ) where
-  pub apply-start : n ≡ s .«lamp_count» → length ls ≡ 32 → 32 ≤ length old → 4 ≤ length src → mask < 2 ^ 32 → areValid (entriesFrom src 0 mask 4) ≡ true
-      → ApplyLoop s c mask src ls old n ls old mask 4 0 0
+  pub apply-start : n ≡ s .«lamp_count» → length ls ≡ maxLamps → maxLamps ≤ length old → bitmapSize ≤ length src → mask < 2 ^ 32 → areValid (entriesFrom src 0 mask bitmapSize) ≡ true
+      → ApplyLoop s c mask src ls old n ls old mask bitmapSize 0 0
   apply-start e l o h b g =
       let z : n - 0 ≡ n = omega arith in
       record {
@@ -72,19 +72,19 @@ module _ (s : Settings) (c : Command) (mask : ℕ) (src : List ℕ) (ls : List L
 module _ {s : Settings} {c : Command} {mask : ℕ} {src : List ℕ} {ls : List Lamp} {old : List ℕ} {n : ℕ} {after : List Lamp} {out : List ℕ}
     {m at k i : ℕ} (w : ApplyLoop s c mask src ls old n after out m at k i) where
   -- no lamp is left: the request is answered
-  pub apply-end : m ≡ 0 → replySeen after 0 (count (bits 32 mask)) out ≡ replyInBuffer (levelsReply s c (bits 32 mask) ls (entriesFrom src 0 mask 4)) old
+  pub apply-end : m ≡ 0 → replySeen after 0 (count (bits maxLamps mask)) out ≡ replyInBuffer (levelsReply s c (bits maxLamps mask) ls (entriesFrom src 0 mask bitmapSize)) old
   apply-end z =
-      let bs : List ℕ = bits 32 mask in
-      let es : List LampChange = changesOf (entriesFrom src 0 mask 4) in
+      let bs : List ℕ = bits maxLamps mask in
+      let es : List LampChange = changesOf (entriesFrom src 0 mask bitmapSize) in
       let p : lampsAfter c n bs es ls ≡ after =
       w .lamps ∙ ap (λ (j : ℕ). lampsFrom c n i j (changesOf (entriesFrom src i m at)) after) z ∙ lamps-from-end c n i _ after in
       let v : levelsBefore s n bs ls ≡ take k out =
       w .levels ∙ ap (λ (j : ℕ). take k out ++ levelsFrom s n ls i j) z ∙ ap (λ (x : List ℕ). take k out ++ x) (levels-from-end s n ls i) ∙ append-nil (take k out) in
       let o : out ≡ overwriteFront (levelsBefore s n bs ls) old = front-written _ out old k (omega (arith, w .k-max, w .i-max, w .out-length, w .old-length)) v (w .out-unchanged) in
-      let t : count bs ≡ length (levelsBefore s n bs ls) = sym (levels-length s n bs ls (omega (arith, bits-length 32 mask, w .lamps-length))) in
+      let t : count bs ≡ length (levelsBefore s n bs ls) = sym (levels-length s n bs ls (omega (arith, bits-length maxLamps mask, w .lamps-length))) in
       (λ j. replySeen (sym p j) 0 (t j) (o j))
       ∙ ap (λ (j : ℕ). replyInBuffer (reply (lampsAfter c j bs es ls) 0 (levelsBefore s j bs ls)) old) (w .count-is)
-      ∙ ap (λ (r : PowerEntries). replyInBuffer (levelsReply s c bs ls r) old) (sym (valid-changes (entriesFrom src 0 mask 4) (w .all-valid)))
+      ∙ ap (λ (r : PowerEntries). replyInBuffer (levelsReply s c bs ls r) old) (sym (valid-changes (entriesFrom src 0 mask bitmapSize) (w .all-valid)))
 
   -- the lamp at the turn's place is as it was
   lamp-unchanged : getD after i off ≡ getD ls i off
@@ -93,12 +93,12 @@ module _ {s : Settings} {c : Command} {mask : ℕ} {src : List ℕ} {ls : List L
       subst (λ (j : ℕ). getD after j off ≡ getD ls j off) z
       (sym (getD-drop i after 0 off) ∙ ap (λ (xs : List Lamp). getD xs 0 off) (w .after-unchanged) ∙ getD-drop i ls 0 off)
 
-  pub apply-level-max : LevelsInRange ls → getD after i off .level ≤ 100
+  pub apply-level-max : LevelsInRange ls → getD after i off .level ≤ maxLevel
   apply-level-max d = rw lamp-unchanged (d i)
 
   module _ (some : m ≡ 0 → ⊥) where
     -- where a bit is left, so is its lamp
-    pub apply-inside : i < 32
+    pub apply-inside : i < maxLamps
     apply-inside = bits-inside i m (w .mask-max) some
 
     -- and a byte for its level
@@ -129,12 +129,12 @@ module _ {s : Settings} {c : Command} {mask : ℕ} {src : List ℕ} {ls : List L
         }
 
     module _ (z : m % 2 ≡ 1) where
-      entries-first : entriesFrom src i m at ≡ powerEntries (suc (count (bits (32 - (i + 1)) (m / 2)))) (drop at src)
+      entries-first : entriesFrom src i m at ≡ powerEntries (suc (count (bits (maxLamps - (i + 1)) (m / 2)))) (drop at src)
       entries-first = rw (bits-more i m apply-inside, z)
 
       pub apply-first-valid : isValid (firstPowerEntry (drop at src)) ≡ true
       apply-first-valid =
-          first-valid (firstPowerEntry (drop at src)) (λ size. powerEntries (count (bits (32 - (i + 1)) (m / 2))) (drop size (drop at src)))
+          first-valid (firstPowerEntry (drop at src)) (λ size. powerEntries (count (bits (maxLamps - (i + 1)) (m / 2))) (drop size (drop at src)))
           (ap areValid (sym entries-first) ∙ w .valid)
 
       module _ (e : LampChange) (size : ℕ) (q : firstPowerEntry (drop at src) ≡ Valid e size) where
@@ -147,7 +147,7 @@ module _ {s : Settings} {c : Command} {mask : ℕ} {src : List ℕ} {ls : List L
         next-valid : areValid (entriesFrom src (i + 1) (m / 2) (at + size)) ≡ true
         next-valid = sym (valid-prepend e (entriesFrom src (i + 1) (m / 2) (at + size))) ∙ ap areValid (sym entries-next) ∙ w .valid
 
-        apply-selected : (after' : List Lamp) (v : ℕ) → length after' ≡ 32 → drop (i + 1) after' ≡ drop (i + 1) ls
+        apply-selected : (after' : List Lamp) (v : ℕ) → length after' ≡ maxLamps → drop (i + 1) after' ≡ drop (i + 1) ls
             → v ≡ cond (ltb 0 (n - i)) (actualLevel s (getD ls i off .level)) 0
             → ((es : List LampChange) → lampsFrom c n i m (e ∷ es) after ≡ lampsFrom c n (i + 1) (m / 2) es after')
             → ApplyLoop s c mask src ls old n after' (set out k v) (m / 2) (at + size) (k + 1) (i + 1)

@@ -14,6 +14,7 @@ use lib.Dec.{ltb}
 use borrow.Author.Tests.{ltb-true, ltb-false}
 use Rattle.dpa.specs.Lists.{Bytes}
 use Rattle.dpa.proofs.Bool.{by-test}
+use Rattle.lights.specs.Lamp.{maxLamps}
 use Rattle.lights.specs.Bits.{bits, count, bitmap, maskOf}
 
 pub count-cons : (b : ℕ) (bs : List ℕ) → b < 2 → count (b ∷ bs) ≡ b + count bs
@@ -58,7 +59,7 @@ bits-cat (suc k) j a r h =
     ∙ ap (λ (l : List ℕ). r % 2 ∷ l) (bits-cat k j a (r / 2) (half-lt k r h))
 
 -- the digits of the mask are the bitmap's
-pub bits-mask : (xs : List ℕ) → Bytes xs → bits 32 (maskOf xs) ≡ bitmap xs
+pub bits-mask : (xs : List ℕ) → Bytes xs → bits maxLamps (maskOf xs) ≡ bitmap xs
 unfolding bitmap
 bits-mask xs small =
     let b0 = getD xs 0 0 in
@@ -68,27 +69,27 @@ bits-mask xs small =
     let e : maskOf xs ≡ (b1 + 256 * b2 + 65536 * b3) * 256 + b0 = omega arith in
     let f : b1 + 256 * b2 + 65536 * b3 ≡ (b2 + 256 * b3) * 256 + b1 = omega arith in
     let g : b2 + 256 * b3 ≡ b3 * 256 + b2 = omega arith in
-    ap (bits 32) e
+    ap (bits maxLamps) e
     ∙ bits-cat 8 24 (b1 + 256 * b2 + 65536 * b3) b0 (small 0)
     ∙ ap (λ (l : List ℕ). bits 8 b0 ++ l)
     (ap (bits 24) f ∙ bits-cat 8 16 (b2 + 256 * b3) b1 (small 1)
     ∙ ap (λ (l : List ℕ). bits 8 b1 ++ l) (ap (bits 16) g ∙ bits-cat 8 8 b3 b2 (small 2)))
 
 -- the digits that are left at lamp i: its own, and those that are left at the next lamp
-pub bits-more : (i m : ℕ) → i < 32 → bits (32 - i) m ≡ m % 2 ∷ bits (32 - (i + 1)) (m / 2)
+pub bits-more : (i m : ℕ) → i < maxLamps → bits (maxLamps - i) m ≡ m % 2 ∷ bits (maxLamps - (i + 1)) (m / 2)
 unfolding bits
 bits-more i m h =
-    let j : 32 - i ≡ suc (32 - (i + 1)) = omega arith in
+    let j : maxLamps - i ≡ suc (maxLamps - (i + 1)) = omega arith in
     rw j
 
 -- where a bit is left, so is its lamp
-pub bits-inside : (i m : ℕ) → m < 2 ^ (32 - i) → (m ≡ 0 → ⊥) → i < 32
+pub bits-inside : (i m : ℕ) → m < 2 ^ (maxLamps - i) → (m ≡ 0 → ⊥) → i < maxLamps
 bits-inside i m h some =
-    by-test (ltb i 32) (ltb-true i 32)
-    (λ t. let j : 32 - i ≡ 0 = omega (arith, ltb-false i 32 t) in
+    by-test (ltb i maxLamps) (ltb-true i maxLamps)
+    (λ t. let j : maxLamps - i ≡ 0 = omega (arith, ltb-false i maxLamps t) in
     absurd (some (lt-one (subst (λ (x : ℕ). m < 2 ^ x) j h))))
 
-pub bits-half : (i m : ℕ) → i < 32 → m < 2 ^ (32 - i) → m / 2 < 2 ^ (32 - (i + 1))
+pub bits-half : (i m : ℕ) → i < maxLamps → m < 2 ^ (maxLamps - i) → m / 2 < 2 ^ (maxLamps - (i + 1))
 bits-half i m l h =
-    let j : 32 - i ≡ suc (32 - (i + 1)) = omega arith in
-    half-lt (32 - (i + 1)) m (subst (λ (x : ℕ). m < 2 ^ x) j h)
+    let j : maxLamps - i ≡ suc (maxLamps - (i + 1)) = omega arith in
+    half-lt (maxLamps - (i + 1)) m (subst (λ (x : ℕ). m < 2 ^ x) j h)

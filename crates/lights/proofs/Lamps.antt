@@ -11,7 +11,7 @@ use Rattle.dpa.specs.Settings.{stepOk, settingsOk}
 use Rattle.dpa.proofs.Bool.{and-left, and-right, both, by-cond, by-test}
 use Rattle.dpa.proofs.Ranges.{step-pos, step-rem, settings-facts}
 use Rattle.lights.specs.declared.lamp.Lamp.{Lamp}
-use Rattle.lights.specs.Lamp.{lamp, off, lampOk, LampRule, lampZero, lampFits, actualLevel, tickLamp}
+use Rattle.lights.specs.Lamp.{maxLevel, maxSeconds, lamp, off, lampOk, LampRule, lampZero, lampFits, actualLevel, tickLamp}
 
 -- The lamp's rule, as a test and as facts
 
@@ -19,11 +19,11 @@ use Rattle.lights.specs.Lamp.{lamp, off, lampOk, LampRule, lampZero, lam
 pub lamp-facts : (l : Lamp) → lampOk l ≡ true → LampRule l
 unfolding lampOk
 lamp-facts l e =
-    let ab : (leb (l .level) 100 && leb (l .seconds) 7620) ≡ true = and-left _ _ e in
-    let c : (not (eqb (l .level) 0) || eqb (l .seconds) 0) ≡ true = and-right (leb (l .level) 100 && leb (l .seconds) 7620) _ e in
+    let ab : (leb (l .level) maxLevel && leb (l .seconds) maxSeconds) ≡ true = and-left _ _ e in
+    let c : (not (eqb (l .level) 0) || eqb (l .seconds) 0) ≡ true = and-right (leb (l .level) maxLevel && leb (l .seconds) maxSeconds) _ e in
     record {
       level-max = leb-true _ _ (and-left _ _ ab);
-      seconds-max = leb-true _ _ (and-right (leb (l .level) 100) _ ab);
+      seconds-max = leb-true _ _ (and-right (leb (l .level) maxLevel) _ ab);
       seconds-off = λ z. eqb-true _ _ (rw (eq-eqb (l .level) 0 z) at c);
     }
 
@@ -128,7 +128,7 @@ module _ (s : Settings) (h : settingsOk s ≡ true) where
       omega arith
 
   -- it is at most 100
-  pub actual-max : (level : ℕ) → level ≤ 100 → actualLevel s level ≤ 100
+  pub actual-max : (level : ℕ) → level ≤ maxLevel → actualLevel s level ≤ maxLevel
   actual-max level l = actual-least level 100 step-of-100 l
 
   -- a lamp that is off is seen off

@@ -10,7 +10,7 @@ use lib.Seq.{drop-cons, drop-drop}
 use lib.Dec.{ltb, eqb}
 use borrow.Author.Tests.{lt-ltb, le-ltb, ltb-true, ltb-false, eq-eqb, ne-eqb}
 use Rattle.dpa.proofs.Bool.{by-test}
-use Rattle.lights.specs.Lights.{powerOk, timeOk, secondsOf, change, timedPowerEntry, firstPowerEntry, isValid, PowerEntries, allValid, malformed, prepend, followedBy, powerEntries, areValid}
+use Rattle.lights.specs.Lights.{bit7, powerOk, timeOk, secondsOf, change, timedPowerEntry, firstPowerEntry, isValid, PowerEntries, allValid, malformed, prepend, followedBy, powerEntries, areValid}
 use Rattle.lights.specs.declared.power.LampChange.{LampChange}
 use Rattle.lights.specs.declared.power.PowerEntry.{PowerEntry}
 use Rattle.lights.specs.declared.power.PowerEntry.the-variants.{Valid, Invalid}
@@ -28,20 +28,20 @@ module _ (src : List ℕ) (at : ℕ) where
   power-entry-past-end h = rw (drop-of-length-le src h)
 
   module _ (h : at < length src) where
-    pub power-entry-bad-power : powerOk (byte % 128) ≡ false → Invalid ≡ firstPowerEntry (drop at src)
+    pub power-entry-bad-power : powerOk (byte % bit7) ≡ false → Invalid ≡ firstPowerEntry (drop at src)
     power-entry-bad-power p = rw (drop-cons src at 0, p)
 
-    module _ (p : powerOk (byte % 128) ≡ true) where
-      pub power-entry-untimed : byte < 128 → Valid (change (byte % 128) 0) 1 ≡ firstPowerEntry (drop at src)
-      power-entry-untimed l = rw (drop-cons src at 0, p, lt-ltb byte 128 l)
+    module _ (p : powerOk (byte % bit7) ≡ true) where
+      pub power-entry-untimed : byte < bit7 → Valid (change (byte % bit7) 0) 1 ≡ firstPowerEntry (drop at src)
+      power-entry-untimed l = rw (drop-cons src at 0, p, lt-ltb byte bit7 l)
 
-      module _ (l : 128 ≤ byte) where
+      module _ (l : bit7 ≤ byte) where
         pub power-entry-no-time : length src ≤ at + 1 → Invalid ≡ firstPowerEntry (drop at src)
-        power-entry-no-time g = rw (drop-cons src at 0, p, le-ltb byte 128 l, ← add-one at, drop-of-length-le src g)
+        power-entry-no-time g = rw (drop-cons src at 0, p, le-ltb byte bit7 l, ← add-one at, drop-of-length-le src g)
 
         pub power-entry-timed : at + 1 < length src → (ok : Bool) → timeOk time ≡ ok
-            → cond ok (Valid (change (byte % 128) (secondsOf time)) 2) Invalid ≡ firstPowerEntry (drop at src)
-        power-entry-timed g ok e = rw (drop-cons src at 0, p, le-ltb byte 128 l, ← add-one at, drop-cons src (at + 1) 0, e)
+            → cond ok (Valid (change (byte % bit7) (secondsOf time)) 2) Invalid ≡ firstPowerEntry (drop at src)
+        power-entry-timed g ok e = rw (drop-cons src at 0, p, le-ltb byte bit7 l, ← add-one at, drop-cons src (at + 1) 0, e)
 
 -- ---- a valid entry: one law for each test that it passes
 
@@ -52,21 +52,21 @@ module _ (src : List ℕ) (at : ℕ) (v : isValid (firstPowerEntry (drop at src)
   pub valid-inside : at < length src
   valid-inside = by-test (ltb at (length src)) (ltb-true _ _) (λ t. not-invalid (power-entry-past-end src at (ltb-false _ _ t)))
 
-  valid-power : powerOk (getD src at 0 % 128) ≡ true
-  valid-power = by-test (powerOk (getD src at 0 % 128)) (λ t. t) (λ t. not-invalid (power-entry-bad-power src at valid-inside t))
+  valid-power : powerOk (getD src at 0 % bit7) ≡ true
+  valid-power = by-test (powerOk (getD src at 0 % bit7)) (λ t. t) (λ t. not-invalid (power-entry-bad-power src at valid-inside t))
 
-  pub valid-untimed : getD src at 0 < 128 → firstPowerEntry (drop at src) ≡ Valid (change (getD src at 0 % 128) 0) 1
+  pub valid-untimed : getD src at 0 < bit7 → firstPowerEntry (drop at src) ≡ Valid (change (getD src at 0 % bit7) 0) 1
   valid-untimed l = sym (power-entry-untimed src at valid-inside valid-power l)
 
-  module _ (l : 128 ≤ getD src at 0) where
+  module _ (l : bit7 ≤ getD src at 0) where
     pub valid-time-inside : at + 1 < length src
     valid-time-inside =
         by-test (ltb (at + 1) (length src)) (ltb-true _ _) (λ t. not-invalid (power-entry-no-time src at valid-inside valid-power l (ltb-false _ _ t)))
 
-    pub valid-timed : firstPowerEntry (drop at src) ≡ Valid (change (getD src at 0 % 128) (secondsOf (getD src (at + 1) 0))) 2
+    pub valid-timed : firstPowerEntry (drop at src) ≡ Valid (change (getD src at 0 % bit7) (secondsOf (getD src (at + 1) 0))) 2
     valid-timed =
         let timed : (ok : Bool) → timeOk (getD src (at + 1) 0) ≡ ok
-        → cond ok (Valid (change (getD src at 0 % 128) (secondsOf (getD src (at + 1) 0))) 2) Invalid ≡ firstPowerEntry (drop at src)
+        → cond ok (Valid (change (getD src at 0 % bit7) (secondsOf (getD src (at + 1) 0))) 2) Invalid ≡ firstPowerEntry (drop at src)
         = power-entry-timed src at valid-inside valid-power l valid-time-inside in
         by-test (timeOk (getD src (at + 1) 0)) (λ t. sym (timed true t)) (λ t. not-invalid (timed false t))
 
@@ -106,7 +106,7 @@ first-valid Invalid rest g = g
 -- an entry is no longer than the bytes that it is read from
 first-size : (xs : List ℕ) (e : LampChange) (size : ℕ) → firstPowerEntry xs ≡ Valid e size → size ≤ length xs
 first-size [] e size h = let z : _≡_ {A = ℕ} 0 1 = cc in absurd (omega arith)
-first-size (b ∷ xs) e size h = go (powerOk (b % 128)) (ltb b 128) xs h
+first-size (b ∷ xs) e size h = go (powerOk (b % bit7)) (ltb b bit7) xs h
   where
     none : (ys : List ℕ) → Invalid ≡ Valid e size → size ≤ length ys
     none ys q = let z : _≡_ {A = ℕ} 0 1 = cc in absurd (omega arith)
@@ -115,10 +115,10 @@ first-size (b ∷ xs) e size h = go (powerOk (b % 128)) (ltb b 128) xs h
     last t s ys true q = let w : 2 ≡ size = cc in omega arith
     last t s ys false q = none (t ∷ (t ∷ ys)) q
 
-    go : (p q : Bool) (ys : List ℕ) → cond p (cond q (Valid (change (b % 128) 0) 1) (timedPowerEntry (b % 128) ys)) Invalid ≡ Valid e size → size ≤ suc (length ys)
+    go : (p q : Bool) (ys : List ℕ) → cond p (cond q (Valid (change (b % bit7) 0) 1) (timedPowerEntry (b % bit7) ys)) Invalid ≡ Valid e size → size ≤ suc (length ys)
     go true true ys r = let w : 1 ≡ size = cc in omega arith
     go true false [] r = none (b ∷ []) r
-    go true false (t ∷ ys) r = last (b % 128) (secondsOf t) ys (timeOk t) r
+    go true false (t ∷ ys) r = last (b % bit7) (secondsOf t) ys (timeOk t) r
     go false q ys r = none (b ∷ ys) r
 
 pub first-room : (src : List ℕ) (at : ℕ) (e : LampChange) (size : ℕ) → firstPowerEntry (drop at src) ≡ Valid e size → size ≤ length src - at

@@ -9,7 +9,8 @@ use borrow.Author.Tests.{lt-ltb, le-ltb, ne-eqb}
 use Rattle.dpa.specs.Lists.{Bytes}
 use Rattle.dpa.specs.Reply.{Reply, refused, replySeen, replyInBuffer}
 use Rattle.dpa.specs.declared.settings.Settings.{Settings}
-use Rattle.lights.specs.Bits.{bits, count, bitmap, maskOf}
+use Rattle.lights.specs.Lamp.{maxLamps}
+use Rattle.lights.specs.Bits.{bitmapSize, bits, count, bitmap, maskOf}
 use Rattle.lights.specs.Lights.{powerEntries, areValid, levelsBefore, levelsReply, commandOf, changeLamps, enumerateLamps, lightsRequest}
 use Rattle.lights.proofs.Bits.{bits-mask}
 use Rattle.lights.proofs.PowerEntries.{not-valid-malformed}
@@ -33,26 +34,26 @@ levels-length s n (suc b ∷ bs) (l ∷ ls) h = ap suc (levels-length s (n - 1) 
 
 module _ (s : Settings) (c : Command) (xs : List ℕ) (ls : List Lamp) where
   -- under four bytes
-  pub change-no-bitmap : length xs < 4 → changeLamps s c xs ls ≡ refused ls 6
+  pub change-no-bitmap : length xs < bitmapSize → changeLamps s c xs ls ≡ refused ls 6
   unfolding changeLamps
-  change-no-bitmap h = rw (lt-ltb (length xs) 4 h)
+  change-no-bitmap h = rw (lt-ltb (length xs) bitmapSize h)
 
   -- four bytes and more: the answer goes by the entries behind the bitmap
-  pub change-entries : 4 ≤ length xs → changeLamps s c xs ls ≡ levelsReply s c (bitmap xs) ls (powerEntries (count (bitmap xs)) (drop 4 xs))
+  pub change-entries : bitmapSize ≤ length xs → changeLamps s c xs ls ≡ levelsReply s c (bitmap xs) ls (powerEntries (count (bitmap xs)) (drop bitmapSize xs))
   unfolding changeLamps
-  change-entries h = rw (le-ltb (length xs) 4 h)
+  change-entries h = rw (le-ltb (length xs) bitmapSize h)
 
-  module _ (m k : ℕ) (h : 4 ≤ length xs) (small : Bytes xs) (w : m ≡ maskOf xs) (q : k ≡ count (bits 32 m)) where
-    change-by-mask : changeLamps s c xs ls ≡ levelsReply s c (bits 32 m) ls (powerEntries k (drop 4 xs))
+  module _ (m k : ℕ) (h : bitmapSize ≤ length xs) (small : Bytes xs) (w : m ≡ maskOf xs) (q : k ≡ count (bits maxLamps m)) where
+    change-by-mask : changeLamps s c xs ls ≡ levelsReply s c (bits maxLamps m) ls (powerEntries k (drop bitmapSize xs))
     change-by-mask = rw (q, w, bits-mask xs small) (change-entries h)
 
     -- entries that are not all valid
-    pub change-malformed : areValid (powerEntries k (drop 4 xs)) ≡ false → changeLamps s c xs ls ≡ refused ls 6
-    change-malformed e = change-by-mask ∙ ap (levelsReply s c (bits 32 m) ls) (not-valid-malformed (powerEntries k (drop 4 xs)) e)
+    pub change-malformed : areValid (powerEntries k (drop bitmapSize xs)) ≡ false → changeLamps s c xs ls ≡ refused ls 6
+    change-malformed e = change-by-mask ∙ ap (levelsReply s c (bits maxLamps m) ls) (not-valid-malformed (powerEntries k (drop bitmapSize xs)) e)
 
     -- what the walk over valid entries leaves
     pub change-applied : (after : List Lamp) (out old : List ℕ)
-        → replySeen after 0 (count (bits 32 m)) out ≡ replyInBuffer (levelsReply s c (bits 32 m) ls (powerEntries (count (bits 32 m)) (drop 4 xs))) old
+        → replySeen after 0 (count (bits maxLamps m)) out ≡ replyInBuffer (levelsReply s c (bits maxLamps m) ls (powerEntries (count (bits maxLamps m)) (drop bitmapSize xs))) old
         → replySeen after 0 k out ≡ replyInBuffer (changeLamps s c xs ls) old
     change-applied after out old p = rw (change-by-mask, q) p
 

@@ -10,8 +10,8 @@ use borrow.Author.Tests.{ltb-false}
 use Rattle.dpa.specs.Reply.{Harmless, Reply, reply, refused}
 use Rattle.dpa.proofs.Bool.{by-cond}
 use Rattle.dpa.specs.declared.settings.Settings.{Settings}
-use Rattle.lights.specs.Bits.{count, bitmap, isOne, selected, numberBelow}
-use Rattle.lights.specs.Lamp.{off, lampFits, LampRule, actualLevel}
+use Rattle.lights.specs.Bits.{bitmapSize, count, bitmap, isOne, selected, numberBelow}
+use Rattle.lights.specs.Lamp.{maxLamps, off, lampFits, LampRule, actualLevel}
 use Rattle.lights.specs.Lights.{PowerEntries, allValid, malformed, powerEntries, lampsAfter, levelsBefore, levelsReply, changeLamps, enumerateLamps, lightsRequest}
 use Rattle.lights.proofs.Lamps.{fits-test, fits-rule, fits-above, zero-facts}
 use Rattle.lights.proofs.Bits.{count-length}
@@ -27,7 +27,7 @@ use Rattle.lights.specs.declared.power.LampChange.{LampChange}
 
 -- the entries that PData holds, and lamp k's own among them
 abbrev pub changesIn : List ℕ → List LampChange
-changesIn xs = changesOf (powerEntries (count (bitmap xs)) (drop 4 xs))
+changesIn xs = changesOf (powerEntries (count (bitmap xs)) (drop bitmapSize xs))
 
 abbrev pub changeFor : List ℕ → ℕ → LampChange
 changeFor xs k = getD (changesIn xs) (numberBelow k (selected xs)) zeroChange
@@ -35,14 +35,14 @@ changeFor xs k = getD (changesIn xs) (numberBelow k (selected xs)) zeroChange
 module _ (s : Settings) (xs : List ℕ) (ls : List Lamp) where
   -- a request to change lamps is refused with 6, or its entries are all valid
   pub change-cases : (c : Command) (P : Reply (List Lamp) → Type 0) → P (refused ls 6)
-      → ((es : List LampChange) → 4 ≤ length xs → powerEntries (count (bitmap xs)) (drop 4 xs) ≡ allValid es
+      → ((es : List LampChange) → bitmapSize ≤ length xs → powerEntries (count (bitmap xs)) (drop bitmapSize xs) ≡ allValid es
       → P (reply (lampsAfter c (s .«lamp_count») (bitmap xs) es ls) 0 (levelsBefore s (s .«lamp_count») (bitmap xs) ls)))
       → P (changeLamps s c xs ls)
   unfolding changeLamps
   change-cases c P f g =
-      by-cond P (ltb (length xs) 4) _ _ (λ t. f) (λ t. go (powerEntries (count (bitmap xs)) (drop 4 xs)) refl (ltb-false _ _ t))
+      by-cond P (ltb (length xs) bitmapSize) _ _ (λ t. f) (λ t. go (powerEntries (count (bitmap xs)) (drop bitmapSize xs)) refl (ltb-false _ _ t))
     where
-      go : (r : PowerEntries) → powerEntries (count (bitmap xs)) (drop 4 xs) ≡ r → 4 ≤ length xs → P (levelsReply s c (bitmap xs) ls r)
+      go : (r : PowerEntries) → powerEntries (count (bitmap xs)) (drop bitmapSize xs) ≡ r → bitmapSize ≤ length xs → P (levelsReply s c (bitmap xs) ls r)
       go (allValid es) e h = g es h e
       go malformed e h = f
 
@@ -50,7 +50,7 @@ module _ (s : Settings) (xs : List ℕ) (ls : List Lamp) where
   pub request-cases : (p : ℕ) (P : Reply (List Lamp) → Type 0)
       → ((e : ℕ) → (e ≡ 0 → ⊥) → P (refused ls e))
       → P (reply ls 0 (s .«lamp_count» ∷ []))
-      → ((c : Command) (es : List LampChange) → 4 ≤ length xs → powerEntries (count (bitmap xs)) (drop 4 xs) ≡ allValid es
+      → ((c : Command) (es : List LampChange) → bitmapSize ≤ length xs → powerEntries (count (bitmap xs)) (drop bitmapSize xs) ≡ allValid es
       → P (reply (lampsAfter c (s .«lamp_count») (bitmap xs) es ls) 0 (levelsBefore s (s .«lamp_count») (bitmap xs) ls)))
       → P (lightsRequest s p xs ls)
   unfolding lightsRequest enumerateLamps
@@ -75,29 +75,29 @@ module _ (s : Settings) (xs : List ℕ) (ls : List Lamp) where
       request-cases p (λ (x : Reply (List Lamp)). length (x .after) ≡ length ls)
       (λ e n. refl) refl (λ c es l e. lamps-length c (s .«lamp_count») (bitmap xs) es ls)
 
-  module _ (full : length ls ≡ 32) where
+  module _ (full : length ls ≡ maxLamps) where
     fits-map : length (bitmap xs) ≤ length ls
     fits-map = omega (arith, bitmap-length xs)
 
-    enough : (es : List LampChange) → powerEntries (count (bitmap xs)) (drop 4 xs) ≡ allValid es → count (bitmap xs) ≤ length es
-    enough es e = omega (arith, power-entries-length (count (bitmap xs)) (drop 4 xs) es e)
+    enough : (es : List LampChange) → powerEntries (count (bitmap xs)) (drop bitmapSize xs) ≡ allValid es → count (bitmap xs) ≤ length es
+    enough es e = omega (arith, power-entries-length (count (bitmap xs)) (drop bitmapSize xs) es e)
 
     -- a successful change answers a byte for each selected lamp
-    pub answer-length : (c : Command) → changeLamps s c xs ls .error ≡ 0 → length (changeLamps s c xs ls .bytes) ≡ numberBelow 32 (selected xs)
+    pub answer-length : (c : Command) → changeLamps s c xs ls .error ≡ 0 → length (changeLamps s c xs ls .bytes) ≡ numberBelow maxLamps (selected xs)
     answer-length c =
-        change-cases c (λ (x : Reply (List Lamp)). x .error ≡ 0 → length (x .bytes) ≡ numberBelow 32 (selected xs))
+        change-cases c (λ (x : Reply (List Lamp)). x .error ≡ 0 → length (x .bytes) ≡ numberBelow maxLamps (selected xs))
         (λ z. absurd (omega arith))
         (λ es l e z. levels-length s (s .«lamp_count») (bitmap xs) ls fits-map ∙ count-selected xs)
 
     -- no answer has more than 32 bytes
-    pub answer-max : (p : ℕ) → length (lightsRequest s p xs ls .bytes) ≤ 32
+    pub answer-max : (p : ℕ) → length (lightsRequest s p xs ls .bytes) ≤ maxLamps
     answer-max p =
-        request-cases p (λ (x : Reply (List Lamp)). length (x .bytes) ≤ 32)
+        request-cases p (λ (x : Reply (List Lamp)). length (x .bytes) ≤ maxLamps)
         (λ e n. omega arith) (omega arith)
         (λ c es l e. omega (arith, levels-length s (s .«lamp_count») (bitmap xs) ls fits-map, count-length (bitmap xs), bitmap-length xs))
 
     -- each lamp after a successful change: by its own entry if it is selected and implemented, else as it was
-    pub lamp-at : (c : Command) (k : ℕ) → k < 32 → changeLamps s c xs ls .error ≡ 0
+    pub lamp-at : (c : Command) (k : ℕ) → k < maxLamps → changeLamps s c xs ls .error ≡ 0
         → getD (changeLamps s c xs ls .after) k off
         ≡ cond (selected xs k && ltb k (s .«lamp_count»)) (lampAfterEntry c (getD ls k off) (changeFor xs k)) (getD ls k off)
     lamp-at c k h =
@@ -113,7 +113,7 @@ module _ (s : Settings) (xs : List ℕ) (ls : List Lamp) where
         ∙ (λ i. cond (d i && ltb k (s .«lamp_count»)) (lampAfterEntry c l (getD (f i) (r i) zeroChange)) l))
 
     -- each selected lamp's actual level before a successful change is answered, 0 for an unimplemented lamp
-    pub level-at : (c : Command) (k : ℕ) → k < 32 → selected xs k ≡ true → changeLamps s c xs ls .error ≡ 0
+    pub level-at : (c : Command) (k : ℕ) → k < maxLamps → selected xs k ≡ true → changeLamps s c xs ls .error ≡ 0
         → getD (changeLamps s c xs ls .bytes) (numberBelow k (selected xs)) 0 ≡ cond (ltb k (s .«lamp_count»)) (actualLevel s (getD ls k off .level)) 0
     level-at c k h t =
         change-cases c
@@ -140,7 +140,7 @@ module _ (s : Settings) (xs : List ℕ) (ls : List Lamp) where
         fits-test n k (getD (lightsRequest s p xs ls .after) k off)
         (λ _. request-cases p (λ (x : Reply (List Lamp)). LampRule (getD (x .after) k off)) (λ e z. rule) rule
         (λ c es _ e.
-        let valid : (i : ℕ) → ChangeRule (getD es i zeroChange) = power-entries-rule (count (bitmap xs)) (drop 4 xs) es e in
+        let valid : (i : ℕ) → ChangeRule (getD es i zeroChange) = power-entries-rule (count (bitmap xs)) (drop bitmapSize xs) es e in
         rw (lamps-after-at c n (bitmap xs) es ls k fits-map (enough es e))
         (by-cond (λ (l : Lamp). LampRule l) (isOne (getD (bitmap xs) k 0) && ltb k n) _ _
         (λ _. lamp-after-rule c (getD ls k off) (getD es (count (take k (bitmap xs))) zeroChange) rule (valid (count (take k (bitmap xs)))))

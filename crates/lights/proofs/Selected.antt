@@ -12,6 +12,7 @@ use lib.Count.{ones}
 use borrow.Author.Tests.{ltb-true, ltb-false}
 use Rattle.dpa.specs.Lists.{Bytes}
 use Rattle.dpa.proofs.Bool.{by-test}
+use Rattle.lights.specs.Lamp.{maxLamps}
 use Rattle.lights.specs.Bits.{bits, count, bitmap, maskOf, isOne, selected, numberBelow}
 use Rattle.lights.proofs.Bits.{bits-length, bits-mask, ones-count}
 
@@ -34,7 +35,7 @@ rear-at b rest k h =
     let e : k ≡ length (bits 8 b) + (k - 8) = omega (arith, bits-length 8 b) in
     ap (λ (j : ℕ). getD (bits 8 b ++ rest) j 0) e ∙ getD-append-add (bits 8 b) rest (k - 8) 0
 
-pub bitmap-length : (xs : List ℕ) → length (bitmap xs) ≡ 32
+pub bitmap-length : (xs : List ℕ) → length (bitmap xs) ≡ maxLamps
 unfolding bitmap
 bitmap-length xs =
     let b : ℕ → List ℕ = λ i. bits 8 (getD xs i 0) in
@@ -44,7 +45,7 @@ bitmap-length xs =
     omega (arith, length-append (b 0) (b 1 ++ (b 2 ++ b 3)), e 0, g)
 
 -- digit k of the bitmap is bit k mod 8 of byte k / 8
-pub bitmap-at : (xs : List ℕ) (k : ℕ) → k < 32 → getD (bitmap xs) k 0 ≡ getD xs (k / 8) 0 / 2 ^ (k % 8) % 2
+pub bitmap-at : (xs : List ℕ) (k : ℕ) → k < maxLamps → getD (bitmap xs) k 0 ≡ getD xs (k / 8) 0 / 2 ^ (k % 8) % 2
 unfolding bitmap
 bitmap-at xs k h =
     let place : (q r : ℕ) → q ≡ k / 8 → r ≡ k % 8 → getD xs q 0 / 2 ^ r % 2 ≡ getD xs (k / 8) 0 / 2 ^ (k % 8) % 2 =
@@ -64,7 +65,7 @@ bitmap-at xs k h =
     rear-at _ _ (k - 8 - 8) (omega arith) ∙ bit-at 8 _ (k - 8 - 8 - 8) (omega arith) ∙ place 3 (k - 8 - 8 - 8) (omega arith) (omega arith))))
 
 -- lamp k is selected where its digit is 1
-pub selected-digit : (xs : List ℕ) (k : ℕ) → k < 32 → isOne (getD (bitmap xs) k 0) ≡ selected xs k
+pub selected-digit : (xs : List ℕ) (k : ℕ) → k < maxLamps → isOne (getD (bitmap xs) k 0) ≡ selected xs k
 unfolding selected
 selected-digit xs k h = ap isOne (bitmap-at xs k h)
 
@@ -88,17 +89,17 @@ number-count (zero ∷ bs) (suc k) h = number-shift k (λ i. isOne (getD (zero �
 number-count (suc b ∷ bs) (suc k) h = number-shift k (λ i. isOne (getD (suc b ∷ bs) i 0)) ∙ omega (arith, number-count bs k (omega arith))
 
 -- the digits below lamp k that are 1 are the selected lamps below k
-pub rank-selected : (xs : List ℕ) (k : ℕ) → k ≤ 32 → count (take k (bitmap xs)) ≡ numberBelow k (selected xs)
+pub rank-selected : (xs : List ℕ) (k : ℕ) → k ≤ maxLamps → count (take k (bitmap xs)) ≡ numberBelow k (selected xs)
 rank-selected xs k h =
     sym (number-count (bitmap xs) k (omega (arith, bitmap-length xs)))
     ∙ number-same k (λ i. isOne (getD (bitmap xs) i 0)) (selected xs) (λ i l. selected-digit xs i (omega arith))
 
 -- the number of one-bits is the number of selected lamps
-pub count-selected : (xs : List ℕ) → count (bitmap xs) ≡ numberBelow 32 (selected xs)
-count-selected xs = sym (ap count (take-all 32 (bitmap xs) (omega (arith, bitmap-length xs)))) ∙ rank-selected xs 32 (omega arith)
+pub count-selected : (xs : List ℕ) → count (bitmap xs) ≡ numberBelow maxLamps (selected xs)
+count-selected xs = sym (ap count (take-all maxLamps (bitmap xs) (omega (arith, bitmap-length xs)))) ∙ rank-selected xs maxLamps (omega arith)
 
 -- the language's count of ones of the four bytes is the number of selected lamps
-pub mask-selected : (xs : List ℕ) → Bytes xs → ones (maskOf xs) ≡ numberBelow 32 (selected xs)
+pub mask-selected : (xs : List ℕ) → Bytes xs → ones (maskOf xs) ≡ numberBelow maxLamps (selected xs)
 mask-selected xs small =
     let h : maskOf xs < 2 ^ 32 = omega (arith, small 0, small 1, small 2, small 3) in
-    ones-count 32 (maskOf xs) h ∙ ap count (bits-mask xs small) ∙ count-selected xs
+    ones-count maxLamps (maskOf xs) h ∙ ap count (bits-mask xs small) ∙ count-selected xs

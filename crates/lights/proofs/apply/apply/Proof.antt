@@ -6,6 +6,7 @@ use mathlib.Core.Logic.{⊎-elim}
 use Prim.Native.Nat.{_<_}
 use lib.ListN.{length}
 use denote.Ref.{now}
+use Rattle.lights.specs.Lamp.{maxLamps}
 use Rattle.lights.proofs.ApplyLoop.{ApplyLoop, apply-start, apply-end, apply-level-max, apply-inside, apply-out-room, apply-skip, apply-first-valid, apply-pdata-room, apply-implemented, apply-unimplemented}
 use Rattle.lights.proofs.apply.apply.Statement.{statement}
 use Rattle.lights.proofs.apply.apply.Tie as tie
@@ -17,7 +18,7 @@ Inv-loop settings command mask pdata out₀ n after₀ m₀ at₀ k₀ i₀ out 
 abbrev μ-loop : tie.MeasureT-loop
 μ-loop settings command mask pdata out₀ n after₀ m₀ at₀ k₀ i₀ out after m at k i = m
 
-lamps-length : (c : tie.Start Inv-loop μ-loop) → length (c .args .lamps) ≡ 32
+lamps-length : (c : tie.Start Inv-loop μ-loop) → length (c .args .lamps) ≡ maxLamps
 lamps-length c = search needs
 
 loop-holds : tie.Need-loop-holds Inv-loop μ-loop
@@ -32,7 +33,7 @@ valid-power-entry-at-requires c κs =
     let l = c .before .before .loop in
     apply-first-valid (l .inv) (c .before .loop-test .taken) (c .if1 .taken)
 
-inside : (c : tie.In-loop Inv-loop μ-loop) → c .before .loop .i < 32
+inside : (c : tie.In-loop Inv-loop μ-loop) → c .before .loop .i < maxLamps
 inside c = apply-inside (c .before .loop .inv) (c .loop-test .taken)
 
 free : (c : tie.In-loop Inv-loop μ-loop) → c .before .loop .k < length (c .before .loop .out)

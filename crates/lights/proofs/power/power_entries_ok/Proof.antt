@@ -5,6 +5,7 @@ use mathlib.Core.Path.{_≡_, sym, _∙_}
 use Prim.Native.Nat.{_≤_, _-_}
 use lib.ListN.{length, drop}
 use denote.Ref.{now}
+use Rattle.lights.specs.Bits.{bitmapSize}
 use Rattle.lights.specs.Lights.{powerEntries, areValid, firstPowerEntry}
 use Rattle.lights.specs.declared.power.PowerEntry.the-variants.{Valid, Invalid}
 use Rattle.lights.proofs.PowerEntries.{first-room, valid-more, invalid-stops, valid-end}
@@ -12,7 +13,7 @@ use Rattle.lights.proofs.power.power_entries_ok.Statement.{statement}
 use Rattle.lights.proofs.power.power_entries_ok.Tie as tie
 
 abbrev Inv-loop : tie.InvT-loop
-Inv-loop src n at₀ k₀ at k = (k ≤ n) × (at ≤ length src) × (areValid (powerEntries n (drop 4 src)) ≡ areValid (powerEntries (n - k) (drop at src)))
+Inv-loop src n at₀ k₀ at k = (k ≤ n) × (at ≤ length src) × (areValid (powerEntries n (drop bitmapSize src)) ≡ areValid (powerEntries (n - k) (drop at src)))
 
 abbrev μ-loop : tie.MeasureT-loop
 μ-loop src n at₀ k₀ at k = n - k

@@ -6,7 +6,7 @@ use mathlib.Core.Bool.{true, false}
 use denote.Ref.{now}
 use lib.ListN.{getD}
 use Prim.Native.Nat.{_%_}
-use Rattle.lights.specs.Lights.{powerOk}
+use Rattle.lights.specs.Lights.{bit7, powerOk}
 use Rattle.lights.proofs.PowerEntries.{power-entry-past-end, power-entry-bad-power, power-entry-untimed, power-entry-no-time, power-entry-timed}
 use borrow.Author.Needs.{needs}
 use Rattle.lights.proofs.power.power_entry_at.Statement.{statement}
@@ -23,7 +23,7 @@ returns-2 c =
     power-entry-bad-power (now (a .src)) (a .at) (omega arith) (sym (c .before .power-ok .ensures) ∙ not-true _ (c .if2 .taken))
 
 -- the power byte's low seven bits are a power
-power : (c : tie.Else2) → powerOk (getD (now (c .before .before .before .before .before .args .src)) (c .before .before .before .before .before .args .at) 0 % 128) ≡ true
+power : (c : tie.Else2) → powerOk (getD (now (c .before .before .before .before .before .args .src)) (c .before .before .before .before .before .args .at) 0 % bit7) ≡ true
 power c = sym (c .before .power-ok .ensures) ∙ not-false _ (c .if2 .left)
 
 returns-3 : tie.Need-returns-3

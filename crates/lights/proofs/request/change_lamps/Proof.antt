@@ -7,7 +7,8 @@ use Prim.Native.Nat.{ℕ}
 use lib.ListN.{drop}
 use denote.Ref.{now}
 use Rattle.dpa.specs.Lists.{Bytes}
-use Rattle.lights.specs.Bits.{bits, count}
+use Rattle.lights.specs.Lamp.{maxLamps}
+use Rattle.lights.specs.Bits.{bitmapSize, bits, count}
 use Rattle.lights.specs.Lights.{powerEntries, areValid}
 use Rattle.lights.proofs.Replies.{reply-refused, change-no-bitmap, change-malformed, change-applied}
 use borrow.Author.Needs.{needs}
@@ -35,8 +36,8 @@ apply-requires : tie.Need-apply-requires
 apply-requires c κs =
     let r = c .before .before in
     let s = r .before .before .before .before .before .before in
-    let g : areValid (powerEntries (count (bits 32 (r .before .before .mask-of .result))) (drop 4 (now (s .args .pdata)))) ≡ true =
-    ap (λ (j : ℕ). areValid (powerEntries j (drop 4 (now (s .args .pdata))))) (sym (r .before .selected-count .ensures .0))
+    let g : areValid (powerEntries (count (bits maxLamps (r .before .before .mask-of .result))) (drop bitmapSize (now (s .args .pdata)))) ≡ true =
+    ap (λ (j : ℕ). areValid (powerEntries j (drop bitmapSize (now (s .args .pdata))))) (sym (r .before .selected-count .ensures .0))
     ∙ sym (r .power-entries-ok .ensures) ∙ not-false _ (c .before .if2 .left) in
     (s .pre .0, s .pre .1, s .pre .2, omega arith, g)
 
