@@ -1,4 +1,4 @@
--- Entries keep a lamp's rule.
+-- Power entries keep a lamp's values valid.
 use mathlib.Core.Path.{_≡_, refl, subst}
 use mathlib.Core.Bool.{Bool, true, false, cond, _||_}
 use mathlib.Core.List.{List, [], _∷_}
@@ -18,12 +18,12 @@ use Rattle.lights.specs.declared.lamp.Lamp.{Lamp}
 use Rattle.lights.specs.declared.power.LampChange.{LampChange}
 use Rattle.lights.specs.declared.power.PowerEntry.the-variants.{Valid, Invalid}
 
--- an entry in range
+-- a change within its limits
 pub record ChangeRule (e : LampChange) : Type 0 where
   pub power : powerOk (e .power) ≡ true
   pub seconds : e .seconds ≤ maxSeconds
 
--- ---- what is read is in range
+-- ---- parsed changes are within their limits
 
 seconds-max : (t : ℕ) → secondsOf t ≤ maxSeconds
 unfolding secondsOf
@@ -54,10 +54,11 @@ zero-change-rule : ChangeRule zeroChange
 unfolding powerOk
 zero-change-rule = record { power = refl; seconds = omega arith }
 
+-- every change of valid power entries is within its limits
 pub power-entries-rule : (n : ℕ) (xs : List ℕ) (es : List LampChange) → powerEntries n xs ≡ allValid es → (i : ℕ) → ChangeRule (getD es i zeroChange)
 power-entries-rule n xs es h = power-entries-each ChangeRule zero-change-rule n xs es (λ j. first-power-entry-rule (drop j xs)) h .1
 
--- ---- a lamp after an entry in range
+-- ---- a lamp after such a change
 
 level-power : (p : ℕ) → powerOk p ≡ true → eqb p keepPower ≡ false → p ≤ maxLevel
 unfolding powerOk
@@ -72,6 +73,7 @@ level-max Set l p h k = k
 level-max Raise l p h k = omega arith
 level-max Lower l p h k = omega arith
 
+-- a valid lamp stays valid
 pub lamp-after-rule : (c : Command) (l : Lamp) (e : LampChange) → LampRule l → ChangeRule e → LampRule (lampAfterEntry c l e)
 unfolding lampAfter
 lamp-after-rule c l e r q =

@@ -1,4 +1,4 @@
--- `request::selected` meets its contract: the language's count of ones is the number of one-digits.
+-- `request::selected_count` meets its contract: `count_ones` counts the 1-bits.
 use native.Mathlib.Omega.{arith}
 use mathlib.Core.Path.{_≡_}
 use lib.Count.{ones}
