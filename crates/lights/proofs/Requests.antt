@@ -77,25 +77,25 @@ module _ (s : Settings) (xs : List ℕ) (ls : List Lamp) where
       (λ e n. refl) refl (λ c es l e. lamps-length c (s .«lamp_count») (bitmap xs) es ls)
 
   module _ (full : length ls ≡ maxLamps) where
-    fits-map : length (bitmap xs) ≤ length ls
-    fits-map = omega (arith, bitmap-length xs)
+    bitmap-fits : length (bitmap xs) ≤ length ls
+    bitmap-fits = omega (arith, bitmap-length xs)
 
-    enough : (es : List LampChange) → powerEntries (count (bitmap xs)) (drop bitmapSize xs) ≡ allValid es → count (bitmap xs) ≤ length es
-    enough es e = omega (arith, power-entries-length (count (bitmap xs)) (drop bitmapSize xs) es e)
+    changes-enough : (es : List LampChange) → powerEntries (count (bitmap xs)) (drop bitmapSize xs) ≡ allValid es → count (bitmap xs) ≤ length es
+    changes-enough es e = omega (arith, power-entries-length (count (bitmap xs)) (drop bitmapSize xs) es e)
 
     -- a successful change returns a byte for each selected lamp
     pub answer-length : (c : Command) → changeLamps s c xs ls .error ≡ 0 → length (changeLamps s c xs ls .bytes) ≡ numberBelow maxLamps (selected xs)
     answer-length c =
         change-cases c (λ (x : Reply (List Lamp)). x .error ≡ 0 → length (x .bytes) ≡ numberBelow maxLamps (selected xs))
         (λ z. absurd (omega arith))
-        (λ es l e z. levels-length s (s .«lamp_count») (bitmap xs) ls fits-map ∙ count-selected xs)
+        (λ es l e z. levels-length s (s .«lamp_count») (bitmap xs) ls bitmap-fits ∙ count-selected xs)
 
     -- response data has at most a byte for each lamp
     pub answer-max : (p : ℕ) → length (lightsRequest s p xs ls .bytes) ≤ maxLamps
     answer-max p =
         request-cases p (λ (x : Reply (List Lamp)). length (x .bytes) ≤ maxLamps)
         (λ e n. omega arith) (omega arith)
-        (λ c es l e. omega (arith, levels-length s (s .«lamp_count») (bitmap xs) ls fits-map, count-length (bitmap xs), bitmap-length xs))
+        (λ c es l e. omega (arith, levels-length s (s .«lamp_count») (bitmap xs) ls bitmap-fits, count-length (bitmap xs), bitmap-length xs))
 
     -- each lamp after a successful change: changed if it is selected and implemented, else unchanged
     pub lamp-at : (c : Command) (k : ℕ) → k < maxLamps → changeLamps s c xs ls .error ≡ 0
@@ -110,7 +110,7 @@ module _ (s : Settings) (xs : List ℕ) (ls : List Lamp) where
         let d : isOne (getD (bitmap xs) k 0) ≡ selected xs k = selected-bit xs k h in
         let f : es ≡ changesIn xs = sym (ap changesOf e) in
         let r : count (take k (bitmap xs)) ≡ numberBelow k (selected xs) = rank-selected xs k (omega arith) in
-        lamps-after-at c (s .«lamp_count») (bitmap xs) es ls k fits-map (enough es e)
+        lamps-after-at c (s .«lamp_count») (bitmap xs) es ls k bitmap-fits (changes-enough es e)
         ∙ (λ i. cond (d i && ltb k (s .«lamp_count»)) (lampAfterEntry c l (getD (f i) (r i) zeroChange)) l))
 
     -- a successful change returns the previous actual level of each selected lamp, 0 for an unimplemented one
@@ -122,7 +122,7 @@ module _ (s : Settings) (xs : List ℕ) (ls : List Lamp) where
         (λ z. absurd (omega arith))
         (λ es _ e z.
         ap (λ (j : ℕ). getD (levelsBefore s (s .«lamp_count») (bitmap xs) ls) j 0) (sym (rank-selected xs k (omega arith)))
-        ∙ levels-before-at s (s .«lamp_count») (bitmap xs) ls k fits-map (selected-bit xs k h ∙ t))
+        ∙ levels-before-at s (s .«lamp_count») (bitmap xs) ls k bitmap-fits (selected-bit xs k h ∙ t))
 
     -- an unimplemented lamp never changes
     pub unimplemented-stays : (p k : ℕ) → s .«lamp_count» ≤ k → getD (lightsRequest s p xs ls .after) k off ≡ getD ls k off
@@ -130,7 +130,7 @@ module _ (s : Settings) (xs : List ℕ) (ls : List Lamp) where
         request-cases p (λ (x : Reply (List Lamp)). getD (x .after) k off ≡ getD ls k off)
         (λ e n. refl) refl
         (λ c es _ e.
-        lamp-unimplemented c (s .«lamp_count») (bitmap xs) es ls k fits-map (enough es e) h)
+        lamp-unimplemented c (s .«lamp_count») (bitmap xs) es ls k bitmap-fits (changes-enough es e) h)
 
     -- a lamp with valid values keeps valid values
     pub request-keeps : (p k : ℕ) → lampFits (s .«lamp_count») k (getD ls k off) ≡ true
@@ -142,7 +142,7 @@ module _ (s : Settings) (xs : List ℕ) (ls : List Lamp) where
         (λ _. request-cases p (λ (x : Reply (List Lamp)). LampRule (getD (x .after) k off)) (λ e z. rule) rule
         (λ c es _ e.
         let valid : (i : ℕ) → ChangeRule (getD es i zeroChange) = power-entries-rule (count (bitmap xs)) (drop bitmapSize xs) es e in
-        rw (lamps-after-at c n (bitmap xs) es ls k fits-map (enough es e))
+        rw (lamps-after-at c n (bitmap xs) es ls k bitmap-fits (changes-enough es e))
         (by-cond (λ (l : Lamp). LampRule l) (isOne (getD (bitmap xs) k 0) && ltb k n) _ _
         (λ _. lamp-after-rule c (getD ls k off) (getD es (count (take k (bitmap xs))) zeroChange) rule (valid (count (take k (bitmap xs)))))
         (λ _. rule))))
