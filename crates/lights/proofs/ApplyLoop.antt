@@ -27,46 +27,46 @@ use Rattle.lights.specs.declared.power.PowerEntry.the-variants.{Valid}
 abbrev pub entriesFrom : List ℕ → ℕ → ℕ → ℕ → PowerEntries
 entriesFrom src i m at = powerEntries (count (bits (maxLamps - i) m)) (drop at src)
 
+-- the facts that hold before the loop and throughout
+pub record ApplyInput (s : Settings) (mask : ℕ) (src : List ℕ) (ls : List Lamp) (old : List ℕ) (n : ℕ) : Type 0 where
+  pub count-is : n ≡ s .«lamp_count»
+  pub lamps-length : length ls ≡ maxLamps
+  pub old-length : maxLamps ≤ length old
+  pub all-valid : areValid (entriesFrom src 0 mask bitmapSize) ≡ true
+
 -- At lamp i, with the bits m remaining and k levels written: lamps below i and bytes below k are final,
 -- the others are still those of ls and of the lent buffer old.
 pub record ApplyLoop (s : Settings) (c : Command) (mask : ℕ) (src : List ℕ) (ls : List Lamp) (old : List ℕ) (n : ℕ)
     (after : List Lamp) (out : List ℕ) (m at k i : ℕ) : Type 0 where
-  pub count-is : n ≡ s .«lamp_count»
-  pub lamps-length : length ls ≡ maxLamps
+  pub input : ApplyInput s mask src ls old n
   pub after-length : length after ≡ maxLamps
   pub after-unchanged : drop i after ≡ drop i ls
-  pub old-length : maxLamps ≤ length old
   pub out-length : length out ≡ length old
   pub out-unchanged : drop k out ≡ drop k old
   pub i-max : i ≤ maxLamps
   pub k-max : k ≤ i
   pub at-max : at ≤ length src
   pub mask-max : m < 2 ^ (maxLamps - i)
-  pub all-valid : areValid (entriesFrom src 0 mask bitmapSize) ≡ true
   pub rest-valid : areValid (entriesFrom src i m at) ≡ true
   pub lamps : lampsAfter c n (bits maxLamps mask) (changesOf (entriesFrom src 0 mask bitmapSize)) ls ≡ lampsFrom c n i m (changesOf (entriesFrom src i m at)) after
   pub levels : levelsBefore s n (bits maxLamps mask) ls ≡ take k out ++ levelsFrom s n ls i m
 
 module _ (s : Settings) (c : Command) (mask : ℕ) (src : List ℕ) (ls : List Lamp) (old : List ℕ) (n : ℕ) where
   -- the invariant holds before the loop
-  pub apply-start : n ≡ s .«lamp_count» → length ls ≡ maxLamps → maxLamps ≤ length old → bitmapSize ≤ length src → mask < 2 ^ 32 → areValid (entriesFrom src 0 mask bitmapSize) ≡ true
-      → ApplyLoop s c mask src ls old n ls old mask bitmapSize 0 0
-  apply-start e l o h b g =
+  pub apply-start : ApplyInput s mask src ls old n → bitmapSize ≤ length src → mask < 2 ^ 32 → ApplyLoop s c mask src ls old n ls old mask bitmapSize 0 0
+  apply-start a h b =
       let z : n - 0 ≡ n = omega arith in
       record {
-        count-is = e;
-        lamps-length = l;
-        after-length = l;
+        input = a;
+        after-length = a .lamps-length;
         after-unchanged = refl;
-        old-length = o;
         out-length = refl;
         out-unchanged = refl;
         i-max = omega arith;
         k-max = omega arith;
         at-max = h;
         mask-max = b;
-        all-valid = g;
-        rest-valid = g;
+        rest-valid = a .all-valid;
         lamps = rw z;
         levels = rw z;
       }
@@ -82,11 +82,11 @@ module _ {s : Settings} {c : Command} {mask : ℕ} {src : List ℕ} {ls : List L
       w .lamps ∙ ap (λ (j : ℕ). lampsFrom c n i j (changesOf (entriesFrom src i m at)) after) z ∙ lamps-from-end c n i _ after in
       let v : levelsBefore s n bs ls ≡ take k out =
       w .levels ∙ ap (λ (j : ℕ). take k out ++ levelsFrom s n ls i j) z ∙ ap (λ (x : List ℕ). take k out ++ x) (levels-from-end s n ls i) ∙ append-nil (take k out) in
-      let o : out ≡ overwriteFront (levelsBefore s n bs ls) old = front-written _ out old k (omega (arith, w .k-max, w .i-max, w .out-length, w .old-length)) v (w .out-unchanged) in
-      let t : count bs ≡ length (levelsBefore s n bs ls) = sym (levels-length s n bs ls (omega (arith, bits-length maxLamps mask, w .lamps-length))) in
+      let o : out ≡ overwriteFront (levelsBefore s n bs ls) old = front-written _ out old k (omega (arith, w .k-max, w .i-max, w .out-length, w .input .old-length)) v (w .out-unchanged) in
+      let t : count bs ≡ length (levelsBefore s n bs ls) = sym (levels-length s n bs ls (omega (arith, bits-length maxLamps mask, w .input .lamps-length))) in
       (λ j. replySeen (sym p j) 0 (t j) (o j))
-      ∙ ap (λ (j : ℕ). replyInBuffer (reply (lampsAfter c j bs es ls) 0 (levelsBefore s j bs ls)) old) (w .count-is)
-      ∙ ap (λ (r : PowerEntries). replyInBuffer (levelsReply s c bs ls r) old) (sym (valid-changes (entriesFrom src 0 mask bitmapSize) (w .all-valid)))
+      ∙ ap (λ (j : ℕ). replyInBuffer (reply (lampsAfter c j bs es ls) 0 (levelsBefore s j bs ls)) old) (w .input .count-is)
+      ∙ ap (λ (r : PowerEntries). replyInBuffer (levelsReply s c bs ls r) old) (sym (valid-changes (entriesFrom src 0 mask bitmapSize) (w .input .all-valid)))
 
   -- lamp i is still unchanged
   lamp-unchanged : getD after i off ≡ getD ls i off
@@ -106,29 +106,26 @@ module _ {s : Settings} {c : Command} {mask : ℕ} {src : List ℕ} {ls : List L
 
     -- and out has room for its level
     pub apply-out-room : k < length out
-    apply-out-room = omega (arith, apply-inside, w .k-max, w .out-length, w .old-length)
+    apply-out-room = omega (arith, apply-inside, w .k-max, w .out-length, w .input .old-length)
 
     -- a lamp that is not selected
     pub apply-skip : m % 2 ≡ 0 → ApplyLoop s c mask src ls old n after out (m / 2) at k (i + 1)
     apply-skip z =
         let q : entriesFrom src i m at ≡ entriesFrom src (i + 1) (m / 2) at = rw (bits-more i m apply-inside, z) in
         record {
-          count-is = w .count-is;
-          lamps-length = w .lamps-length;
+          input = w .input;
           after-length = w .after-length;
           after-unchanged = kept-next after ls i (w .after-unchanged);
-          old-length = w .old-length;
           out-length = w .out-length;
           out-unchanged = w .out-unchanged;
           i-max = omega (arith, apply-inside);
           k-max = omega (arith, w .k-max);
           at-max = w .at-max;
           mask-max = bits-half i m apply-inside (w .mask-max);
-          all-valid = w .all-valid;
           rest-valid = ap areValid (sym q) ∙ w .rest-valid;
           lamps = w .lamps ∙ lamps-from-skip c n i m _ after apply-inside (w .after-length) z
               ∙ ap (λ (r : PowerEntries). lampsFrom c n (i + 1) (m / 2) (changesOf r) after) q;
-          levels = w .levels ∙ ap (λ (x : List ℕ). take k out ++ x) (levels-from-skip s n ls i m apply-inside (w .lamps-length) z);
+          levels = w .levels ∙ ap (λ (x : List ℕ). take k out ++ x) (levels-from-skip s n ls i m apply-inside (w .input .lamps-length) z);
         }
 
     module _ (z : m % 2 ≡ 1) where
@@ -159,21 +156,18 @@ module _ {s : Settings} {c : Command} {mask : ℕ} {src : List ℕ} {ls : List L
         apply-selected after' v l d x f =
             let r = entriesFrom src (i + 1) (m / 2) (at + size) in
             record {
-              count-is = w .count-is;
-              lamps-length = w .lamps-length;
+              input = w .input;
               after-length = l;
               after-unchanged = d;
-              old-length = w .old-length;
               out-length = length-set out k v ∙ w .out-length;
               out-unchanged = kept-more out old k v (w .out-unchanged);
               i-max = omega (arith, apply-inside);
               k-max = omega (arith, w .k-max);
               at-max = apply-pdata-room;
               mask-max = bits-half i m apply-inside (w .mask-max);
-              all-valid = w .all-valid;
               rest-valid = next-valid;
               lamps = w .lamps ∙ ap (λ (es : List LampChange). lampsFrom c n i m es after) (ap changesOf entries-next ∙ changes-prepend e r next-valid) ∙ f (changesOf r);
-              levels = w .levels ∙ levels-from-more s n ls i m k out v apply-inside (w .lamps-length) apply-out-room z x;
+              levels = w .levels ∙ levels-from-more s n ls i m k out v apply-inside (w .input .lamps-length) apply-out-room z x;
             }
 
         -- a selected, implemented lamp

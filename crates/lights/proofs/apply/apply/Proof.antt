@@ -7,7 +7,7 @@ use Prim.Native.Nat.{_<_}
 use lib.ListN.{length}
 use denote.Ref.{now}
 use Rattle.lights.specs.Lamp.{maxLamps}
-use Rattle.lights.proofs.ApplyLoop.{ApplyLoop, apply-start, apply-end, apply-level-max, apply-inside, apply-out-room, apply-skip, apply-first-valid, apply-pdata-room, apply-implemented, apply-unimplemented}
+use Rattle.lights.proofs.ApplyLoop.{ApplyInput, ApplyLoop, apply-start, apply-end, apply-level-max, apply-inside, apply-out-room, apply-skip, apply-first-valid, apply-pdata-room, apply-implemented, apply-unimplemented}
 use Rattle.lights.proofs.apply.apply.Statement.{statement}
 use Rattle.lights.proofs.apply.apply.Tie as tie
 
@@ -25,8 +25,9 @@ loop-holds : tie.Need-loop-holds Inv-loop μ-loop
 loop-holds c =
     let s = c .before .before .before in
     let a = s .args in
-    apply-start (a .settings) (a .command) (a .mask) (now (a .pdata)) (a .lamps) (now (a .out)) (c .wide .result)
-    (c .wide .ensures .0) (lamps-length s) (s .pre .2) (s .pre .3) (s .fits .mask .fits) (s .pre .4)
+    let input : ApplyInput (a .settings) (a .mask) (now (a .pdata)) (a .lamps) (now (a .out)) (c .wide .result) =
+    record { count-is = c .wide .ensures .0; lamps-length = lamps-length s; old-length = s .pre .2; all-valid = s .pre .4 } in
+    apply-start (a .settings) (a .command) (a .mask) (now (a .pdata)) (a .lamps) (now (a .out)) (c .wide .result) input (s .pre .3) (s .fits .mask .fits)
 
 valid-power-entry-at-requires : tie.Need-valid-power-entry-at-requires Inv-loop μ-loop
 valid-power-entry-at-requires c κs =
