@@ -1,4 +1,4 @@
--- What entries do to the lamp at one place.
+-- What the power entries of a request do to one lamp.
 use mathlib.Core.Path.{_≡_, refl, ap, _∙_}
 use mathlib.Core.Bool.{Bool, true, false, cond, _&&_}
 use mathlib.Core.List.{List, [], _∷_}
@@ -17,7 +17,7 @@ use Rattle.lights.specs.declared.apply.Command.{Command}
 use Rattle.lights.specs.declared.lamp.Lamp.{Lamp}
 use Rattle.lights.specs.declared.power.LampChange.{LampChange}
 
--- a lamp after its own entry
+-- a lamp after its change
 abbrev pub lampAfterEntry : Command → Lamp → LampChange → Lamp
 lampAfterEntry c l e = lampAfter c l (e .power) (e .seconds)
 
@@ -28,7 +28,7 @@ ltb-less i n = go (ltb (suc i) n) refl
     go true e = lt-ltb i (n - 1) (omega (arith, ltb-true (suc i) n e))
     go false e = le-ltb i (n - 1) (omega (arith, ltb-false (suc i) n e))
 
--- a selected, implemented lamp takes the entry with the number of selected lamps below it; any other lamp stays
+-- a selected, implemented lamp takes the change whose index is the number of selected lamps below it; any other lamp is unchanged
 pub lamps-after-at : (c : Command) (n : ℕ) (bs : List ℕ) (es : List LampChange) (ls : List Lamp) (k : ℕ) → length bs ≤ length ls → count bs ≤ length es
     → getD (lampsAfter c n bs es ls) k off
     ≡ cond (isOne (getD bs k 0) && ltb k n) (lampAfterEntry c (getD ls k off) (getD es (count (take k bs)) zeroChange)) (getD ls k off)
@@ -45,7 +45,7 @@ lamps-after-at c n (suc b ∷ bs) (e ∷ es) (l ∷ ls) (suc k) h q =
     lamps-after-at c (n - 1) bs es ls k (omega arith) (omega arith)
     ∙ ap (λ (t : Bool). cond (isOne (getD bs k 0) && t) (lampAfterEntry c (getD ls k off) (getD es (count (take k bs)) zeroChange)) (getD ls k off)) (ltb-less k n)
 
--- a lamp from the count up stays
+-- an unimplemented lamp is unchanged
 pub lamp-unimplemented : (c : Command) (n : ℕ) (bs : List ℕ) (es : List LampChange) (ls : List Lamp) (k : ℕ) → length bs ≤ length ls → count bs ≤ length es → n ≤ k
     → getD (lampsAfter c n bs es ls) k off ≡ getD ls k off
 lamp-unimplemented c n bs es ls k h q l =
@@ -53,6 +53,7 @@ lamp-unimplemented c n bs es ls k h q l =
     ∙ ap (λ (t : Bool). cond t (lampAfterEntry c (getD ls k off) (getD es (count (take k bs)) zeroChange)) (getD ls k off))
     (and-right-false (isOne (getD bs k 0)) (ltb k n) (le-ltb k n l))
 
+-- the number of lamps is unchanged
 pub lamps-length : (c : Command) (n : ℕ) (bs : List ℕ) (es : List LampChange) (ls : List Lamp) → length (lampsAfter c n bs es ls) ≡ length ls
 unfolding lampsAfter
 lamps-length c n [] es ls = refl
@@ -61,7 +62,7 @@ lamps-length c n (zero ∷ bs) es (l ∷ ls) = ap suc (lamps-length c (n - 1) bs
 lamps-length c n (suc b ∷ bs) [] (l ∷ ls) = refl
 lamps-length c n (suc b ∷ bs) (e ∷ es) (l ∷ ls) = ap suc (lamps-length c (n - 1) bs es ls)
 
--- a selected lamp's level is answered at the number of selected lamps below it
+-- a selected lamp's level is returned at the index that is the number of selected lamps below it
 pub levels-before-at : (s : Settings) (n : ℕ) (bs : List ℕ) (ls : List Lamp) (k : ℕ) → length bs ≤ length ls → isOne (getD bs k 0) ≡ true
     → getD (levelsBefore s n bs ls) (count (take k bs)) 0 ≡ cond (ltb k n) (actualLevel s (getD ls k off .level)) 0
 unfolding levelsBefore

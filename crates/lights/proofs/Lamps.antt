@@ -1,4 +1,4 @@
--- Laws of one lamp: its rule, its actual level, a second passing.
+-- Laws of one lamp: its valid values, its actual level, and its timer.
 use Prim.Native.Nat.{ℕ, suc, _+_, _-_, _*_, _/_, _%_, _≤_, _<_}
 use mathlib.Core.Path.{_≡_, refl, sym, _∙_}
 use mathlib.Core.Bool.{Bool, true, false, not, _&&_, _||_}
@@ -11,19 +11,19 @@ use Rattle.dpa.specs.Settings.{stepOk, settingsOk}
 use Rattle.dpa.proofs.Bool.{and-left, and-right, both, by-cond, by-test}
 use Rattle.dpa.proofs.Ranges.{step-positive, step-remainder, settings-facts}
 use Rattle.lights.specs.declared.lamp.Lamp.{Lamp}
-use Rattle.lights.specs.Lamp.{lamp, off, lampOk, LampRule, lampZero, lampFits, actualLevel, tickLamp}
+use Rattle.lights.specs.Lamp.{maxLevel, maxSeconds, lamp, off, lampOk, LampRule, lampZero, lampFits, actualLevel, tickLamp}
 
--- The lamp's rule, as a test and as facts
+-- Valid values, as a test and as facts
 
 -- the test gives the facts
 pub lamp-facts : (l : Lamp) → lampOk l ≡ true → LampRule l
 unfolding lampOk
 lamp-facts l e =
-    let ab : (leb (l .level) 100 && leb (l .seconds) 7620) ≡ true = and-left _ _ e in
-    let c : (not (eqb (l .level) 0) || eqb (l .seconds) 0) ≡ true = and-right (leb (l .level) 100 && leb (l .seconds) 7620) _ e in
+    let ab : (leb (l .level) maxLevel && leb (l .seconds) maxSeconds) ≡ true = and-left _ _ e in
+    let c : (not (eqb (l .level) 0) || eqb (l .seconds) 0) ≡ true = and-right (leb (l .level) maxLevel && leb (l .seconds) maxSeconds) _ e in
     record {
       level-max = leb-true _ _ (and-left _ _ ab);
-      seconds-max = leb-true _ _ (and-right (leb (l .level) 100) _ ab);
+      seconds-max = leb-true _ _ (and-right (leb (l .level) maxLevel) _ ab);
       seconds-off = λ z. eqb-true _ _ (rw (eq-eqb (l .level) 0 z) at c);
     }
 
@@ -37,7 +37,7 @@ unfolding lampOk
 lamp-test l r =
     both (both (le-leb _ _ (r .level-max)) (le-leb _ _ (r .seconds-max))) (off-test l (r .seconds-off) (eqb (l .level) 0) refl)
 
--- a lamp of zeros is `off`
+-- a lamp that is all zero is `off`
 pub zero-facts : (l : Lamp) → lampZero l ≡ true → l ≡ off
 unfolding lampZero
 zero-facts l e =
@@ -45,23 +45,23 @@ zero-facts l e =
     let q : l .seconds ≡ 0 = eqb-true _ _ (and-right (eqb (l .level) 0) _ e) in
     λ i. record { level = p i; seconds = q i }
 
--- and `off` is one
+-- `off` is all zero
 pub off-zero : lampZero off ≡ true
 unfolding lampZero
 off-zero = refl
 
--- which keeps the rule
+-- `off` has valid values
 pub off-rule : LampRule off
 off-rule = record { level-max = omega arith; seconds-max = omega arith; seconds-off = λ _. refl }
 
--- The rule at a place among a node's lamps
+-- Valid values of lamp k of a node
 
--- below the count
+-- an implemented lamp
 pub fits-below : (count k : ℕ) (l : Lamp) → k < count → lampFits count k l ≡ lampOk l
 unfolding lampFits
 fits-below count k l h = rw (lt-ltb k count h)
 
--- from the count up
+-- an unimplemented lamp
 pub fits-above : (count k : ℕ) (l : Lamp) → count ≤ k → lampFits count k l ≡ lampZero l
 unfolding lampFits
 fits-above count k l h = rw (le-ltb k count h)
@@ -74,7 +74,7 @@ fits-test count k l p q =
     (λ e. lamp-test l (p (ltb-true _ _ e)))
     (λ e. rw (q (ltb-false _ _ e)) off-zero)
 
--- a lamp that fits keeps the rule of an implemented lamp, wherever it stands
+-- implemented or not, the lamp satisfies the rule of an implemented one
 pub fits-rule : (count k : ℕ) (l : Lamp) → lampFits count k l ≡ true → LampRule l
 unfolding lampFits
 fits-rule count k l e =
@@ -82,7 +82,7 @@ fits-rule count k l e =
     (λ t. lamp-facts l (rw t at e))
     (λ t. rw (zero-facts l (rw t at e)) off-rule)
 
--- The actual level, for settings in range
+-- The actual level, for valid settings
 
 -- a dimming step is at most 100
 step-small : (s : ℕ) → stepOk s ≡ true → s ≤ 100
@@ -97,27 +97,28 @@ step-small s e =
     let y : _≡_ {A = ℕ} 0 1 = cc in absurd (omega (arith, y)))
 
 module _ (s : Settings) (h : settingsOk s ≡ true) where
-  -- the step is 1 to 100
+  -- the step is at most 100
   pub step-max : s .step ≤ 100
   step-max = step-small (s .step) (settings-facts s h .step-valid)
 
+  -- the step is not 0
   pub step-min : 1 ≤ s .step
   step-min = step-positive (s .step) (omega (arith, step-max)) (settings-facts s h .step-valid)
 
   step-of-100 : 100 % s .step ≡ 0
   step-of-100 = step-remainder (s .step) (omega (arith, step-max)) (settings-facts s h .step-valid)
 
-  -- it is a multiple of the step
+  -- the actual level is a multiple of the step
   pub actual-multiple : (level : ℕ) → actualLevel s level % s .step ≡ 0
   unfolding actualLevel
   actual-multiple level = mul-mod-left _ _
 
-  -- it is not below the level
+  -- the actual level is not below the requested level
   pub actual-above : (level : ℕ) → level ≤ actualLevel s level
   unfolding actualLevel
   actual-above level = omega (arith, div-add-mod' (level + (s .step - 1)) (s .step), mod-lt (level + (s .step - 1)) step-min)
 
-  -- it is at most any multiple of the step that is not below the level
+  -- the actual level is the least such multiple
   pub actual-least : (level m : ℕ) → m % s .step ≡ 0 → level ≤ m → actualLevel s level ≤ m
   unfolding actualLevel
   actual-least level m z l =
@@ -127,27 +128,27 @@ module _ (s : Settings) (h : settingsOk s ≡ true) where
       let c : (level + (s .step - 1)) / s .step * s .step ≤ q * s .step = mul-le-mul-right (s .step) (omega arith) in
       omega arith
 
-  -- it is at most 100
-  pub actual-max : (level : ℕ) → level ≤ 100 → actualLevel s level ≤ 100
+  -- the actual level is at most 100
+  pub actual-max : (level : ℕ) → level ≤ maxLevel → actualLevel s level ≤ maxLevel
   actual-max level l = actual-least level 100 step-of-100 l
 
-  -- a lamp that is off is seen off
+  -- the actual level of a lamp that is off is 0
   pub actual-off : actualLevel s 0 ≡ 0
   actual-off = let l = actual-least 0 0 (zero-mod (s .step)) (omega arith) in omega arith
 
--- A second passing
+-- One second later
 
--- a running timer falls by one; a timer at 0 stays there
+-- a running timer counts down by one; a timer at 0 stays at 0
 pub tick-seconds : (l : Lamp) → tickLamp l .seconds ≡ l .seconds - 1
 unfolding tickLamp
 tick-seconds l = by-cond (λ (t : Lamp). t .seconds ≡ l .seconds - 1) (eqb (l .seconds) 0) _ _ (λ e. omega (arith, eqb-true (l .seconds) 0 e)) (λ e. refl)
 
--- a timer that ends puts its lamp to level 0
+-- a lamp whose timer ends turns off
 pub tick-ends : (l : Lamp) → l .seconds ≡ 1 → tickLamp l .level ≡ 0
 unfolding tickLamp
 tick-ends l e = rw e
 
--- else the level stays
+-- otherwise the level is unchanged
 pub tick-level : (l : Lamp) → (l .seconds ≡ 1 → ⊥) → tickLamp l .level ≡ l .level
 unfolding tickLamp
 tick-level l h =
@@ -162,12 +163,12 @@ tick-rule l r =
     (λ b. record { level-max = omega arith; seconds-max = omega (arith, r .seconds-max); seconds-off = λ _. eqb-true _ _ b })
     (λ b. record { level-max = r .level-max; seconds-max = omega (arith, r .seconds-max); seconds-off = λ z. omega (arith, r .seconds-off z) }))
 
--- a lamp of zeros stays so
+-- `off` stays `off`
 pub tick-off : tickLamp off ≡ off
 unfolding tickLamp
 tick-off = refl
 
--- a lamp that fits its place still fits
+-- a lamp with valid values keeps valid values
 pub tick-keeps : (count k : ℕ) (l : Lamp) → lampFits count k l ≡ true → lampFits count k (tickLamp l) ≡ true
 tick-keeps count k l e =
     fits-test count k (tickLamp l)

@@ -1,4 +1,4 @@
--- Laws of reading the entries, one for each way through the reading loop.
+-- Laws of parsing the power entries of a request.
 use mathlib.Core.Path.{_≡_, refl, sym, ap, _∙_}
 use mathlib.Core.Bool.{Bool, true, false, cond}
 use mathlib.Core.List.{List, [], _∷_}
@@ -10,12 +10,12 @@ use lib.Seq.{drop-cons, drop-drop}
 use lib.Dec.{ltb, eqb}
 use borrow.Author.Tests.{lt-ltb, le-ltb, ltb-true, ltb-false, eq-eqb, ne-eqb}
 use Rattle.dpa.proofs.Bool.{by-test}
-use Rattle.lights.specs.Lights.{powerOk, timeOk, secondsOf, change, timedPowerEntry, firstPowerEntry, isValid, PowerEntries, allValid, malformed, prepend, followedBy, powerEntries, areValid}
+use Rattle.lights.specs.Lights.{bit7, powerOk, timeOk, secondsOf, change, timedPowerEntry, firstPowerEntry, isValid, PowerEntries, allValid, malformed, prepend, followedBy, powerEntries, areValid}
 use Rattle.lights.specs.declared.power.LampChange.{LampChange}
 use Rattle.lights.specs.declared.power.PowerEntry.{PowerEntry}
 use Rattle.lights.specs.declared.power.PowerEntry.the-variants.{Valid, Invalid}
 
--- ---- the entry at a place, one law for each way to read it
+-- ---- the power entry at an index: one law for each return of `power_entry_at`
 
 module _ (src : List ℕ) (at : ℕ) where
   abbrev byte : ℕ
@@ -24,89 +24,101 @@ module _ (src : List ℕ) (at : ℕ) where
   abbrev time : ℕ
   time = getD src (at + 1) 0
 
+  -- no power byte
   pub power-entry-past-end : length src ≤ at → Invalid ≡ firstPowerEntry (drop at src)
   power-entry-past-end h = rw (drop-of-length-le src h)
 
   module _ (h : at < length src) where
-    pub power-entry-bad-power : powerOk (byte % 128) ≡ false → Invalid ≡ firstPowerEntry (drop at src)
+    -- the power is out of range
+    pub power-entry-bad-power : powerOk (byte % bit7) ≡ false → Invalid ≡ firstPowerEntry (drop at src)
     power-entry-bad-power p = rw (drop-cons src at 0, p)
 
-    module _ (p : powerOk (byte % 128) ≡ true) where
-      pub power-entry-untimed : byte < 128 → Valid (change (byte % 128) 0) 1 ≡ firstPowerEntry (drop at src)
-      power-entry-untimed l = rw (drop-cons src at 0, p, lt-ltb byte 128 l)
+    module _ (p : powerOk (byte % bit7) ≡ true) where
+      -- valid, without a time byte
+      pub power-entry-untimed : byte < bit7 → Valid (change (byte % bit7) 0) 1 ≡ firstPowerEntry (drop at src)
+      power-entry-untimed l = rw (drop-cons src at 0, p, lt-ltb byte bit7 l)
 
-      module _ (l : 128 ≤ byte) where
+      module _ (l : bit7 ≤ byte) where
+        -- the time byte is missing
         pub power-entry-no-time : length src ≤ at + 1 → Invalid ≡ firstPowerEntry (drop at src)
-        power-entry-no-time g = rw (drop-cons src at 0, p, le-ltb byte 128 l, ← add-one at, drop-of-length-le src g)
+        power-entry-no-time g = rw (drop-cons src at 0, p, le-ltb byte bit7 l, ← add-one at, drop-of-length-le src g)
 
+        -- with a time byte: valid if that is
         pub power-entry-timed : at + 1 < length src → (ok : Bool) → timeOk time ≡ ok
-            → cond ok (Valid (change (byte % 128) (secondsOf time)) 2) Invalid ≡ firstPowerEntry (drop at src)
-        power-entry-timed g ok e = rw (drop-cons src at 0, p, le-ltb byte 128 l, ← add-one at, drop-cons src (at + 1) 0, e)
+            → cond ok (Valid (change (byte % bit7) (secondsOf time)) 2) Invalid ≡ firstPowerEntry (drop at src)
+        power-entry-timed g ok e = rw (drop-cons src at 0, p, le-ltb byte bit7 l, ← add-one at, drop-cons src (at + 1) 0, e)
 
--- ---- a valid entry: one law for each test that it passes
+-- ---- a valid power entry passes every test
 
 module _ (src : List ℕ) (at : ℕ) (v : isValid (firstPowerEntry (drop at src)) ≡ true) where
   not-invalid : {R : Type 0} → Invalid ≡ firstPowerEntry (drop at src) → R
   not-invalid q = let z : _≡_ {A = ℕ} 0 1 = cc in absurd (omega arith)
 
+  -- the power byte is inside the bytes
   pub valid-inside : at < length src
   valid-inside = by-test (ltb at (length src)) (ltb-true _ _) (λ t. not-invalid (power-entry-past-end src at (ltb-false _ _ t)))
 
-  valid-power : powerOk (getD src at 0 % 128) ≡ true
-  valid-power = by-test (powerOk (getD src at 0 % 128)) (λ t. t) (λ t. not-invalid (power-entry-bad-power src at valid-inside t))
+  valid-power : powerOk (getD src at 0 % bit7) ≡ true
+  valid-power = by-test (powerOk (getD src at 0 % bit7)) (λ t. t) (λ t. not-invalid (power-entry-bad-power src at valid-inside t))
 
-  pub valid-untimed : getD src at 0 < 128 → firstPowerEntry (drop at src) ≡ Valid (change (getD src at 0 % 128) 0) 1
+  -- without a time byte
+  pub valid-untimed : getD src at 0 < bit7 → firstPowerEntry (drop at src) ≡ Valid (change (getD src at 0 % bit7) 0) 1
   valid-untimed l = sym (power-entry-untimed src at valid-inside valid-power l)
 
-  module _ (l : 128 ≤ getD src at 0) where
+  module _ (l : bit7 ≤ getD src at 0) where
+    -- the time byte is inside the bytes too
     pub valid-time-inside : at + 1 < length src
     valid-time-inside =
         by-test (ltb (at + 1) (length src)) (ltb-true _ _) (λ t. not-invalid (power-entry-no-time src at valid-inside valid-power l (ltb-false _ _ t)))
 
-    pub valid-timed : firstPowerEntry (drop at src) ≡ Valid (change (getD src at 0 % 128) (secondsOf (getD src (at + 1) 0))) 2
+    -- with a time byte
+    pub valid-timed : firstPowerEntry (drop at src) ≡ Valid (change (getD src at 0 % bit7) (secondsOf (getD src (at + 1) 0))) 2
     valid-timed =
         let timed : (ok : Bool) → timeOk (getD src (at + 1) 0) ≡ ok
-        → cond ok (Valid (change (getD src at 0 % 128) (secondsOf (getD src (at + 1) 0))) 2) Invalid ≡ firstPowerEntry (drop at src)
+        → cond ok (Valid (change (getD src at 0 % bit7) (secondsOf (getD src (at + 1) 0))) 2) Invalid ≡ firstPowerEntry (drop at src)
         = power-entry-timed src at valid-inside valid-power l valid-time-inside in
         by-test (timeOk (getD src (at + 1) 0)) (λ t. sym (timed true t)) (λ t. not-invalid (timed false t))
 
--- ---- the entries of a request
+-- ---- the power entries of a request
 
--- an entry of zeros, where a list has none
+-- the default for an index past the end of a list
 abbrev pub zeroChange : LampChange
 zeroChange = change 0 0
 
--- the entries that were read
+-- the changes of the power entries; none if they are malformed
 abbrev pub changesOf : PowerEntries → List LampChange
 changesOf (allValid es) = es
 changesOf malformed = []
 
+-- valid power entries are their changes
 pub valid-changes : (r : PowerEntries) → areValid r ≡ true → r ≡ allValid (changesOf r)
 valid-changes (allValid es) g = refl
 valid-changes malformed g = let z : _≡_ {A = ℕ} 0 1 = cc in absurd (omega arith)
 
+-- those that are not valid are malformed
 pub not-valid-malformed : (r : PowerEntries) → areValid r ≡ false → r ≡ malformed
 not-valid-malformed (allValid es) g = let z : _≡_ {A = ℕ} 0 1 = cc in absurd (omega arith)
 not-valid-malformed malformed g = refl
 
--- an entry in front
+-- a valid power entry in front does not change whether all are valid
 pub valid-prepend : (e : LampChange) (r : PowerEntries) → areValid (prepend e r) ≡ areValid r
 valid-prepend e (allValid es) = refl
 valid-prepend e malformed = refl
 
+-- its change comes first
 pub changes-prepend : (e : LampChange) (r : PowerEntries) → areValid r ≡ true → changesOf (prepend e r) ≡ e ∷ changesOf r
 changes-prepend e (allValid es) g = refl
 changes-prepend e malformed g = let z : _≡_ {A = ℕ} 0 1 = cc in absurd (omega arith)
 
--- where all entries are valid the first one is
+-- if all power entries are valid, the first one is
 pub first-valid : (f : PowerEntry) (rest : ℕ → PowerEntries) → areValid (followedBy f rest) ≡ true → isValid f ≡ true
 first-valid (Valid e size) rest g = refl
 first-valid Invalid rest g = g
 
--- an entry is no longer than the bytes that it is read from
+-- a power entry is no longer than the bytes it is parsed from
 first-size : (xs : List ℕ) (e : LampChange) (size : ℕ) → firstPowerEntry xs ≡ Valid e size → size ≤ length xs
 first-size [] e size h = let z : _≡_ {A = ℕ} 0 1 = cc in absurd (omega arith)
-first-size (b ∷ xs) e size h = go (powerOk (b % 128)) (ltb b 128) xs h
+first-size (b ∷ xs) e size h = go (powerOk (b % bit7)) (ltb b bit7) xs h
   where
     none : (ys : List ℕ) → Invalid ≡ Valid e size → size ≤ length ys
     none ys q = let z : _≡_ {A = ℕ} 0 1 = cc in absurd (omega arith)
@@ -115,30 +127,31 @@ first-size (b ∷ xs) e size h = go (powerOk (b % 128)) (ltb b 128) xs h
     last t s ys true q = let w : 2 ≡ size = cc in omega arith
     last t s ys false q = none (t ∷ (t ∷ ys)) q
 
-    go : (p q : Bool) (ys : List ℕ) → cond p (cond q (Valid (change (b % 128) 0) 1) (timedPowerEntry (b % 128) ys)) Invalid ≡ Valid e size → size ≤ suc (length ys)
+    go : (p q : Bool) (ys : List ℕ) → cond p (cond q (Valid (change (b % bit7) 0) 1) (timedPowerEntry (b % bit7) ys)) Invalid ≡ Valid e size → size ≤ suc (length ys)
     go true true ys r = let w : 1 ≡ size = cc in omega arith
     go true false [] r = none (b ∷ []) r
-    go true false (t ∷ ys) r = last (b % 128) (secondsOf t) ys (timeOk t) r
+    go true false (t ∷ ys) r = last (b % bit7) (secondsOf t) ys (timeOk t) r
     go false q ys r = none (b ∷ ys) r
 
+-- it ends inside the source
 pub first-room : (src : List ℕ) (at : ℕ) (e : LampChange) (size : ℕ) → firstPowerEntry (drop at src) ≡ Valid e size → size ≤ length src - at
 first-room src at e size h = rw length-drop at (first-size (drop at src) e size h)
 
 module _ (src : List ℕ) (at k n : ℕ) where
-  -- one entry more
+  -- the loop passes a valid power entry
   pub valid-more : (e : LampChange) (size : ℕ) → k < n → firstPowerEntry (drop at src) ≡ Valid e size
       → areValid (powerEntries (n - k) (drop at src)) ≡ areValid (powerEntries (n - (k + 1)) (drop (at + size) src))
   valid-more e size h q =
       let j : n - k ≡ suc (n - (k + 1)) = omega arith in
       rw (j, q, drop-drop) (valid-prepend e (powerEntries (n - (k + 1)) (drop (at + size) src)))
 
-  -- an entry that is not valid
+  -- the loop stops at an invalid one
   pub invalid-stops : k < n → firstPowerEntry (drop at src) ≡ Invalid → areValid (powerEntries (n - k) (drop at src)) ≡ false
   invalid-stops h q =
       let j : n - k ≡ suc (n - (k + 1)) = omega arith in
       rw (j, q)
 
-  -- all entries read: no byte may follow
+  -- after the last one no byte may follow
   pub valid-end : n ≤ k → at ≤ length src → areValid (powerEntries (n - k) (drop at src)) ≡ eqb at (length src)
   valid-end h l =
       let j : n - k ≡ 0 = omega arith in
@@ -148,9 +161,9 @@ module _ (src : List ℕ) (at k n : ℕ) where
       (λ t. let a : length src ≤ at = ltb-false _ _ t in
       rw (drop-of-length-le src a, eq-eqb at (length src) (omega arith))))
 
--- ---- what has been read
+-- ---- properties of all power entries
 
--- as many entries as asked for, and each with what every valid entry of these bytes has
+-- as many changes as asked for; a property of every valid power entry holds for each
 pub power-entries-each : (Q : LampChange → Type 0) → Q zeroChange → (n : ℕ) (xs : List ℕ) (es : List LampChange)
     → ((j : ℕ) (e : LampChange) (size : ℕ) → firstPowerEntry (drop j xs) ≡ Valid e size → Q e)
     → powerEntries n xs ≡ allValid es → (length es ≡ n) × ((i : ℕ) → Q (getD es i zeroChange))
@@ -180,5 +193,6 @@ power-entries-each Q q (suc n) xs es w h = go (λ size fs. power-entries-each Q 
     go ih (Valid e size) f p = rest ih e size (powerEntries n (drop size xs)) f refl p
     go ih Invalid f p = let z : _≡_ {A = ℕ} 0 1 = cc in absurd (omega arith)
 
+-- as many changes as asked for
 pub power-entries-length : (n : ℕ) (xs : List ℕ) (es : List LampChange) → powerEntries n xs ≡ allValid es → length es ≡ n
 power-entries-length n xs es h = power-entries-each (λ (e : LampChange). Unit {0}) tt n xs es (λ j e size f. tt) h .0

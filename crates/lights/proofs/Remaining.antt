@@ -1,4 +1,4 @@
--- What is left to do at lamp i of the walk over the bitmap, one law for each way through a turn.
+-- What remains to be done from lamp i on, in the loop over the bitmap: one law for each path through its body.
 use mathlib.Core.Path.{_≡_, refl, ap}
 use mathlib.Core.Bool.{cond}
 use mathlib.Core.List.{List, [], _∷_, _++_}
@@ -11,7 +11,7 @@ use lib.Dec.{ltb}
 use borrow.Author.Tests.{lt-ltb, le-ltb}
 use Rattle.dpa.specs.declared.settings.Settings.{Settings}
 use Rattle.lights.specs.Bits.{bits}
-use Rattle.lights.specs.Lamp.{off, actualLevel}
+use Rattle.lights.specs.Lamp.{maxLamps, off, actualLevel}
 use Rattle.lights.specs.Lights.{lampAfter, lampsAfter, levelsBefore}
 use Rattle.lights.proofs.Bits.{bits-more}
 use Rattle.lights.specs.declared.apply.Command.{Command}
@@ -19,20 +19,20 @@ use Rattle.lights.specs.declared.lamp.Lamp.{Lamp}
 use Rattle.lights.specs.declared.power.LampChange.{LampChange}
 
 module _ (c : Command) (n : ℕ) where
-  -- the lamps below i as they are, and those from i on after the entries es that are left
+  -- the lamps below i as they are, and those from i on after the remaining changes es
   abbrev pub lampsFrom : ℕ → ℕ → List LampChange → List Lamp → List Lamp
-  lampsFrom i m es ls = take i ls ++ lampsAfter c (n - i) (bits (32 - i) m) es (drop i ls)
+  lampsFrom i m es ls = take i ls ++ lampsAfter c (n - i) (bits (maxLamps - i) m) es (drop i ls)
 
   -- a lamp that is not selected
-  pub lamps-from-skip : (i m : ℕ) (es : List LampChange) (ls : List Lamp) → i < 32 → length ls ≡ 32 → m % 2 ≡ 0 → lampsFrom i m es ls ≡ lampsFrom (i + 1) (m / 2) es ls
+  pub lamps-from-skip : (i m : ℕ) (es : List LampChange) (ls : List Lamp) → i < maxLamps → length ls ≡ maxLamps → m % 2 ≡ 0 → lampsFrom i m es ls ≡ lampsFrom (i + 1) (m / 2) es ls
   unfolding lampsAfter
   lamps-from-skip i m es ls h l z =
       let w : i < length ls = omega arith in
       let s : (n - i) - 1 ≡ n - suc i = omega arith in
       rw (bits-more i m h, z, drop-cons ls i off, s, add-one, take-suc ls i off, append-snoc)
 
-  -- a selected lamp that is not implemented
-  pub lamps-from-unimplemented : (i m : ℕ) (e : LampChange) (es : List LampChange) (ls : List Lamp) → i < 32 → length ls ≡ 32 → m % 2 ≡ 1 → n ≤ i
+  -- a selected, unimplemented lamp
+  pub lamps-from-unimplemented : (i m : ℕ) (e : LampChange) (es : List LampChange) (ls : List Lamp) → i < maxLamps → length ls ≡ maxLamps → m % 2 ≡ 1 → n ≤ i
       → lampsFrom i m (e ∷ es) ls ≡ lampsFrom (i + 1) (m / 2) es ls
   unfolding lampsAfter
   lamps-from-unimplemented i m e es ls h l z q =
@@ -41,8 +41,8 @@ module _ (c : Command) (n : ℕ) where
       let t : n - i ≤ 0 = omega arith in
       rw (bits-more i m h, z, drop-cons ls i off, s, le-ltb 0 (n - i) t, add-one i, take-suc ls i off, append-snoc)
 
-  -- a selected lamp
-  pub lamps-from-changed : (i m : ℕ) (e : LampChange) (es : List LampChange) (ls : List Lamp) (r : Lamp) → i < 32 → length ls ≡ 32 → m % 2 ≡ 1 → i < n
+  -- a selected, implemented lamp
+  pub lamps-from-changed : (i m : ℕ) (e : LampChange) (es : List LampChange) (ls : List Lamp) (r : Lamp) → i < maxLamps → length ls ≡ maxLamps → m % 2 ≡ 1 → i < n
       → r ≡ lampAfter c (getD ls i off) (e .power) (e .seconds)
       → lampsFrom i m (e ∷ es) ls ≡ lampsFrom (i + 1) (m / 2) es (set ls i r)
   unfolding lampsAfter
@@ -59,26 +59,28 @@ module _ (c : Command) (n : ℕ) where
   lamps-none (suc k) j es [] = refl
   lamps-none (suc k) j es (l ∷ ls) = ap (λ (xs : List Lamp). l ∷ xs) (lamps-none k (j - 1) es ls)
 
-  -- no selected lamp is left
+  -- no selected lamp remains
   pub lamps-from-end : (i : ℕ) (es : List LampChange) (ls : List Lamp) → lampsFrom i 0 es ls ≡ ls
-  lamps-from-end i es ls = rw (lamps-none (32 - i) (n - i) es (drop i ls)) (take-append-drop i ls)
+  lamps-from-end i es ls = rw (lamps-none (maxLamps - i) (n - i) es (drop i ls)) (take-append-drop i ls)
 
 module _ (s : Settings) (n : ℕ) (ls : List Lamp) where
   -- the levels of the selected lamps from i on
   abbrev pub levelsFrom : ℕ → ℕ → List ℕ
-  levelsFrom i m = levelsBefore s (n - i) (bits (32 - i) m) (drop i ls)
+  levelsFrom i m = levelsBefore s (n - i) (bits (maxLamps - i) m) (drop i ls)
 
   levels-skip : (k : ℕ) (bs : List ℕ) (x : Lamp) (xs : List Lamp) → levelsBefore s k (0 ∷ bs) (x ∷ xs) ≡ levelsBefore s (k - 1) bs xs
   unfolding levelsBefore
   levels-skip k bs x xs = refl
 
-  pub levels-from-skip : (i m : ℕ) → i < 32 → length ls ≡ 32 → m % 2 ≡ 0 → levelsFrom i m ≡ levelsFrom (i + 1) (m / 2)
+  -- a lamp that is not selected has no level
+  pub levels-from-skip : (i m : ℕ) → i < maxLamps → length ls ≡ maxLamps → m % 2 ≡ 0 → levelsFrom i m ≡ levelsFrom (i + 1) (m / 2)
   levels-from-skip i m h l z =
       let w : i < length ls = omega arith in
       let t : (n - i) - 1 ≡ n - suc i = omega arith in
       rw (bits-more i m h, z, drop-cons ls i off, levels-skip, t, add-one i)
 
-  pub levels-from-more : (i m k : ℕ) (out : List ℕ) (r : ℕ) → i < 32 → length ls ≡ 32 → k < length out → m % 2 ≡ 1
+  -- a selected lamp's level is written at k
+  pub levels-from-more : (i m k : ℕ) (out : List ℕ) (r : ℕ) → i < maxLamps → length ls ≡ maxLamps → k < length out → m % 2 ≡ 1
       → r ≡ cond (ltb 0 (n - i)) (actualLevel s (getD ls i off .level)) 0
       → take k out ++ levelsFrom i m ≡ take (k + 1) (set out k r) ++ levelsFrom (i + 1) (m / 2)
   unfolding levelsBefore
@@ -93,14 +95,17 @@ module _ (s : Settings) (n : ℕ) (ls : List Lamp) where
   levels-none (suc k) j [] = refl
   levels-none (suc k) j (x ∷ xs) = levels-none k (j - 1) xs
 
+  -- no selected lamp remains
   pub levels-from-end : (i : ℕ) → levelsFrom i 0 ≡ []
-  levels-from-end i = levels-none (32 - i) (n - i) (drop i ls)
+  levels-from-end i = levels-none (maxLamps - i) (n - i) (drop i ls)
 
+-- an implemented lamp has its actual level
 pub level-implemented : (n i v w : ℕ) → i < n → v ≡ w → v ≡ cond (ltb 0 (n - i)) w 0
 level-implemented n i v w h e =
     let t : 0 < n - i = omega arith in
     rw (lt-ltb 0 (n - i) t) e
 
+-- an unimplemented lamp has level 0
 pub level-unimplemented : (n i w : ℕ) → n ≤ i → 0 ≡ cond (ltb 0 (n - i)) w 0
 level-unimplemented n i w h =
     let t : n - i ≤ 0 = omega arith in

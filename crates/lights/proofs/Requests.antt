@@ -1,4 +1,4 @@
--- Laws of a whole request.
+-- Laws of a lights request as a whole.
 use mathlib.Core.Path.{_≡_, refl, sym, ap, _∙_}
 use mathlib.Core.Bool.{true, cond, _&&_}
 use mathlib.Core.List.{List, [], _∷_}
@@ -10,12 +10,12 @@ use borrow.Author.Tests.{ltb-false}
 use Rattle.dpa.specs.Reply.{Harmless, Reply, reply, refused}
 use Rattle.dpa.proofs.Bool.{by-cond}
 use Rattle.dpa.specs.declared.settings.Settings.{Settings}
-use Rattle.lights.specs.Bits.{count, bitmap, isOne, selected, numberBelow}
-use Rattle.lights.specs.Lamp.{off, lampFits, LampRule, actualLevel}
-use Rattle.lights.specs.Lights.{PowerEntries, allValid, malformed, powerEntries, lampsAfter, levelsBefore, levelsReply, changeLamps, enumerateLamps, lightsRequest}
+use Rattle.lights.specs.Bits.{bitmapSize, count, bitmap, isOne, selected, numberBelow}
+use Rattle.lights.specs.Lamp.{maxLamps, off, lampFits, LampRule, actualLevel}
+use Rattle.lights.specs.Lights.{commandPcmd, enumeratePcmd, PowerEntries, allValid, malformed, powerEntries, malformedError, lampsAfter, levelsBefore, levelsReply, changeLamps, enumerateLamps, lightsRequest}
 use Rattle.lights.proofs.Lamps.{fits-test, fits-rule, fits-above, zero-facts}
 use Rattle.lights.proofs.Bits.{count-length}
-use Rattle.lights.proofs.Selected.{bitmap-length, count-selected, rank-selected, selected-digit}
+use Rattle.lights.proofs.Selected.{bitmap-length, count-selected, rank-selected, selected-bit}
 use Rattle.lights.proofs.PowerEntries.{zeroChange, changesOf, power-entries-length}
 use Rattle.lights.proofs.EachLamp.{lampAfterEntry, lamps-after-at, lamp-unimplemented, lamps-length, levels-before-at}
 use Rattle.lights.proofs.Replies.{levels-length}
@@ -25,45 +25,46 @@ use Rattle.lights.specs.declared.apply.Command.the-variants.{Set, Raise,
 use Rattle.lights.specs.declared.lamp.Lamp.{Lamp}
 use Rattle.lights.specs.declared.power.LampChange.{LampChange}
 
--- the entries that PData holds, and lamp k's own among them
+-- the changes that PData holds
 abbrev pub changesIn : List ℕ → List LampChange
-changesIn xs = changesOf (powerEntries (count (bitmap xs)) (drop 4 xs))
+changesIn xs = changesOf (powerEntries (count (bitmap xs)) (drop bitmapSize xs))
 
+-- the change for lamp k
 abbrev pub changeFor : List ℕ → ℕ → LampChange
 changeFor xs k = getD (changesIn xs) (numberBelow k (selected xs)) zeroChange
 
 module _ (s : Settings) (xs : List ℕ) (ls : List Lamp) where
-  -- a request to change lamps is refused with 6, or its entries are all valid
-  pub change-cases : (c : Command) (P : Reply (List Lamp) → Type 0) → P (refused ls 6)
-      → ((es : List LampChange) → 4 ≤ length xs → powerEntries (count (bitmap xs)) (drop 4 xs) ≡ allValid es
+  -- set, raise and lower are refused with 6, or all power entries are valid
+  pub change-cases : (c : Command) (P : Reply (List Lamp) → Type 0) → P (refused ls malformedError)
+      → ((es : List LampChange) → bitmapSize ≤ length xs → powerEntries (count (bitmap xs)) (drop bitmapSize xs) ≡ allValid es
       → P (reply (lampsAfter c (s .«lamp_count») (bitmap xs) es ls) 0 (levelsBefore s (s .«lamp_count») (bitmap xs) ls)))
       → P (changeLamps s c xs ls)
   unfolding changeLamps
   change-cases c P f g =
-      by-cond P (ltb (length xs) 4) _ _ (λ t. f) (λ t. go (powerEntries (count (bitmap xs)) (drop 4 xs)) refl (ltb-false _ _ t))
+      by-cond P (ltb (length xs) bitmapSize) _ _ (λ t. f) (λ t. go (powerEntries (count (bitmap xs)) (drop bitmapSize xs)) refl (ltb-false _ _ t))
     where
-      go : (r : PowerEntries) → powerEntries (count (bitmap xs)) (drop 4 xs) ≡ r → 4 ≤ length xs → P (levelsReply s c (bitmap xs) ls r)
+      go : (r : PowerEntries) → powerEntries (count (bitmap xs)) (drop bitmapSize xs) ≡ r → bitmapSize ≤ length xs → P (levelsReply s c (bitmap xs) ls r)
       go (allValid es) e h = g es h e
       go malformed e h = f
 
-  -- any request is refused with an error, tells the count, or has entries that are all valid
+  -- any request is refused with an error, returns the lamp count, or has valid power entries only
   pub request-cases : (p : ℕ) (P : Reply (List Lamp) → Type 0)
       → ((e : ℕ) → (e ≡ 0 → ⊥) → P (refused ls e))
       → P (reply ls 0 (s .«lamp_count» ∷ []))
-      → ((c : Command) (es : List LampChange) → 4 ≤ length xs → powerEntries (count (bitmap xs)) (drop 4 xs) ≡ allValid es
+      → ((c : Command) (es : List LampChange) → bitmapSize ≤ length xs → powerEntries (count (bitmap xs)) (drop bitmapSize xs) ≡ allValid es
       → P (reply (lampsAfter c (s .«lamp_count») (bitmap xs) es ls) 0 (levelsBefore s (s .«lamp_count») (bitmap xs) ls)))
       → P (lightsRequest s p xs ls)
   unfolding lightsRequest enumerateLamps
   request-cases p P f n g =
-      let change : (c : Command) → P (changeLamps s c xs ls) = λ c. change-cases c P (f 6 (λ z. omega arith)) (g c) in
-      by-cond P (eqb p 0x00) _ _ (λ _. change Set)
-      (λ _. by-cond P (eqb p 0x01) _ _ (λ _. change Raise)
-      (λ _. by-cond P (eqb p 0x02) _ _ (λ _. change Lower)
-      (λ _. by-cond P (eqb p 0x3E) _ _
+      let change : (c : Command) → P (changeLamps s c xs ls) = λ c. change-cases c P (f malformedError (λ z. omega arith)) (g c) in
+      by-cond P (eqb p (commandPcmd Set)) _ _ (λ _. change Set)
+      (λ _. by-cond P (eqb p (commandPcmd Raise)) _ _ (λ _. change Raise)
+      (λ _. by-cond P (eqb p (commandPcmd Lower)) _ _ (λ _. change Lower)
+      (λ _. by-cond P (eqb p enumeratePcmd) _ _
       (λ _. by-cond P (eqb (length xs) 0) _ _ (λ _. n) (λ _. f 5 (λ z. omega arith)))
       (λ _. f 2 (λ z. omega arith)))))
 
-  -- a request whose error is not 0 leaves the lamps and has no data
+  -- a request with an error leaves the lamps and returns no data
   pub request-harmless : (p : ℕ) → Harmless ls (lightsRequest s p xs ls)
   request-harmless p =
       request-cases p (λ (x : Reply (List Lamp)). Harmless ls x)
@@ -75,29 +76,29 @@ module _ (s : Settings) (xs : List ℕ) (ls : List Lamp) where
       request-cases p (λ (x : Reply (List Lamp)). length (x .after) ≡ length ls)
       (λ e n. refl) refl (λ c es l e. lamps-length c (s .«lamp_count») (bitmap xs) es ls)
 
-  module _ (full : length ls ≡ 32) where
-    fits-map : length (bitmap xs) ≤ length ls
-    fits-map = omega (arith, bitmap-length xs)
+  module _ (full : length ls ≡ maxLamps) where
+    bitmap-fits : length (bitmap xs) ≤ length ls
+    bitmap-fits = omega (arith, bitmap-length xs)
 
-    enough : (es : List LampChange) → powerEntries (count (bitmap xs)) (drop 4 xs) ≡ allValid es → count (bitmap xs) ≤ length es
-    enough es e = omega (arith, power-entries-length (count (bitmap xs)) (drop 4 xs) es e)
+    changes-enough : (es : List LampChange) → powerEntries (count (bitmap xs)) (drop bitmapSize xs) ≡ allValid es → count (bitmap xs) ≤ length es
+    changes-enough es e = omega (arith, power-entries-length (count (bitmap xs)) (drop bitmapSize xs) es e)
 
-    -- a successful change answers a byte for each selected lamp
-    pub answer-length : (c : Command) → changeLamps s c xs ls .error ≡ 0 → length (changeLamps s c xs ls .bytes) ≡ numberBelow 32 (selected xs)
+    -- a successful change returns a byte for each selected lamp
+    pub answer-length : (c : Command) → changeLamps s c xs ls .error ≡ 0 → length (changeLamps s c xs ls .bytes) ≡ numberBelow maxLamps (selected xs)
     answer-length c =
-        change-cases c (λ (x : Reply (List Lamp)). x .error ≡ 0 → length (x .bytes) ≡ numberBelow 32 (selected xs))
+        change-cases c (λ (x : Reply (List Lamp)). x .error ≡ 0 → length (x .bytes) ≡ numberBelow maxLamps (selected xs))
         (λ z. absurd (omega arith))
-        (λ es l e z. levels-length s (s .«lamp_count») (bitmap xs) ls fits-map ∙ count-selected xs)
+        (λ es l e z. levels-length s (s .«lamp_count») (bitmap xs) ls bitmap-fits ∙ count-selected xs)
 
-    -- no answer has more than 32 bytes
-    pub answer-max : (p : ℕ) → length (lightsRequest s p xs ls .bytes) ≤ 32
+    -- response data has at most a byte for each lamp
+    pub answer-max : (p : ℕ) → length (lightsRequest s p xs ls .bytes) ≤ maxLamps
     answer-max p =
-        request-cases p (λ (x : Reply (List Lamp)). length (x .bytes) ≤ 32)
+        request-cases p (λ (x : Reply (List Lamp)). length (x .bytes) ≤ maxLamps)
         (λ e n. omega arith) (omega arith)
-        (λ c es l e. omega (arith, levels-length s (s .«lamp_count») (bitmap xs) ls fits-map, count-length (bitmap xs), bitmap-length xs))
+        (λ c es l e. omega (arith, levels-length s (s .«lamp_count») (bitmap xs) ls bitmap-fits, count-length (bitmap xs), bitmap-length xs))
 
-    -- each lamp after a successful change: by its own entry if it is selected and implemented, else as it was
-    pub lamp-at : (c : Command) (k : ℕ) → k < 32 → changeLamps s c xs ls .error ≡ 0
+    -- each lamp after a successful change: changed if it is selected and implemented, else unchanged
+    pub lamp-at : (c : Command) (k : ℕ) → k < maxLamps → changeLamps s c xs ls .error ≡ 0
         → getD (changeLamps s c xs ls .after) k off
         ≡ cond (selected xs k && ltb k (s .«lamp_count»)) (lampAfterEntry c (getD ls k off) (changeFor xs k)) (getD ls k off)
     lamp-at c k h =
@@ -106,14 +107,14 @@ module _ (s : Settings) (xs : List ℕ) (ls : List Lamp) where
         (λ (x : Reply (List Lamp)). x .error ≡ 0 → getD (x .after) k off ≡ cond (selected xs k && ltb k (s .«lamp_count»)) (lampAfterEntry c l (changeFor xs k)) l)
         (λ z. absurd (omega arith))
         (λ es _ e z.
-        let d : isOne (getD (bitmap xs) k 0) ≡ selected xs k = selected-digit xs k h in
+        let d : isOne (getD (bitmap xs) k 0) ≡ selected xs k = selected-bit xs k h in
         let f : es ≡ changesIn xs = sym (ap changesOf e) in
         let r : count (take k (bitmap xs)) ≡ numberBelow k (selected xs) = rank-selected xs k (omega arith) in
-        lamps-after-at c (s .«lamp_count») (bitmap xs) es ls k fits-map (enough es e)
+        lamps-after-at c (s .«lamp_count») (bitmap xs) es ls k bitmap-fits (changes-enough es e)
         ∙ (λ i. cond (d i && ltb k (s .«lamp_count»)) (lampAfterEntry c l (getD (f i) (r i) zeroChange)) l))
 
-    -- each selected lamp's actual level before a successful change is answered, 0 for an unimplemented lamp
-    pub level-at : (c : Command) (k : ℕ) → k < 32 → selected xs k ≡ true → changeLamps s c xs ls .error ≡ 0
+    -- a successful change returns the previous actual level of each selected lamp, 0 for an unimplemented one
+    pub level-at : (c : Command) (k : ℕ) → k < maxLamps → selected xs k ≡ true → changeLamps s c xs ls .error ≡ 0
         → getD (changeLamps s c xs ls .bytes) (numberBelow k (selected xs)) 0 ≡ cond (ltb k (s .«lamp_count»)) (actualLevel s (getD ls k off .level)) 0
     level-at c k h t =
         change-cases c
@@ -121,17 +122,17 @@ module _ (s : Settings) (xs : List ℕ) (ls : List Lamp) where
         (λ z. absurd (omega arith))
         (λ es _ e z.
         ap (λ (j : ℕ). getD (levelsBefore s (s .«lamp_count») (bitmap xs) ls) j 0) (sym (rank-selected xs k (omega arith)))
-        ∙ levels-before-at s (s .«lamp_count») (bitmap xs) ls k fits-map (selected-digit xs k h ∙ t))
+        ∙ levels-before-at s (s .«lamp_count») (bitmap xs) ls k bitmap-fits (selected-bit xs k h ∙ t))
 
-    -- a lamp from the count up is never changed
+    -- an unimplemented lamp never changes
     pub unimplemented-stays : (p k : ℕ) → s .«lamp_count» ≤ k → getD (lightsRequest s p xs ls .after) k off ≡ getD ls k off
     unimplemented-stays p k h =
         request-cases p (λ (x : Reply (List Lamp)). getD (x .after) k off ≡ getD ls k off)
         (λ e n. refl) refl
         (λ c es _ e.
-        lamp-unimplemented c (s .«lamp_count») (bitmap xs) es ls k fits-map (enough es e) h)
+        lamp-unimplemented c (s .«lamp_count») (bitmap xs) es ls k bitmap-fits (changes-enough es e) h)
 
-    -- a lamp that fits its place still fits
+    -- a lamp with valid values keeps valid values
     pub request-keeps : (p k : ℕ) → lampFits (s .«lamp_count») k (getD ls k off) ≡ true
         → lampFits (s .«lamp_count») k (getD (lightsRequest s p xs ls .after) k off) ≡ true
     request-keeps p k fit =
@@ -140,8 +141,8 @@ module _ (s : Settings) (xs : List ℕ) (ls : List Lamp) where
         fits-test n k (getD (lightsRequest s p xs ls .after) k off)
         (λ _. request-cases p (λ (x : Reply (List Lamp)). LampRule (getD (x .after) k off)) (λ e z. rule) rule
         (λ c es _ e.
-        let valid : (i : ℕ) → ChangeRule (getD es i zeroChange) = power-entries-rule (count (bitmap xs)) (drop 4 xs) es e in
-        rw (lamps-after-at c n (bitmap xs) es ls k fits-map (enough es e))
+        let valid : (i : ℕ) → ChangeRule (getD es i zeroChange) = power-entries-rule (count (bitmap xs)) (drop bitmapSize xs) es e in
+        rw (lamps-after-at c n (bitmap xs) es ls k bitmap-fits (changes-enough es e))
         (by-cond (λ (l : Lamp). LampRule l) (isOne (getD (bitmap xs) k 0) && ltb k n) _ _
         (λ _. lamp-after-rule c (getD ls k off) (getD es (count (take k (bitmap xs))) zeroChange) rule (valid (count (take k (bitmap xs)))))
         (λ _. rule))))

@@ -12,10 +12,11 @@ use lib.Count.{ones}
 use borrow.Author.Tests.{ltb-true, ltb-false}
 use Rattle.dpa.specs.Lists.{Bytes}
 use Rattle.dpa.proofs.Bool.{by-test}
+use Rattle.lights.specs.Lamp.{maxLamps}
 use Rattle.lights.specs.Bits.{bits, count, bitmap, maskOf, isOne, selected, numberBelow}
 use Rattle.lights.proofs.Bits.{bits-length, bits-mask, ones-count}
 
--- digit i of a number
+-- bit i of a number
 pub bit-at : (k m i : ℕ) → i < k → getD (bits k m) i 0 ≡ m / 2 ^ i % 2
 unfolding bits
 bit-at zero m i h = absurd (omega arith)
@@ -34,7 +35,8 @@ rear-at b rest k h =
     let e : k ≡ length (bits 8 b) + (k - 8) = omega (arith, bits-length 8 b) in
     ap (λ (j : ℕ). getD (bits 8 b ++ rest) j 0) e ∙ getD-append-add (bits 8 b) rest (k - 8) 0
 
-pub bitmap-length : (xs : List ℕ) → length (bitmap xs) ≡ 32
+-- a bit for each lamp
+pub bitmap-length : (xs : List ℕ) → length (bitmap xs) ≡ maxLamps
 unfolding bitmap
 bitmap-length xs =
     let b : ℕ → List ℕ = λ i. bits 8 (getD xs i 0) in
@@ -43,8 +45,8 @@ bitmap-length xs =
     let g : length (b 1 ++ (b 2 ++ b 3)) ≡ 24 = omega (arith, length-append (b 1) (b 2 ++ b 3), e 1, f) in
     omega (arith, length-append (b 0) (b 1 ++ (b 2 ++ b 3)), e 0, g)
 
--- digit k of the bitmap is bit k mod 8 of byte k / 8
-pub bitmap-at : (xs : List ℕ) (k : ℕ) → k < 32 → getD (bitmap xs) k 0 ≡ getD xs (k / 8) 0 / 2 ^ (k % 8) % 2
+-- bit k of the bitmap is bit k mod 8 of byte k / 8
+pub bitmap-at : (xs : List ℕ) (k : ℕ) → k < maxLamps → getD (bitmap xs) k 0 ≡ getD xs (k / 8) 0 / 2 ^ (k % 8) % 2
 unfolding bitmap
 bitmap-at xs k h =
     let place : (q r : ℕ) → q ≡ k / 8 → r ≡ k % 8 → getD xs q 0 / 2 ^ r % 2 ≡ getD xs (k / 8) 0 / 2 ^ (k % 8) % 2 =
@@ -63,10 +65,10 @@ bitmap-at xs k h =
     (λ v. let n : 24 ≤ k = ltb-false k 24 v in
     rear-at _ _ (k - 8 - 8) (omega arith) ∙ bit-at 8 _ (k - 8 - 8 - 8) (omega arith) ∙ place 3 (k - 8 - 8 - 8) (omega arith) (omega arith))))
 
--- lamp k is selected where its digit is 1
-pub selected-digit : (xs : List ℕ) (k : ℕ) → k < 32 → isOne (getD (bitmap xs) k 0) ≡ selected xs k
+-- lamp k is selected if bit k is 1
+pub selected-bit : (xs : List ℕ) (k : ℕ) → k < maxLamps → isOne (getD (bitmap xs) k 0) ≡ selected xs k
 unfolding selected
-selected-digit xs k h = ap isOne (bitmap-at xs k h)
+selected-bit xs k h = ap isOne (bitmap-at xs k h)
 
 number-same : (n : ℕ) (f g : ℕ → Bool) → ((k : ℕ) → k < n → f k ≡ g k) → numberBelow n f ≡ numberBelow n g
 unfolding numberBelow
@@ -79,7 +81,7 @@ unfolding numberBelow
 number-shift zero f = omega arith
 number-shift (suc n) f = omega (arith, number-shift n f)
 
--- ones among the first k digits
+-- the ones among the first k bits
 number-count : (bs : List ℕ) (k : ℕ) → k ≤ length bs → numberBelow k (λ i. isOne (getD bs i 0)) ≡ count (take k bs)
 unfolding numberBelow
 number-count bs zero h = refl
@@ -87,18 +89,18 @@ number-count [] (suc k) h = absurd (omega arith)
 number-count (zero ∷ bs) (suc k) h = number-shift k (λ i. isOne (getD (zero ∷ bs) i 0)) ∙ omega (arith, number-count bs k (omega arith))
 number-count (suc b ∷ bs) (suc k) h = number-shift k (λ i. isOne (getD (suc b ∷ bs) i 0)) ∙ omega (arith, number-count bs k (omega arith))
 
--- the digits below lamp k that are 1 are the selected lamps below k
-pub rank-selected : (xs : List ℕ) (k : ℕ) → k ≤ 32 → count (take k (bitmap xs)) ≡ numberBelow k (selected xs)
+-- the ones below bit k are the selected lamps below k
+pub rank-selected : (xs : List ℕ) (k : ℕ) → k ≤ maxLamps → count (take k (bitmap xs)) ≡ numberBelow k (selected xs)
 rank-selected xs k h =
     sym (number-count (bitmap xs) k (omega (arith, bitmap-length xs)))
-    ∙ number-same k (λ i. isOne (getD (bitmap xs) i 0)) (selected xs) (λ i l. selected-digit xs i (omega arith))
+    ∙ number-same k (λ i. isOne (getD (bitmap xs) i 0)) (selected xs) (λ i l. selected-bit xs i (omega arith))
 
--- the number of one-bits is the number of selected lamps
-pub count-selected : (xs : List ℕ) → count (bitmap xs) ≡ numberBelow 32 (selected xs)
-count-selected xs = sym (ap count (take-all 32 (bitmap xs) (omega (arith, bitmap-length xs)))) ∙ rank-selected xs 32 (omega arith)
+-- the number of 1-bits is the number of selected lamps
+pub count-selected : (xs : List ℕ) → count (bitmap xs) ≡ numberBelow maxLamps (selected xs)
+count-selected xs = sym (ap count (take-all maxLamps (bitmap xs) (omega (arith, bitmap-length xs)))) ∙ rank-selected xs maxLamps (omega arith)
 
--- the language's count of ones of the four bytes is the number of selected lamps
-pub mask-selected : (xs : List ℕ) → Bytes xs → ones (maskOf xs) ≡ numberBelow 32 (selected xs)
+-- `count_ones` of the mask is the number of selected lamps
+pub mask-selected : (xs : List ℕ) → Bytes xs → ones (maskOf xs) ≡ numberBelow maxLamps (selected xs)
 mask-selected xs small =
     let h : maskOf xs < 2 ^ 32 = omega (arith, small 0, small 1, small 2, small 3) in
-    ones-count 32 (maskOf xs) h ∙ ap count (bits-mask xs small) ∙ count-selected xs
+    ones-count maxLamps (maskOf xs) h ∙ ap count (bits-mask xs small) ∙ count-selected xs

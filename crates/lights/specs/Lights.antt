@@ -63,11 +63,6 @@ firstPowerEntry (b ∷ xs) =
     (cond (ltb b bit7) (Valid (change (b % bit7) 0) 1) (timedPowerEntry (b % bit7) xs))
     Invalid
 
--- ErrN of a power entry
-abbrev pub powerEntryError : PowerEntry → ℕ
-powerEntryError (Valid e size) = 0
-powerEntryError Invalid = 6
-
 -- ---- all power entries, checked before any lamp changes
 
 -- malformed: an invalid power entry, too few bytes or too many
@@ -98,7 +93,7 @@ newLevel Set level power = power
 newLevel Raise level power = min (level + power) maxLevel
 newLevel Lower level power = level - power
 
--- the timer is cleared when the new level is 0
+-- the power `keepPower` leaves the lamp unchanged; the timer is cleared when the new level is 0
 unfoldable pub lampAfter : Command → Lamp → ℕ → ℕ → Lamp
 lampAfter c l power seconds =
     let level = newLevel c (l .level) power in
@@ -125,16 +120,20 @@ levelsBefore s n (suc b ∷ bs) (l ∷ ls) = cond (ltb 0 n) (actualLevel s (l .l
 
 -- ---- the request
 
+-- ErrN of a bitmap or power entries that are malformed
+abbrev pub malformedError : ℕ
+malformedError = 6
+
 -- the reply to set, raise and lower
 abbrev pub levelsReply : Settings → Command → List ℕ → List Lamp → PowerEntries → Reply (List Lamp)
 levelsReply s c bs ls (allValid es) =
     reply (lampsAfter c (s .«lamp_count») bs es ls) 0 (levelsBefore s (s .«lamp_count») bs ls)
-levelsReply s c bs ls malformed = refused ls (powerEntryError Invalid)
+levelsReply s c bs ls malformed = refused ls malformedError
 
 -- PData of set, raise and lower: the bitmap, then a power entry for each selected lamp
 unfoldable pub changeLamps : Settings → Command → List ℕ → List Lamp → Reply (List Lamp)
 changeLamps s c xs ls =
-    cond (ltb (length xs) bitmapSize) (refused ls (powerEntryError Invalid))
+    cond (ltb (length xs) bitmapSize) (refused ls malformedError)
     (levelsReply s c (bitmap xs) ls (powerEntries (count (bitmap xs)) (drop bitmapSize xs)))
 
 -- enumerate: no PData, and the lamp count in the response
@@ -150,7 +149,7 @@ lightsRequest s pcmd xs ls =
     (cond (eqb pcmd enumeratePcmd) (enumerateLamps s xs ls)
     (refused ls 2))))
 
--- ---- results of inner functions
+-- ---- results of inner functions of the code
 
 abbrev pub isValid : PowerEntry → Bool
 isValid (Valid e size) = true

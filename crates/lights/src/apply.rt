@@ -74,26 +74,27 @@ pub fn apply(
     ensures { λ r. ⌜ replySeen r 0 (count (bits maxLamps mask)) (now (out .exit))
         ≡ replyInBuffer (levelsReply settings command (bits maxLamps mask) lamps (powerEntries (count (bits maxLamps mask)) (drop bitmapSize (now (pdata .entry))))) (now (out .entry)) ⌝ }
 {
-    let n = wide(settings.lamp_count);
+    let implemented = wide(settings.lamp_count);
     let mut after = lamps;
-    let mut m = mask;
+    // The bits of lamp i and of the lamps above it.
+    let mut remaining = mask;
     let mut at: usize = BITMAP_SIZE;
-    let mut k: usize = 0;
+    let mut written: usize = 0;
     let mut i: usize = 0;
-    while m != 0 {
-        if m % 2 == 1 {
-            let entry = valid_power_entry_at(pdata, at);
-            if i < n {
+    while remaining != 0 {
+        if remaining % 2 == 1 {
+            let power_entry = valid_power_entry_at(pdata, at);
+            if i < implemented {
                 let lamp = after[i];
-                out[k] = actual_level(settings, lamp.level);
-                after[i] = lamp_after(command, lamp, entry.power, entry.seconds);
+                out[written] = actual_level(settings, lamp.level);
+                after[i] = lamp_after(command, lamp, power_entry.power, power_entry.seconds);
             } else {
-                out[k] = 0;
+                out[written] = 0;
             }
-            at = at + entry.size;
-            k = k + 1;
+            at = at + power_entry.size;
+            written = written + 1;
         }
-        m = m / 2;
+        remaining = remaining / 2;
         i = i + 1;
     }
     after

@@ -1,4 +1,4 @@
--- `apply::apply` meets its contract: proofs/Walk says what a turn keeps.
+-- `apply::apply` meets its contract: proofs/ApplyLoop has the invariant and its laws.
 use borrow.Author.Needs.{needs}
 use native.Mathlib.Omega.{arith}
 use mathlib.Core.Path.{_≡_}
@@ -6,58 +6,64 @@ use mathlib.Core.Logic.{⊎-elim}
 use Prim.Native.Nat.{_<_}
 use lib.ListN.{length}
 use denote.Ref.{now}
-use Rattle.lights.proofs.ApplyLoop.{ApplyLoop, apply-start, apply-end, apply-level-max, apply-inside, apply-out-room, apply-skip, apply-first-valid, apply-pdata-room, apply-implemented, apply-unimplemented}
+use Rattle.lights.specs.Lamp.{maxLamps}
+use Rattle.lights.proofs.ApplyLoop.{ApplyInput, ApplyLoop, apply-start, apply-end, apply-level-max, apply-inside, apply-out-room, apply-skip, apply-first-valid, apply-pdata-room, apply-implemented, apply-unimplemented}
 use Rattle.lights.proofs.apply.apply.Statement.{statement}
 use Rattle.lights.proofs.apply.apply.Tie as tie
 
 abbrev Inv-loop : tie.InvT-loop
-Inv-loop settings command mask pdata out₀ n after₀ m₀ at₀ k₀ i₀ out after m at k i =
-    ApplyLoop settings command mask pdata after₀ out₀ n after out m at k i
+Inv-loop settings command mask pdata out₀ implemented after₀ remaining₀ at₀ written₀ i₀ out after remaining at written i =
+    ApplyLoop settings command mask pdata after₀ out₀ implemented after out remaining at written i
 
 abbrev μ-loop : tie.MeasureT-loop
-μ-loop settings command mask pdata out₀ n after₀ m₀ at₀ k₀ i₀ out after m at k i = m
+μ-loop settings command mask pdata out₀ implemented after₀ remaining₀ at₀ written₀ i₀ out after remaining at written i = remaining
 
-lamps-length : (c : tie.Start Inv-loop μ-loop) → length (c .args .lamps) ≡ 32
+lamps-length : (c : tie.Start Inv-loop μ-loop) → length (c .args .lamps) ≡ maxLamps
 lamps-length c = search needs
 
 loop-holds : tie.Need-loop-holds Inv-loop μ-loop
 loop-holds c =
     let s = c .before .before .before in
     let a = s .args in
-    apply-start (a .settings) (a .command) (a .mask) (now (a .pdata)) (a .lamps) (now (a .out)) (c .wide .result)
-    (c .wide .ensures .0) (lamps-length s) (s .pre .2) (s .pre .3) (s .fits .mask .fits) (s .pre .4)
+    let input : ApplyInput (a .settings) (a .mask) (now (a .pdata)) (a .lamps) (now (a .out)) (c .wide .result) =
+    record { count-is = c .wide .ensures .0; lamps-length = lamps-length s; old-length = s .pre .2; all-valid = s .pre .4 } in
+    apply-start (a .settings) (a .command) (a .mask) (now (a .pdata)) (a .lamps) (now (a .out)) (c .wide .result) input (s .pre .3) (s .fits .mask .fits)
 
 valid-power-entry-at-requires : tie.Need-valid-power-entry-at-requires Inv-loop μ-loop
 valid-power-entry-at-requires c κs =
     let l = c .before .before .loop in
     apply-first-valid (l .inv) (c .before .loop-test .taken) (c .if1 .taken)
 
-inside : (c : tie.In-loop Inv-loop μ-loop) → c .before .loop .i < 32
+-- the start of the loop body, from the branch of an implemented lamp
+abbrev loop : tie.Then2 Inv-loop μ-loop → tie.In-loop Inv-loop μ-loop
+loop c = c .before .before .before
+
+inside : (c : tie.In-loop Inv-loop μ-loop) → c .before .loop .i < maxLamps
 inside c = apply-inside (c .before .loop .inv) (c .loop-test .taken)
 
-free : (c : tie.In-loop Inv-loop μ-loop) → c .before .loop .k < length (c .before .loop .out)
+free : (c : tie.In-loop Inv-loop μ-loop) → c .before .loop .written < length (c .before .loop .out)
 free c = apply-out-room (c .before .loop .inv) (c .loop-test .taken)
 
 mul-lamp : tie.Need-mul-lamp Inv-loop μ-loop
-mul-lamp c = omega (arith, inside (c .before .before .before))
+mul-lamp c = omega (arith, inside (loop c))
 
 array-copy-out-lamp : tie.Need-array-copy-out-lamp Inv-loop μ-loop
-array-copy-out-lamp c = inside (c .before .before .before)
+array-copy-out-lamp c = inside (loop c)
 
 actual-level-requires : tie.Need-actual-level-requires Inv-loop μ-loop
 actual-level-requires c κs =
-    let l = c .before .before .before .before .before .loop in
-    let s = c .before .before .before .before .before .before .before .before .before in
-    (s .pre .0, apply-level-max (l .inv) (s .pre .1))
+    let l = loop (c .before) .before in
+    let s = l .before .before .before .before in
+    (s .pre .0, apply-level-max (l .loop .inv) (s .pre .1))
 
 slice-write-out : tie.Need-slice-write-out Inv-loop μ-loop
-slice-write-out c = free (c .before .before .before .before .before)
+slice-write-out c = free (loop (c .before .before))
 
 mul-after : tie.Need-mul-after Inv-loop μ-loop
-mul-after c = omega (arith, inside (c .before .before .before .before .before .before))
+mul-after c = omega (arith, inside (loop (c .before .before .before)))
 
 array-set-from-after : tie.Need-array-set-from-after Inv-loop μ-loop
-array-set-from-after c = inside (c .before .before .before .before .before .before)
+array-set-from-after c = inside (loop (c .before .before .before))
 
 slice-write-out-2 : tie.Need-slice-write-out-2 Inv-loop μ-loop
 slice-write-out-2 c = free (c .before .before .before)
@@ -67,8 +73,8 @@ add-at c =
     let t = c .before .before .before .before in
     omega (arith, apply-pdata-room (t .before .loop .inv) (t .loop-test .taken) (c .before .before .before .if1 .taken) _ _ (c .before .before .valid-power-entry-at .ensures))
 
-add-k : tie.Need-add-k Inv-loop μ-loop
-add-k c =
+add-written : tie.Need-add-written Inv-loop μ-loop
+add-written c =
     let t = c .before .before .before .before in
     omega (arith, inside t, t .before .loop .inv .k-max)
 
@@ -103,4 +109,4 @@ pub apply-spec : {M : Type 1} → statement M
 apply-spec =
     tie.close (tie.spec Inv-loop μ-loop (λ c κs. search needs) loop-holds valid-power-entry-at-requires mul-lamp
     array-copy-out-lamp actual-level-requires slice-write-out (λ c κs. search needs) mul-after array-set-from-after
-    slice-write-out-2 add-at add-k add-i (λ c. search needs) loop-again same-length returns)
+    slice-write-out-2 add-at add-written add-i (λ c. search needs) loop-again same-length returns)

@@ -4,12 +4,6 @@ use borrow.Author.Needs.{needs}
 use Rattle.lights.proofs.apply.new_level.Statement.{statement}
 use Rattle.lights.proofs.apply.new_level.Tie as tie
 
-wide-requires-2 : tie.Need-wide-requires-2
-wide-requires-2 c κs = search needs
-
-add-sum : tie.Need-add-sum
-add-sum c = search needs
-
 returns-2 : tie.Need-returns-2
 returns-2 c = rw (c .before .before .before .enum-told2 .given .1) (omega arith)
 
@@ -24,18 +18,6 @@ returns-5 c = rw (c .before .enum-told3 .given .1) (omega arith)
 
 pub new-level-spec : {M : Type 1} → statement M
 new-level-spec =
-    tie.close
-    (tie.spec
-    (λ c. search needs)
-    (λ c. search needs)
-    (λ c κs. search needs)
-    wide-requires-2
-    add-sum
-    (λ c. search needs)
-    (λ c. search needs)
-    (λ c. search needs)
-    (λ c. search needs)
-    returns-2
-    returns-3
-    returns-4
-    returns-5)
+    tie.close (tie.spec (λ c. search needs) (λ c. search needs) (λ c κs. search needs) (λ c κs. search needs)
+    (λ c. search needs) (λ c. search needs) (λ c. search needs) (λ c. search needs) (λ c. search needs) returns-2
+    returns-3 returns-4 returns-5)

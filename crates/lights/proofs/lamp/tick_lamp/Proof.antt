@@ -1,4 +1,4 @@
--- `lamp::tick_lamp` meets its contract.
+-- `lamp::tick_lamp` meets its contract, by the definition's tests.
 use borrow.Author.Needs.{needs}
 use borrow.Author.Tests.{eq-eqb, ne-eqb}
 use Rattle.lights.specs.Lamp.{tickLamp}

@@ -1,4 +1,4 @@
--- `power::change_at` meets its contract: a law of proofs/Entries for each return.
+-- `power::valid_power_entry_at` meets its contract: one law of proofs/PowerEntries for each return.
 use native.Mathlib.Omega.{arith}
 use denote.Ref.{now}
 use Rattle.lights.proofs.PowerEntries.{valid-inside, valid-time-inside, valid-untimed, valid-timed}
