@@ -19,10 +19,11 @@ given c =
 abbrev asked : tie.Start → Item
 asked c = item (c .args .header .pnum) (c .args .header .pcmd) (c .args .header .hwpid) (c .args .pdata .now)
 
--- after the test of the HWPID
+-- the start, from after the test of the HWPID
 abbrev start : tie.Else1 → tie.Start
 start c = c .before .before .before .before .before .before .before
 
+-- which it passed
 hwpid-ok : (c : tie.Else1) → hwpidMatches (start c .args .fixed .settings) (start c .args .header .hwpid) ≡ true
 hwpid-ok c = sym (c .before .hwpid-matches .ensures) ∙ not-false _ (c .if1 .left)
 

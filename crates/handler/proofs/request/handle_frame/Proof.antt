@@ -20,6 +20,7 @@ given c = state (c .args .node) (c .args .eeprom .now) (c .args .external .now)
 abbrev inParts : tie.Start → ReadOnly → State
 inParts c k = stateFromParts k (c .args .node .lamps) (c .args .node .ram) (c .args .eeprom .now) (c .args .external .now)
 
+-- the start, from after the node was split
 abbrev start : tie.After-read-only → tie.Start
 start c = c .before .before .before .before .before .before .before
 

@@ -11,10 +11,11 @@ use Rattle.handler.proofs.request.handle_request.Tie as tie
 abbrev given : tie.Start → State
 given c = state (c .args .node) (c .args .eeprom .now) (c .args .external .now)
 
+-- the start, from after the call of `request_refusal`
 abbrev start : tie.After-request-refusal → tie.Start
 start c = c .before .before .before .before .before
 
--- after the test of the refusal
+-- after the test of the refusal: there is none
 not-refused : (c : tie.Else1) → let s = start (c .before) in callRefusal (s .args .frame .now) (given s) (s .args .response .now) ≡ 0
 not-refused c = sym (c .before .request-refusal .ensures) ∙ c .if1 .left
 

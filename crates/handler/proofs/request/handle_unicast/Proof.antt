@@ -19,6 +19,7 @@ given c =
 abbrev asked : tie.Start → Item
 asked c = item (c .args .header .pnum) (c .args .header .pcmd) (c .args .header .hwpid) (c .args .pdata .now)
 
+-- the start, from after the call of `execute`
 abbrev start : tie.After-execute → tie.Start
 start c = c .before .before .before .before .before .before .before .before .before .before
 
