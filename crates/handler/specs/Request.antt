@@ -6,6 +6,7 @@ use mathlib.Core.List.{List, [], _++_}
 use mathlib.Core.Bool.{Bool, true, false, cond, _||_}
 use lib.ListN.{length}
 use lib.Dec.{ltb, eqb}
+use Rattle.dpa.specs.declared.frame.Frame.{Frame}
 use Rattle.dpa.specs.declared.settings.Settings.{Settings}
 use Rattle.dpa.specs.Lists.{overwriteFront}
 use Rattle.dpa.specs.Frame.{responseHeaderSize, longestResponse, broadcastNadr, anyHwpid, headerOf, pdataOf, frameFits, responseHeader}
@@ -162,9 +163,13 @@ execute i st =
 
 -- ---- the call
 
+-- the request of a header and PData
+abbrev pub headerItem : Frame → List ℕ → Item
+headerItem h pdata = item (h .pnum) (h .pcmd) (h .hwpid) pdata
+
 -- the request in a frame
 abbrev pub frameItem : List ℕ → Item
-frameItem f = item (headerOf f .pnum) (headerOf f .pcmd) (headerOf f .hwpid) (pdataOf f)
+frameItem f = headerItem (headerOf f) (pdataOf f)
 
 -- The result of a call: the state after it, the refusal (0 for none), the length of the response (0 for none), the report,
 -- whether the frame was addressed to this node or to all, and the response buffer.

@@ -3,8 +3,8 @@ use borrow.Author.Needs.{needs}
 use borrow.Author.Tests.{not-true, not-false}
 use mathlib.Core.Path.{_≡_, sym, _∙_}
 use mathlib.Core.Bool.{true}
-use Rattle.batch.specs.Batch.{Item, item}
-use Rattle.handler.specs.Request.{State, hwpidMatches, peripheralRequest}
+use Rattle.batch.specs.Batch.{Item}
+use Rattle.handler.specs.Request.{State, hwpidMatches, peripheralRequest, headerItem}
 use Rattle.handler.specs.Seen.{stateFromParts}
 use Rattle.handler.proofs.Outcomes.{execute-mismatch, execute-os, execute-peripheral, outcome-as, outcome-reply-only, in-buffer}
 use Rattle.handler.proofs.request.execute.Statement.{statement}
@@ -17,7 +17,7 @@ given c =
 
 -- the request
 abbrev asked : tie.Start → Item
-asked c = item (c .args .header .pnum) (c .args .header .pcmd) (c .args .header .hwpid) (c .args .pdata .now)
+asked c = headerItem (c .args .header) (c .args .pdata .now)
 
 -- the start, from after the test of the HWPID
 abbrev start : tie.Else1 → tie.Start
