@@ -51,11 +51,11 @@ reason-range (unclosed e p) = (omega arith, omega arith)
 reason-range (trailing e x y z) = (omega arith, omega arith)
 
 -- the position is at most the list's length
-pub place-max : {s : List ℕ} {r a : ℕ} → FaultAt s r a → a ≤ length s
-place-max (short e p x y) = omega arith
-place-max (pastEnd e p x y) = omega arith
-place-max (unclosed e p) = omega arith
-place-max (trailing e x y z) = omega arith
+pub position-max : {s : List ℕ} {r a : ℕ} → FaultAt s r a → a ≤ length s
+position-max (short e p x y) = omega arith
+position-max (pastEnd e p x y) = omega arith
+position-max (unclosed e p) = omega arith
+position-max (trailing e x y z) = omega arith
 
 -- a broken list is ErrN 6
 pub broken-error : {x : ListCheck} {r a : ℕ} → x ≡ Broken r a → listError x ≡ 6

@@ -1,4 +1,4 @@
--- The C interface's flag for the network type of document 01, "Confirmation and waiting": true is STD+LP.
+-- Document 01, "Confirmation and waiting": the network type as a flag of the C interface, true for STD+LP.
 use mathlib.Core.Bool.{Bool, true, false}
 use Rattle.timing.specs.declared.slot.Network.{Network}
 use Rattle.timing.specs.declared.slot.Network.the-variants.{Std, StdLp}

@@ -1,4 +1,4 @@
-// The gateway's calls for C.
+// The gateway: timeslots, waiting and confirmations.
 use timing::confirm::LengthAnswer;
 use timing::confirm::confirm;
 use timing::slot::Network;
@@ -11,7 +11,7 @@ ghost use Rattle.timing.specs.Confirm.{confirmResult, confirmOf};
 ghost use Rattle.timing.specs.Slot.{timeslotOf, sendOf};
 ghost use Rattle.grelfint.specs.Network.{networkOf};
 
-// C tells the network type by a flag.
+// C passes the network type as a flag: true is STD+LP.
 fn network_of(lp: bool) -> Network
     ensures { λ r. ⌜ r ≡ networkOf lp ⌝ }
 {

@@ -1,4 +1,4 @@
-// The calls for C, each with the contract of the call that it stands for.
+// The C interface. Each call has the contract of the call that it forwards to.
 pub mod gateway;
 pub mod nodes;
 pub mod requests;

@@ -1,4 +1,4 @@
-// A node for C: its start, a second passing, and FRC.
+// The node: start, tick and FRC.
 use dpa::settings::Settings;
 use node::frc::FrcAnswer;
 use node::frc::frc;
@@ -25,7 +25,7 @@ pub extern "C" fn grelfint_tick(node: Node) -> NodeAnswer
     tick(node)
 }
 
-// The node stands in the caller's memory and is changed there.
+// Changes the node in the caller's memory.
 #[no_mangle]
 pub extern "C" fn grelfint_tick_in_place(node: &mut Node) -> u8
     ensures { λ r. ⌜ (r ≡ tickOf (now (node .entry)) .refusal) × (now (node .exit) ≡ tickOf (now (node .entry)) .node) ⌝ }

@@ -1,4 +1,4 @@
-// Requests and the read view for C.
+// Requests, and the read view of a memory.
 use handler::answer::RequestAnswer;
 use handler::request::handle_request;
 use memory::view::view_status;
@@ -22,7 +22,7 @@ pub extern "C" fn grelfint_handle_request(
     handle_request(node, frame, eeprom, external, response)
 }
 
-// With 0 the caller reads the part in its own memory, so no reference is handed out.
+// With status 0 the caller reads the bytes from its own memory; no reference is returned to C.
 #[no_mangle]
 pub extern "C" fn grelfint_view_status(
     eeprom: &[u8],

@@ -1,4 +1,4 @@
-// The compiler's calls for C.
+// The scene compiler.
 use scene::compile::CompileAnswer;
 use scene::compile::compile;
 use scene::compile::compile_default;

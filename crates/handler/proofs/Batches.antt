@@ -21,13 +21,13 @@ listAfter s st = runItems entryAfter (reading s .items) st
 
 -- the entries before `at` have run: running the rest from `st` ends like running the whole list from `old`
 pub record PartlyRun (list : List ℕ) (old : State) (at : ℕ) (st : State) : Type 0 where
-  pub place-max : at ≤ length list
+  pub position-max : at ≤ length list
   pub sound : SoundState st
   pub rest : listAfter (drop at list) st ≡ listAfter list old
 
 -- before the first entry
 pub run-starts : (list : List ℕ) (old : State) → SoundState old → PartlyRun list old 0 old
-run-starts list old h = record { place-max = omega arith; sound = h; rest = refl }
+run-starts list old h = record { position-max = omega arith; sound = h; rest = refl }
 
 module _ (list : List ℕ) (old : State) (at : ℕ) (st : State) (h : PartlyRun list old at st) where
   abbrev remaining : List ℕ
@@ -41,7 +41,7 @@ module _ (list : List ℕ) (old : State) (at : ℕ) (st : State) (h : PartlyRun 
   entry-in-list e =
       let z = entry-sized (drop at list) (ap nextEntry (sym remaining-is) ∙ e) in
       let n : length (drop at list) ≡ length list - at = length-drop at list in
-      let k = h .place-max in
+      let k = h .position-max in
       (z .0, omega arith)
 
   -- after one more entry
@@ -52,7 +52,7 @@ module _ (list : List ℕ) (old : State) (at : ℕ) (st : State) (h : PartlyRun 
       let d : (at + l) - (at + entryHead) ≡ l - entryHead = omega arith in
       let i : take ((at + l) - (at + entryHead)) (drop (at + entryHead) list) ≡ slice (drop at list) entryHead (l - entryHead) = rw (d, drop-drop) refl in
       record {
-        place-max = entry-in-list e .1;
+        position-max = entry-in-list e .1;
         sound = subst SoundState (sym q) (entry-sound (item p c w (take ((at + l) - (at + entryHead)) (drop (at + entryHead) list))) st (h .sound));
         rest =
             ap (λ (s : List ℕ). listAfter s next) (sym (drop-drop l at list) ∙ sym (slice-to-end l (drop at list)))

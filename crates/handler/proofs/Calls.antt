@@ -16,20 +16,20 @@ use Rattle.dpa.proofs.Headers.{fits-sizes}
 use Rattle.dpa.proofs.Lists.{slice-to-end, tail-borrowed, tail-returned, overwrite-append}
 use Rattle.memory.specs.declared.block.Memory.the-variants.{Eeprom, External}
 use Rattle.memory.specs.Block.{sizeOf}
-use Rattle.batch.specs.Batch.{Item, item}
+use Rattle.batch.specs.Batch.{Item}
 use Rattle.node.specs.declared.record.Node.{Node}
 use Rattle.node.specs.declared.record.ReadOnly.{ReadOnly}
 use Rattle.handler.specs.declared.reply.RequestReply.{RequestReply}
 use Rattle.handler.specs.declared.answer.RequestAnswer.{RequestAnswer}
 use Rattle.node.specs.Node.{nodeOk}
-use Rattle.handler.specs.Request.{State, state, SoundState, Outcome, frameItem, execute, CallResult, unhandledResult, broadcastResult, unicastResult, handleFrame, requestRefusal, callRefusal, handleRequest}
+use Rattle.handler.specs.Request.{State, state, SoundState, Outcome, headerItem, frameItem, execute, CallResult, unhandledResult, broadcastResult, unicastResult, handleFrame, requestRefusal, callRefusal, handleRequest}
 use Rattle.handler.specs.Seen.{SeenOutcome, outcomeSeen, outcomeInBuffer, callResult, callResultFromParts}
 
 -- the request that the code reads from a frame
-pub frame-item-read : (f : List ℕ) {h : Frame} → h ≡ headerOf f → item (h .pnum) (h .pcmd) (h .hwpid) (take (length f - headerSize) (drop headerSize f)) ≡ frameItem f
+pub frame-item-read : (f : List ℕ) {h : Frame} → h ≡ headerOf f → headerItem h (take (length f - headerSize) (drop headerSize f)) ≡ frameItem f
 frame-item-read f e =
-    ap (λ (h : Frame). item (h .pnum) (h .pcmd) (h .hwpid) (take (length f - headerSize) (drop headerSize f))) e
-    ∙ ap (item (headerOf f .pnum) (headerOf f .pcmd) (headerOf f .hwpid)) (slice-to-end headerSize f)
+    ap (λ (h : Frame). headerItem h (take (length f - headerSize) (drop headerSize f))) e
+    ∙ ap (headerItem (headerOf f)) (slice-to-end headerSize f)
 
 module _ (f : List ℕ) (st : State) (o : List ℕ) where
   -- a broadcast

@@ -6,6 +6,7 @@ use mathlib.Core.List.{List, [], _++_}
 use mathlib.Core.Bool.{Bool, true, false, cond, _||_}
 use lib.ListN.{length}
 use lib.Dec.{ltb, eqb}
+use Rattle.dpa.specs.declared.frame.Frame.{Frame}
 use Rattle.dpa.specs.declared.settings.Settings.{Settings}
 use Rattle.dpa.specs.Lists.{overwriteFront}
 use Rattle.dpa.specs.Frame.{responseHeaderSize, longestResponse, broadcastNadr, anyHwpid, headerOf, pdataOf, frameFits, responseHeader}
@@ -85,7 +86,7 @@ peripheralRequest pnum pcmd pdata st =
 
 -- a HWPID is accepted if it is the node's or the wildcard
 unfoldable pub hwpidMatches : Settings → ℕ → Bool
-hwpidMatches s hwpid = eqb hwpid (s .hwpid) || eqb hwpid anyHwpid
+hwpidMatches settings hwpid = eqb hwpid (settings .hwpid) || eqb hwpid anyHwpid
 
 -- an entry: another HWPID is ErrN 7; OS requests are not allowed, so PNUM 02 is ErrN 3
 unfoldable pub executeEntry : Item → State → Reply State
@@ -117,7 +118,7 @@ pub record Outcome : Type 0 where
   pub report : Report
 
 abbrev pub outcome : Reply State → List ℕ → Report → Outcome
-outcome a es m = record { after = a .after; error = a .error; bytes = a .bytes; entries = es; report = m }
+outcome a entries report = record { after = a .after; error = a .error; bytes = a .bytes; entries = entries; report = report }
 
 -- the outcome of a request that ran no entry and has nothing to report
 abbrev pub replyOnly : Reply State → Outcome
@@ -153,7 +154,7 @@ osRequest pcmd pdata st =
     (cond (eqb pcmd codeCheckPcmd) (codeCheckRequest pdata st)
     (replyOnly (refused st 2)))
 
--- executes a request: HWPID first, then PNUM, then what PNUM names
+-- executes a request: another HWPID is ErrN 7; PNUM 02 is the OS, any other PNUM is for the peripherals
 unfoldable pub execute : Item → State → Outcome
 execute i st =
     cond (hwpidMatches (st .node .settings) (i .hwpid))
@@ -162,9 +163,13 @@ execute i st =
 
 -- ---- the call
 
+-- the request of a header and PData
+abbrev pub headerItem : Frame → List ℕ → Item
+headerItem header pdata = item (header .pnum) (header .pcmd) (header .hwpid) pdata
+
 -- the request in a frame
 abbrev pub frameItem : List ℕ → Item
-frameItem f = item (headerOf f .pnum) (headerOf f .pcmd) (headerOf f .hwpid) (pdataOf f)
+frameItem frame = headerItem (headerOf frame) (pdataOf frame)
 
 -- The result of a call: the state after it, the refusal (0 for none), the length of the response (0 for none), the report,
 -- whether the frame was addressed to this node or to all, and the response buffer.
@@ -178,36 +183,36 @@ pub record CallResult : Type 0 where
 
 -- refused, or addressed to another node: nothing changes
 abbrev pub unhandledResult : State → ℕ → List ℕ → CallResult
-unhandledResult st refusal o = record { after = st; refusal = refusal; length = 0; report = noReport; addressed = false; response = o }
+unhandledResult st refusal buffer = record { after = st; refusal = refusal; length = 0; report = noReport; addressed = false; response = buffer }
 
 -- a broadcast is executed without a response
 abbrev pub broadcastResult : Outcome → List ℕ → CallResult
-broadcastResult a o = record { after = a .after; refusal = 0; length = 0; report = a .report; addressed = true; response = o }
+broadcastResult done buffer = record { after = done .after; refusal = 0; length = 0; report = done .report; addressed = true; response = buffer }
 
 -- a request to this node gets a response: header and data at the front of the buffer, whose later bytes stay
 abbrev pub unicastResult : Settings → Item → Outcome → List ℕ → CallResult
-unicastResult s i a o =
+unicastResult settings i done buffer =
     record {
-      after = a .after;
+      after = done .after;
       refusal = 0;
-      length = responseHeaderSize + length (a .bytes);
-      report = a .report;
+      length = responseHeaderSize + length (done .bytes);
+      report = done .report;
       addressed = true;
-      response = overwriteFront (responseHeader s (i .pnum) (i .pcmd) (a .error) ++ a .bytes) o;
+      response = overwriteFront (responseHeader settings (i .pnum) (i .pcmd) (done .error) ++ done .bytes) buffer;
     }
 
 -- a frame that was not refused, by its NADR
 unfoldable pub handleFrame : List ℕ → State → List ℕ → CallResult
-handleFrame f st o =
-    cond (eqb (headerOf f .nadr) broadcastNadr) (broadcastResult (execute (frameItem f) st) o)
-    (cond (eqb (headerOf f .nadr) (st .node .settings .address)) (unicastResult (st .node .settings) (frameItem f) (execute (frameItem f) st) o)
-    (unhandledResult st 0 o))
+handleFrame frame st buffer =
+    cond (eqb (headerOf frame .nadr) broadcastNadr) (broadcastResult (execute (frameItem frame) st) buffer)
+    (cond (eqb (headerOf frame .nadr) (st .node .settings .address)) (unicastResult (st .node .settings) (frameItem frame) (execute (frameItem frame) st) buffer)
+    (unhandledResult st 0 buffer))
 
 -- The refusal, from the node and the lengths of the frame, the memories and the response buffer, in this order:
 -- 1 the node is not sound, 2 the frame's length, 3 the buffer is too short, 4 a memory's size; 0 for none.
 unfoldable pub requestRefusal : Node → ℕ → ℕ → ℕ → ℕ → ℕ
-requestRefusal n frame eeprom external response =
-    cond (nodeOk n)
+requestRefusal node frame eeprom external response =
+    cond (nodeOk node)
     (cond (frameFits frame)
     (cond (ltb response longestResponse) 3
     (cond (eqb eeprom (sizeOf Eeprom))
@@ -217,10 +222,11 @@ requestRefusal n frame eeprom external response =
     2)
     1
 
+-- the refusal of a call
 abbrev pub callRefusal : List ℕ → State → List ℕ → ℕ
-callRefusal f st o = requestRefusal (st .node) (length f) (length (st .eeprom)) (length (st .external)) (length o)
+callRefusal frame st buffer = requestRefusal (st .node) (length frame) (length (st .eeprom)) (length (st .external)) (length buffer)
 
 -- the call: frame, state and response buffer
 unfoldable pub handleRequest : List ℕ → State → List ℕ → CallResult
-handleRequest f st o =
-    cond (eqb (callRefusal f st o) 0) (handleFrame f st o) (unhandledResult st (callRefusal f st o) o)
+handleRequest frame st buffer =
+    cond (eqb (callRefusal frame st buffer) 0) (handleFrame frame st buffer) (unhandledResult st (callRefusal frame st buffer) buffer)

@@ -18,7 +18,7 @@ use Rattle.handler.specs.Request.{State, state, Outcome, CallResult}
 
 -- the state, from the read-only part of the node, lamps, RAM, EEPROM and external memory
 abbrev pub stateFromParts : ReadOnly → List Lamp → List ℕ → List ℕ → List ℕ → State
-stateFromParts k ls r e x = state (nodeFromParts k ls r) e x
+stateFromParts fixed lamps ram eeprom external = state (nodeFromParts fixed lamps ram) eeprom external
 
 -- what executing a request leaves: the state, ErrN, the length of the data, the report, and the buffer for the data
 pub record SeenOutcome : Type 0 where
@@ -30,29 +30,56 @@ pub record SeenOutcome : Type 0 where
 
 -- as the code has it: a reply, the memories and the buffer
 abbrev pub outcomeSeen : ReadOnly → RequestReply → List ℕ → List ℕ → List ℕ → List ℕ → SeenOutcome
-outcomeSeen k c r e x o =
-    record { after = stateFromParts k (c .lamps) r e x; error = c .error; length = c .length; report = c .report; out = o }
+outcomeSeen fixed reply ram eeprom external out =
+    record {
+      after = stateFromParts fixed (reply .lamps) ram eeprom external;
+      error = reply .error;
+      length = reply .length;
+      report = reply .report;
+      out = out;
+    }
 
 -- as the definitions have it: an outcome whose data was written to the front of the buffer
 abbrev pub outcomeInBuffer : Outcome → List ℕ → SeenOutcome
-outcomeInBuffer a o =
-    record { after = a .after; error = a .error; length = length (a .bytes); report = a .report; out = overwriteFront (a .bytes) o }
+outcomeInBuffer done out =
+    record {
+      after = done .after;
+      error = done .error;
+      length = length (done .bytes);
+      report = done .report;
+      out = overwriteFront (done .bytes) out;
+    }
 
 -- the result of a call that was not refused, from its parts
 abbrev pub callResultFromParts : ReadOnly → Handled → List ℕ → List ℕ → List ℕ → List ℕ → CallResult
-callResultFromParts k t r e x o =
-    record { after = stateFromParts k (t .lamps) r e x; refusal = 0; length = t .length; report = t .report; addressed = true; response = o }
+callResultFromParts fixed handled ram eeprom external response =
+    record {
+      after = stateFromParts fixed (handled .lamps) ram eeprom external;
+      refusal = 0;
+      length = handled .length;
+      report = handled .report;
+      addressed = true;
+      response = response;
+    }
 
 -- ---- at the public call
 
 -- the struct that the call returns; it has the fields of the report among its own
 abbrev pub requestAnswer : ℕ → ℕ → Report → Bool → Node → RequestAnswer
-requestAnswer refusal length m b n = record { refusal = refusal; length = length; load = m .load; addressed = b; node = n }
+requestAnswer refusal length report addressed node =
+    record { refusal = refusal; length = length; load = report .load; addressed = addressed; node = node }
 
 abbrev pub answerReport : RequestAnswer → Report
-answerReport r = record { load = r .load }
+answerReport answer = record { load = answer .load }
 
 -- the result of a call, from the struct that it returns, both memories and the response buffer
 abbrev pub callResult : RequestAnswer → List ℕ → List ℕ → List ℕ → CallResult
-callResult r e x o =
-    record { after = state (r .node) e x; refusal = r .refusal; length = r .length; report = answerReport r; addressed = r .addressed; response = o }
+callResult answer eeprom external response =
+    record {
+      after = state (answer .node) eeprom external;
+      refusal = answer .refusal;
+      length = answer .length;
+      report = answerReport answer;
+      addressed = answer .addressed;
+      response = response;
+    }

@@ -27,8 +27,7 @@ ghost use mathlib.Core.List.{List};
 ghost use Prim.Native.Nat.{ℕ, _≤_};
 ghost use lib.ListN.{length};
 ghost use Rattle.dpa.specs.Frame.{headerSize, pdataMax, longestResponse};
-ghost use Rattle.batch.specs.Batch.{item};
-ghost use Rattle.handler.specs.Request.{state, SoundState, execute, broadcastResult, unicastResult, handleFrame, requestRefusal, handleRequest};
+ghost use Rattle.handler.specs.Request.{state, SoundState, execute, headerItem, broadcastResult, unicastResult, handleFrame, requestRefusal, handleRequest};
 ghost use Rattle.handler.specs.Seen.{stateFromParts, outcomeSeen, outcomeInBuffer, callResult, callResultFromParts};
 
 // Checks the HWPID, then executes the request. The response data goes to the front of `out`.
@@ -44,7 +43,7 @@ fn execute(
 ) -> RequestReply
     requires { ⌜ SoundState (stateFromParts fixed lamps (now ram) (now eeprom) (now external)) × (pdataMax ≤ length (now out)) ⌝ }
     ensures { λ r. ⌜ outcomeSeen fixed r (now (ram .exit)) (now (eeprom .exit)) (now (external .exit)) (now (out .exit))
-        ≡ outcomeInBuffer (execute (item (header .pnum) (header .pcmd) (header .hwpid) (now (pdata .entry)))
+        ≡ outcomeInBuffer (execute (headerItem header (now (pdata .entry)))
         (stateFromParts fixed lamps (now (ram .entry)) (now (eeprom .entry)) (now (external .entry)))) (now (out .entry)) ⌝ }
 {
     if !hwpid_matches(fixed.settings, header.hwpid) {
@@ -80,7 +79,7 @@ fn handle_broadcast(
 ) -> Handled
     requires { ⌜ SoundState (stateFromParts fixed lamps (now ram) (now eeprom) (now external)) ⌝ }
     ensures { λ r. ⌜ ((o : List ℕ) → callResultFromParts fixed r (now (ram .exit)) (now (eeprom .exit)) (now (external .exit)) o
-        ≡ broadcastResult (execute (item (header .pnum) (header .pcmd) (header .hwpid) (now (pdata .entry)))
+        ≡ broadcastResult (execute (headerItem header (now (pdata .entry)))
         (stateFromParts fixed lamps (now (ram .entry)) (now (eeprom .entry)) (now (external .entry)))) o) ⌝ }
 {
     let mut scratch = [0u8; Frame::PDATA_MAX];
@@ -116,8 +115,8 @@ fn handle_unicast(
 ) -> Handled
     requires { ⌜ SoundState (stateFromParts fixed lamps (now ram) (now eeprom) (now external)) × (longestResponse ≤ length (now response)) ⌝ }
     ensures { λ r. ⌜ callResultFromParts fixed r (now (ram .exit)) (now (eeprom .exit)) (now (external .exit)) (now (response .exit))
-        ≡ unicastResult (fixed .settings) (item (header .pnum) (header .pcmd) (header .hwpid) (now (pdata .entry)))
-        (execute (item (header .pnum) (header .pcmd) (header .hwpid) (now (pdata .entry)))
+        ≡ unicastResult (fixed .settings) (headerItem header (now (pdata .entry)))
+        (execute (headerItem header (now (pdata .entry)))
         (stateFromParts fixed lamps (now (ram .entry)) (now (eeprom .entry)) (now (external .entry)))) (now (response .entry)) ⌝ }
 {
     let done = execute(

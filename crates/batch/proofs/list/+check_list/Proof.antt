@@ -10,7 +10,7 @@ use Rattle.batch.specs.declared.entry.NextEntry.the-variants.{Entry}
 use Rattle.batch.specs.Batch.{entryHead, nextEntry, shiftFault}
 use Rattle.batch.proofs.Entries.{entry-sized}
 use Rattle.batch.proofs.Lists.{check-end, check-fault, check-entry}
-use Rattle.batch.proofs.Faults.{broken-fault, place-max}
+use Rattle.batch.proofs.Faults.{broken-fault, position-max}
 use borrow.Fn.Kinds.{In}
 use borrow.Fn.PlainCycle.{Measures, is, falls, and}
 use Rattle.batch.proofs.list.check_list.Reads as check-list
@@ -52,30 +52,15 @@ first-entry-is t c = sym (c .before .before .next-entry .ensures) ∙ c .first .
 sized : (t : ℕ) (c : AfterFirst t) → (entryHead ≤ c .first .given .0 .0) × (c .first .given .0 .0 ≤ length (list t c))
 sized t c = entry-sized _ (first-entry-is t c)
 
-check-list-at-end-requires : (t : ℕ) → check-list-lts.Need-at-end-requires (calls t) (check-list-at t) check-list.Post
-check-list-at-end-requires t c κs = tt
-
 check-list-returns : (t : ℕ) → check-list-lts.Need-returns (calls t) (check-list-at t) check-list.Post
 check-list-returns t c =
     check-end (c .before .before .before .args .rest .now) (sym (c .before .at-end .ensures) ∙ c .if1 .taken)
-
-check-list-next-entry-requires : (t : ℕ) → check-list-lts.Need-next-entry-requires (calls t) (check-list-at t) check-list.Post
-check-list-next-entry-requires t c κs = tt
-
-check-list-fault-of-requires : (t : ℕ) → check-list-lts.Need-fault-of-requires (calls t) (check-list-at t) check-list.Post
-check-list-fault-of-requires t c κs = tt
 
 check-list-returns-2 : (t : ℕ) → check-list-lts.Need-returns-2 (calls t) (check-list-at t) check-list.Post
 check-list-returns-2 t c =
     let n = c .before .before .before in
     c .fault-of .ensures
     ∙ check-fault (n .before .before .before .before .args .rest .now) (sym (n .before .before .at-end .ensures) ∙ n .before .if1 .left) (n .next-entry .ensures) (c .before .enum-told .given .1)
-
-check-list-sub-check-list : (t : ℕ) → check-list-lts.Need-sub-check-list (calls t) (check-list-at t) check-list.Post
-check-list-sub-check-list t c = let z = sized t (c .before) in omega arith
-
-check-list-part-check-list-start : (t : ℕ) → check-list-lts.Need-part-check-list-start (calls t) (check-list-at t) check-list.Post
-check-list-part-check-list-start t c = let z = sized t (c .before) in omega arith
 
 check-list-check-list-requires : (t : ℕ) → check-list-lts.Need-check-list-requires (calls t) (check-list-at t) check-list.Post
 check-list-check-list-requires t c κs =
@@ -93,7 +78,7 @@ check-list-add-t9 t c =
     let f = c .before .before .before .before .before .before in
     let s = list t f in
     let l = f .first .given .0 .0 in
-    let b = place-max (broken-fault (slice s l (length s - l)) (sym (c .before .before .before .check-list .ensures) ∙ c .before .after .given .1)) in
+    let b = position-max (broken-fault (slice s l (length s - l)) (sym (c .before .before .before .check-list .ensures) ∙ c .before .after .given .1)) in
     let n : length (slice s l (length s - l)) ≡ length s - l = simp (length-take, length-drop) (omega arith) in
     let z = sized t f in
     omega arith
@@ -106,7 +91,7 @@ check-list-returns-4 t c =
 
 pub +check-list-spec : {M : Type 1} → statement M
 +check-list-spec = close μ-check-list λ t. check-list-lts.spec (calls t) (check-list-at t) check-list.Post
-    (check-list-at-end-requires t) (check-list-returns t) (check-list-next-entry-requires t) (λ c. search needs)
-    (λ c. search needs) (check-list-fault-of-requires t) (check-list-returns-2 t) (check-list-sub-check-list t)
-    (check-list-part-check-list-start t) (λ c. search needs) (check-list-check-list-requires t) (λ c. search needs)
+    (λ c κs. tt) (check-list-returns t) (λ c κs. tt) (λ c. search needs)
+    (λ c. search needs) (λ c κs. tt) (check-list-returns-2 t) (λ c. omega (arith, sized t (c .before)))
+    (λ c. omega (arith, sized t (c .before))) (λ c. search needs) (check-list-check-list-requires t) (λ c. search needs)
     (λ c. search needs) (check-list-returns-3 t) (check-list-add-t9 t) (check-list-returns-4 t)

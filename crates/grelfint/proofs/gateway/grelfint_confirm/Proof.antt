@@ -1,3 +1,4 @@
+-- `grelfint_confirm`: the contract of `confirm`, with the network type of the flag.
 use mathlib.Core.Path.{ap, _∙_}
 use borrow.Author.Needs.{needs}
 use Rattle.timing.specs.declared.slot.Network.{Network}

@@ -1,3 +1,4 @@
+-- `grelfint_earliest_send`: the contract of `earliest_send`, with the network type of the flag.
 use mathlib.Core.Path.{ap, _∙_}
 use borrow.Author.Needs.{needs}
 use Rattle.timing.specs.declared.slot.Network.{Network}

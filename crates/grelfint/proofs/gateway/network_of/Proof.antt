@@ -1,3 +1,4 @@
+-- `network_of`: by the flag.
 use Rattle.grelfint.specs.Network.{networkOf}
 use Rattle.grelfint.proofs.gateway.network_of.Statement.{statement}
 use Rattle.grelfint.proofs.gateway.network_of.Tie as tie

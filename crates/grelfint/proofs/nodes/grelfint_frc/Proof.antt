@@ -1,3 +1,4 @@
+-- `grelfint_frc`: the contract of `frc`.
 use borrow.Author.Needs.{needs}
 use Rattle.grelfint.proofs.nodes.grelfint_frc.Statement.{statement}
 use Rattle.grelfint.proofs.nodes.grelfint_frc.Tie as tie

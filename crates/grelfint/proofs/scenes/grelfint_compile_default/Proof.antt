@@ -1,3 +1,4 @@
+-- `grelfint_compile_default`: the contract of `compile_default`.
 use borrow.Author.Needs.{needs}
 use Rattle.grelfint.proofs.scenes.grelfint_compile_default.Statement.{statement}
 use Rattle.grelfint.proofs.scenes.grelfint_compile_default.Tie as tie

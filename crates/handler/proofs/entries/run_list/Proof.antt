@@ -25,8 +25,8 @@ abbrev μ-loop : tie.MeasureT-loop
 abbrev list : tie.After-known-told Inv-loop μ-loop → List ℕ
 list c = c .before .before .before .before .before .before .before .before .before .before .before .before .before .args .list .now
 
-abbrev place : tie.After-known-told Inv-loop μ-loop → ℕ
-place c = c .before .before .before .before .before .before .before .before .loop .at
+abbrev position : tie.After-known-told Inv-loop μ-loop → ℕ
+position c = c .before .before .before .before .before .before .before .before .loop .at
 
 abbrev len : tie.After-known-told Inv-loop μ-loop → ℕ
 len c = c .before .len .given .0 .0
@@ -34,65 +34,35 @@ len c = c .before .len .given .0 .0
 -- the entry that was read
 first-entry-is : (c : tie.After-known-told Inv-loop μ-loop) →
     let g = c .before .len .given .0 in
-    nextEntry (take (length (list c) - place c) (drop (place c) (list c))) ≡ Entry (g .0) (g .1 .0) (g .1 .1 .0) (g .1 .1 .1 .0)
+    nextEntry (take (length (list c) - position c) (drop (position c) (list c))) ≡ Entry (g .0) (g .1 .0) (g .1 .1 .0) (g .1 .1 .1 .0)
 first-entry-is c = sym (c .before .before .before .next-entry .ensures) ∙ c .before .len .given .1
 
+-- the place where it was read, from after it ran
+abbrev read : tie.After-run-entry Inv-loop μ-loop → tie.After-known-told Inv-loop μ-loop
+read c = c .before .before .before .before .before
+
 -- it lies in the list
-sized : (c : tie.After-known-told Inv-loop μ-loop) → (entryHead ≤ len c) × (place c + len c ≤ length (list c))
+sized : (c : tie.After-known-told Inv-loop μ-loop) → (entryHead ≤ len c) × (position c + len c ≤ length (list c))
 sized c = entry-in-list _ _ _ _ (c .before .before .before .before .before .before .before .before .loop .inv .0) (first-entry-is c)
 
 loop-holds : tie.Need-loop-holds Inv-loop μ-loop
 loop-holds c = (run-starts _ _ (c .before .before .before .before .pre), refl, refl, refl)
-
-sub-at-end : tie.Need-sub-at-end Inv-loop μ-loop
-sub-at-end c = omega (arith, c .loop .inv .0 .place-max)
-
-part-at-end-start : tie.Need-part-at-end-start Inv-loop μ-loop
-part-at-end-start c = omega (arith, c .loop .inv .0 .place-max)
-
-sub-next-entry : tie.Need-sub-next-entry Inv-loop μ-loop
-sub-next-entry c = omega (arith, c .before .before .before .loop .inv .0 .place-max)
-
-part-next-entry-start : tie.Need-part-next-entry-start Inv-loop μ-loop
-part-next-entry-start c = omega (arith, c .before .before .before .loop .inv .0 .place-max)
 
 returns : tie.Need-returns Inv-loop μ-loop
 returns c =
     let i = c .before .before .before .before .before .before .before .loop .inv in
     fault-ends _ _ _ _ (i .0) (sym (c .before .before .next-entry .ensures) ∙ c .enum-told .given .1)
 
-add-run-entry : tie.Need-add-run-entry Inv-loop μ-loop
-add-run-entry c = let z = sized c in omega arith
-
-add-run-entry-2 : tie.Need-add-run-entry-2 Inv-loop μ-loop
-add-run-entry-2 c = let z = sized c in omega arith
-
-sub-run-entry : tie.Need-sub-run-entry Inv-loop μ-loop
-sub-run-entry c = let z = sized c in omega arith
-
-part-run-entry-start : tie.Need-part-run-entry-start Inv-loop μ-loop
-part-run-entry-start c = let z = sized c in omega arith
-
-part-run-entry-end : tie.Need-part-run-entry-end Inv-loop μ-loop
-part-run-entry-end c = let z = sized c in omega arith
-
 run-entry-requires : tie.Need-run-entry-requires Inv-loop μ-loop
 run-entry-requires c κs =
     let i = c .before .before .before .before .before .before .before .before .before .before .before .before .loop .inv in
     i .0 .sound
 
-add-at : tie.Need-add-at Inv-loop μ-loop
-add-at c = let z = sized (c .before .before .before .before .before .before .before .before .before .before .before) in omega arith
-
-loop-less : tie.Need-loop-less Inv-loop μ-loop
-loop-less c = let z = sized (c .before .before .before .before .before .before .before .before .before .before .before) in omega arith
-
 loop-again : tie.Need-loop-again Inv-loop μ-loop
 loop-again c =
     let call = c .before .before .before .before .before .before in
-    let read = call .before .before .before .before .before in
-    let i = read .before .before .before .before .before .before .before .before .loop .inv in (
-      entry-runs _ _ _ _ (i .0) (first-entry-is read) (call .run-entry .ensures),
+    let i = read call .before .before .before .before .before .before .before .before .loop .inv in (
+      entry-runs _ _ _ _ (i .0) (first-entry-is (read call)) (call .run-entry .ensures),
       call .run-entry .kept .1 .1 .1 .1 .1 .1 .0 ∙ i .1,
       call .run-entry .kept .1 .1 .1 .1 .1 .1 .1 .0 ∙ i .2,
       call .run-entry .kept .1 .1 .1 .1 .1 .1 .1 .1 .0 ∙ i .3,
@@ -103,8 +73,13 @@ returns-2 c = run-ends _ _ _ _ (c .before .before .before .loop .inv .0) (sym (c
 
 pub run-list-spec : {M : Type 1} → statement M
 run-list-spec =
-    tie.close (tie.spec Inv-loop μ-loop loop-holds sub-at-end part-at-end-start (λ c. search needs)
-    (λ c κs. search needs) sub-next-entry part-next-entry-start (λ c. search needs) (λ c κs. search needs)
-    (λ c. search needs) (λ c. search needs) (λ c. search needs) (λ c. search needs) (λ c. search needs) returns
-    add-run-entry add-run-entry-2 sub-run-entry part-run-entry-start part-run-entry-end run-entry-requires add-at
-    loop-less loop-again (λ c. search needs) (λ c. search needs) (λ c. search needs) returns-2)
+    tie.close (tie.spec Inv-loop μ-loop loop-holds (λ c. omega (arith, c .loop .inv .0 .position-max))
+    (λ c. omega (arith, c .loop .inv .0 .position-max)) (λ c. search needs) (λ c κs. search needs)
+    (λ c. omega (arith, c .before .before .before .loop .inv .0 .position-max))
+    (λ c. omega (arith, c .before .before .before .loop .inv .0 .position-max)) (λ c. search needs)
+    (λ c κs. search needs) (λ c. search needs) (λ c. search needs) (λ c. search needs) (λ c. search needs)
+    (λ c. search needs) returns (λ c. omega (arith, sized c)) (λ c. omega (arith, sized c))
+    (λ c. omega (arith, sized c)) (λ c. omega (arith, sized c)) (λ c. omega (arith, sized c)) run-entry-requires
+    (λ c. omega (arith, sized (read (c .before .before .before .before .before .before))))
+    (λ c. omega (arith, sized (read (c .before .before .before .before .before .before)))) loop-again
+    (λ c. search needs) (λ c. search needs) (λ c. search needs) returns-2)

@@ -5,38 +5,29 @@ use mathlib.Core.List.{[]}
 use Rattle.dpa.specs.Reply.{reply}
 use Rattle.batch.specs.Batch.{listError}
 use Rattle.handler.specs.Request.{State, replyOnly}
-use Rattle.handler.specs.Seen.{stateFromParts, outcomeInBuffer}
+use Rattle.handler.specs.Seen.{outcomeInBuffer}
 use Rattle.handler.proofs.Outcomes.{batch-empty, batch-broken, batch-runs, outcome-as, in-buffer}
 use Rattle.handler.proofs.os.run_batch.Statement.{statement}
 use Rattle.handler.proofs.os.run_batch.Tie as tie
 
--- the state at the start
-abbrev given : tie.Start → State
-given c =
-    stateFromParts (c .args .fixed) (c .args .lamps) (c .args .ram .now) (c .args .eeprom .now) (c .args .external .now)
-
 returns : tie.Need-returns
-returns c = λ o.
-    let s = c .before .before .before .before .before .before in
-    outcome-as (c .without-data .ensures) ∙ in-buffer o (batch-empty (s .args .pdata .now) (given s) (c .before .if1 .taken))
+returns c = λ o. outcome-as (c .without-data .ensures) ∙ in-buffer o (batch-empty _ _ (c .before .if1 .taken))
 
 returns-2 : tie.Need-returns-2
 returns-2 c = λ o.
     let list = c .before .before .before .before in
-    let s = list .before .before .before .before .before .before in
     outcome-as (c .without-data2 .ensures)
     ∙ in-buffer o
-    (batch-broken (s .args .pdata .now) (given s) (list .before .if1 .left) (sym (list .check-list .ensures) ∙ c .before .before .enum-told2 .given .1) (c .before .list-error .ensures ∙ ap listError (list .check-list .ensures)))
+    (batch-broken _ _ (list .before .if1 .left) (sym (list .check-list .ensures) ∙ c .before .before .enum-told2 .given .1) (c .before .list-error .ensures ∙ ap listError (list .check-list .ensures)))
 
 returns-3 : tie.Need-returns-3
 returns-3 c = λ o.
     let run = c .before .before .before .before .before .before .before in
     let sound = run .before .before .before .before in
     let list = sound .before .before in
-    let s = list .before .before .before .before .before .before in
     outcome-as (c .without-data3 .ensures)
     ∙ ap (λ (x : State). outcomeInBuffer (replyOnly (reply x 0 [])) o) (run .run-list .ensures)
-    ∙ in-buffer o (batch-runs (s .args .pdata .now) (given s) (list .before .if1 .left) (sym (list .check-list .ensures) ∙ sound .enum-told .given .1))
+    ∙ in-buffer o (batch-runs _ _ (list .before .if1 .left) (sym (list .check-list .ensures) ∙ sound .enum-told .given .1))
 
 pub run-batch-spec : {M : Type 1} → statement M
 run-batch-spec =

@@ -14,26 +14,15 @@ use Rattle.handler.proofs.Peripherals.{peripheral-lights, peripheral-un
 use Rattle.handler.proofs.peripheral.peripheral.Statement.{statement}
 use Rattle.handler.proofs.peripheral.peripheral.Tie as tie
 
--- the state at the start
-abbrev given : tie.Start → State
-given c =
-    stateFromParts (c .args .fixed) (c .args .lamps) (c .args .ram .now) (c .args .eeprom .now) (c .args .external .now)
-
 returns : tie.Need-returns
 returns c =
     let call = c .before .before .before .before .before in
-    let test = call .before .before .before in
-    let s = test .before .before .before .before .before .before in
-    reply-as (c .memory-reply .ensures)
-    ∙ memory-seen Eeprom (s .args .pnum) (s .args .pcmd) (s .args .pdata .now) (given s) (s .args .out .now) (test .if1 .taken) (call .request .ensures)
+    reply-as (c .memory-reply .ensures) ∙ memory-seen Eeprom _ _ _ _ _ (call .before .before .before .if1 .taken) (call .request .ensures)
 
 returns-2 : tie.Need-returns-2
 returns-2 c =
     let call = c .before .before .before .before .before in
-    let test = call .before .before .before in
-    let s = test .before .before .before .before .before .before .before in
-    reply-as (c .memory-reply2 .ensures)
-    ∙ memory-seen External (s .args .pnum) (s .args .pcmd) (s .args .pdata .now) (given s) (s .args .out .now) (test .if2 .taken) (call .request2 .ensures)
+    reply-as (c .memory-reply2 .ensures) ∙ memory-seen External _ _ _ _ _ (call .before .before .before .if2 .taken) (call .request2 .ensures)
 
 request-requires-3 : tie.Need-request-requires-3
 request-requires-3 c κs =
@@ -43,10 +32,7 @@ request-requires-3 c κs =
 returns-3 : tie.Need-returns-3
 returns-3 c =
     let call = c .before .before .before .before .before in
-    let test = call .before .before .before in
-    let s = test .before .before .before .before .before .before .before .before in
-    reply-as (c .memory-reply3 .ensures)
-    ∙ memory-seen Ram (s .args .pnum) (s .args .pcmd) (s .args .pdata .now) (given s) (s .args .out .now) (test .if3 .taken) (call .request3 .ensures)
+    reply-as (c .memory-reply3 .ensures) ∙ memory-seen Ram _ _ _ _ _ (call .before .before .before .if3 .taken) (call .request3 .ensures)
 
 request-requires-4 : tie.Need-request-requires-4
 request-requires-4 c κs =
@@ -55,17 +41,15 @@ request-requires-4 c κs =
 
 returns-4 : tie.Need-returns-4
 returns-4 c =
-    let s = c .before .before .before .before .before .before .before .before .before .before .before .before .before in
-    let a = s .args in
-    reply-mapped (λ (ls : List Lamp). stateFromParts (a .fixed) ls (a .ram .now) (a .eeprom .now) (a .external .now)) (lightsRequest (a .fixed .settings) (a .pcmd) (a .pdata .now) (a .lamps)) (a .out .now) (c .before .before .request4 .ensures)
-    ∙ ap (λ (x : Reply State). replyInBuffer x (a .out .now)) (sym (peripheral-lights (a .pnum) (a .pcmd) (a .pdata .now) (given s) (c .before .before .before .before .if4 .taken)))
+    let call = c .before .before in
+    let a = call .before .before .before .before .before .before .before .before .before .before .before .args in
+    reply-mapped (λ (ls : List Lamp). stateFromParts (a .fixed) ls (a .ram .now) (a .eeprom .now) (a .external .now)) (lightsRequest (a .fixed .settings) (a .pcmd) (a .pdata .now) (a .lamps)) _ (call .request4 .ensures)
+    ∙ ap (λ (x : Reply State). replyInBuffer x (a .out .now)) (sym (peripheral-lights _ _ _ _ (call .before .before .if4 .taken)))
 
 returns-5 : tie.Need-returns-5
 returns-5 c =
-    let s = c .before .before .before .before .before .before .before .before .before in
-    let a = s .args in
-    ap (λ (x : Reply State). replyInBuffer x (a .out .now))
-    (sym (peripheral-unknown (a .pnum) (a .pcmd) (a .pdata .now) (given s) (c .before .before .before .if1 .left) (c .before .before .if2 .left) (c .before .if3 .left) (c .if4 .left)))
+    let o = c .before .before .before .before .before .before .before .before .before .args .out .now in
+    ap (λ (x : Reply State). replyInBuffer x o) (sym (peripheral-unknown _ _ _ _ (c .before .before .before .if1 .left) (c .before .before .if2 .left) (c .before .if3 .left) (c .if4 .left)))
 
 pub peripheral-spec : {M : Type 1} → statement M
 peripheral-spec =

@@ -6,20 +6,17 @@ use Rattle.dpa.specs.Frame.{headerOf}
 use Rattle.batch.specs.Batch.{Item}
 use Rattle.node.specs.declared.record.ReadOnly.{ReadOnly}
 use Rattle.node.proofs.Nodes.{node-ram}
-use Rattle.handler.specs.Request.{State, state, SoundState, frameItem, execute, broadcastResult, unicastResult}
+use Rattle.handler.specs.Request.{State, SoundState, frameItem, execute, broadcastResult, unicastResult}
 use Rattle.handler.specs.Seen.{stateFromParts}
 use Rattle.handler.proofs.Calls.{frame-item-read, frame-broadcast, frame-unicast, frame-other, call-result-as}
 use Rattle.handler.proofs.request.handle_frame.Statement.{statement}
 use Rattle.handler.proofs.request.handle_frame.Tie as tie
 
--- the state at the start
-abbrev given : tie.Start → State
-given c = state (c .args .node) (c .args .eeprom .now) (c .args .external .now)
-
--- the same, with the read-only part of the node
+-- the state at the start, with the read-only part of the node
 abbrev inParts : tie.Start → ReadOnly → State
 inParts c k = stateFromParts k (c .args .node .lamps) (c .args .node .ram) (c .args .eeprom .now) (c .args .external .now)
 
+-- the start, from after the node was split
 abbrev start : tie.After-read-only → tie.Start
 start c = c .before .before .before .before .before .before .before
 
@@ -47,7 +44,7 @@ returns c =
     ∙ call .handle-broadcast .ensures o
     ∙ ap (λ (i : Item). broadcastResult (execute i (inParts s (parts .read-only .result))) o) (frame-item-read f (header .read .ensures))
     ∙ ap (λ (k : ReadOnly). broadcastResult (execute (frameItem f) (inParts s k)) o) (parts .read-only .ensures)
-    ∙ sym (frame-broadcast f (given s) o (sym (nadr-is header) ∙ test .if1 .taken))
+    ∙ sym (frame-broadcast _ _ _ (sym (nadr-is header) ∙ test .if1 .taken))
 
 slice-aggregate-handle-unicast : tie.Need-slice-aggregate-handle-unicast
 slice-aggregate-handle-unicast c =
@@ -72,14 +69,13 @@ returns-2 c =
     ∙ call .handle-unicast .ensures
     ∙ ap (λ (i : Item). unicastResult (parts .read-only .result .settings) i (execute i (inParts s (parts .read-only .result))) o) (frame-item-read f (header .read .ensures))
     ∙ ap (λ (k : ReadOnly). unicastResult (k .settings) (frameItem f) (execute (frameItem f) (inParts s k)) o) (parts .read-only .ensures)
-    ∙ sym (frame-unicast f (given s) o (λ z. test .before .before .before .if1 .left (nadr-is header ∙ z)) (sym (nadr-is header) ∙ test .if2 .taken))
+    ∙ sym (frame-unicast _ _ _ (λ z. test .before .before .before .if1 .left (nadr-is header ∙ z)) (sym (nadr-is header) ∙ test .if2 .taken))
 
 returns-3 : tie.Need-returns-3
 returns-3 c =
     let header = c .before .before .before .before .before .before .before .before .before .before in
-    let s = header .before .before .before .before .before in
     call-result-as (c .answer-unhandled .ensures)
-    ∙ sym (frame-other (s .args .frame .now) (given s) (s .args .response .now) (λ z. c .before .before .before .before .if1 .left (nadr-is header ∙ z)) (λ z. c .before .if2 .left (nadr-is header ∙ z)))
+    ∙ sym (frame-other _ _ _ (λ z. c .before .before .before .before .if1 .left (nadr-is header ∙ z)) (λ z. c .before .if2 .left (nadr-is header ∙ z)))
 
 pub handle-frame-spec : {M : Type 1} → statement M
 handle-frame-spec =

@@ -2,8 +2,8 @@
 use borrow.Author.Needs.{needs}
 use native.Mathlib.Omega.{arith}
 use mathlib.Core.Path.{ap}
-use Rattle.batch.specs.Batch.{Item, item}
-use Rattle.handler.specs.Request.{State, execute}
+use Rattle.batch.specs.Batch.{Item}
+use Rattle.handler.specs.Request.{State, execute, headerItem}
 use Rattle.handler.specs.Seen.{stateFromParts, SeenOutcome}
 use Rattle.handler.proofs.Sizes.{execute-fits}
 use Rattle.handler.proofs.Calls.{unicast-response}
@@ -17,8 +17,9 @@ given c =
 
 -- the request
 abbrev asked : tie.Start → Item
-asked c = item (c .args .header .pnum) (c .args .header .pcmd) (c .args .header .hwpid) (c .args .pdata .now)
+asked c = headerItem (c .args .header) (c .args .pdata .now)
 
+-- the start, from after the call of `execute`
 abbrev start : tie.After-execute → tie.Start
 start c = c .before .before .before .before .before .before .before .before .before .before
 

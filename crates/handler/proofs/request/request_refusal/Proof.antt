@@ -22,7 +22,7 @@ returns-3 : tie.Need-returns-3
 unfolding requestRefusal
 returns-3 c = simp (sym (c .before .before .before .before .node-ok .ensures) ∙ not-false _ (c .before .before .before .if1 .left), sym (c .before .before .fits2 .ensures) ∙ not-false _ (c .before .if2 .left), lt-ltb _ _ (c .if3 .taken))
 
--- past the first three tests
+-- after the first three tests
 past : (c : tie.Else3) →
     let a = c .before .before .before .before .before .args in
     (nodeOk (a .node) ≡ true) × (frameFits (a .frame) ≡ true) × (ltb (a .response) longestResponse ≡ false)
