@@ -1,3 +1,4 @@
+-- The bytes from step `done` on hold the entry's steps.
 use Prim.Native.Nat.{_*_}
 use native.Mathlib.Omega.{arith}
 use lib.ListN.{length-drop}

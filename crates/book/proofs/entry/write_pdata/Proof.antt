@@ -1,3 +1,4 @@
+-- A lamp entry: bitmap, then power bytes. A memory entry: address, then values.
 use mathlib.Core.Bool.{true, false}
 use mathlib.Core.List.{[], _∷_}
 use mathlib.Core.Path.{_≡_, refl, sym, ap, _∙_}
@@ -11,7 +12,7 @@ use Rattle.book.specs.Book.{stepsIn}
 use Rattle.book.specs.Step.{isLamp}
 use Rattle.book.specs.Entry.{bitmapOf, powersBytes, values, bitmapBytes}
 use Rattle.book.specs.Positions.{stepAt}
-use Rattle.book.proofs.Writing.{two-writes, sets-keep, data-lamp, data-mem, values-count}
+use Rattle.book.proofs.Writing.{two-writes, sets-length, data-lamp, data-memory, values-count}
 use Rattle.book.proofs.entry.write_pdata.Statement.{statement}
 use Rattle.book.proofs.entry.write_pdata.Tie as tie
 
@@ -44,7 +45,7 @@ write-powers-requires c κs =
       omega (
         arith,
         e .0,
-        sets-keep (s .args .out .now) _ (bitmapBytes (c .before .before .before .before .before .bitmap-of .result)) (s .args .at) (e .1),
+        sets-length (s .args .out .now) _ (bitmapBytes (c .before .before .before .before .before .bitmap-of .result)) (s .args .at) (e .1),
         s .pre .3,
         ap length (data-lamp (s .args .count) (s .args .body .now) (s .pre .1) k),
       ),
@@ -66,7 +67,7 @@ returns c =
 slice-write-out : tie.Need-slice-write-out
 slice-write-out c =
     let s = c .before .before .before .before .before in
-    omega (arith, s .pre .3, ap length (data-mem (s .args .count) (s .args .body .now) (s .pre .1) (byte c)))
+    omega (arith, s .pre .3, ap length (data-memory (s .args .count) (s .args .body .now) (s .pre .1) (byte c)))
 
 write-values-requires : tie.Need-write-values-requires
 write-values-requires c κs =
@@ -77,7 +78,7 @@ write-values-requires c κs =
         arith,
         s .pre .3,
         values-count (s .args .count) (s .args .body .now),
-        ap length (data-mem (s .args .count) (s .args .body .now) (s .pre .1) (byte (c .before))),
+        ap length (data-memory (s .args .count) (s .args .body .now) (s .pre .1) (byte (c .before))),
       )),
     )
 
@@ -95,7 +96,7 @@ returns-2 c =
     two-writes (s .args .out .now) _ _ (stepAt (s .args .body .now) 0 .target ∷ []) (values (stepsIn (s .args .count) (s .args .body .now))) _
     _ _ _ (ap (λ (x : Step). set (s .args .out .now) (s .args .at) (x .target)) (at .before .before .step-at .ensures)) refl (vs .1)
     (omega (arith, vs .0, n))
-    (data-mem (s .args .count) (s .args .body .now) (s .pre .1) (byte at))
+    (data-memory (s .args .count) (s .args .body .now) (s .pre .1) (byte at))
 
 pub write-pdata-spec : {M : Type 1} → statement M
 write-pdata-spec =

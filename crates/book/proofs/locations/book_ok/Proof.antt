@@ -1,3 +1,4 @@
+-- Each return decides one test of `bookOk`.
 use Prim.Native.Nat.{_+_, _*_}
 use lib.ListN.{length}
 use borrow.Author.Needs.{needs}

@@ -1,3 +1,4 @@
+-- One byte, or two.
 use mathlib.Core.Path.{refl}
 use native.Mathlib.Numerals.{add-one}
 use native.Mathlib.Omega.{arith}

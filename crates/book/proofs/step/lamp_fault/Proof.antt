@@ -1,3 +1,4 @@
+-- Each return decides one test of `lampFault`.
 use borrow.Author.Tests.{lt-ltb, le-ltb, le-leb, lt-leb, eq-eqb, ne-eqb}
 use Rattle.book.specs.Step.{lampFault, stepTimeOk}
 use Rattle.book.proofs.step.lamp_fault.Statement.{statement}
