@@ -40,6 +40,9 @@ pub record Stays (st t : State) : Type 0 where
   pub ram-length : length (t .node .ram) ≡ length (st .node .ram)
   pub eeprom-length : length (t .eeprom) ≡ length (st .eeprom)
 
+unchanged : (st : State) → Stays st st
+unchanged st = record { settings = refl; external = refl; lamps-length = refl; ram-length = refl; eeprom-length = refl }
+
 module _ (s : Step) (st : State) where
   -- a lamp after a step
   pub step-lamp : (k : ℕ) → k < length (st .node .lamps)
@@ -99,11 +102,11 @@ module _ (s : Step) (st : State) where
       (λ _. by-cond (Stays st) (eqb (s .kind) ramKind) _ _
       (λ _. record { settings = refl; external = refl; lamps-length = refl; ram-length = length-set (st .node .ram) (s .target) (s .value); eeprom-length = refl })
       (λ _. record { settings = refl; external = refl; lamps-length = refl; ram-length = refl; eeprom-length = length-set (st .eeprom) (s .target) (s .value) })))
-      (λ _. record { settings = refl; external = refl; lamps-length = refl; ram-length = refl; eeprom-length = refl })
+      (λ _. unchanged st)
 
 -- steps in order leave the same unchanged
 pub machine-stays : (ss : List Step) (st : State) → Stays st (machine ss st)
-machine-stays [] st = record { settings = refl; external = refl; lamps-length = refl; ram-length = refl; eeprom-length = refl }
+machine-stays [] st = unchanged st
 machine-stays (s ∷ ss) st =
     let a = step-stays s st in
     let b = machine-stays ss (machineStep s st) in

@@ -104,17 +104,17 @@ bitmap-next n a i m x p q h ex ep small =
 pub bitmap-all : (n : ℕ) (a : List ℕ) (i m : ℕ) → BitmapOfFirst n a i m → n ≤ i → m ≡ bitmapOf (stepsIn n a)
 bitmap-all n a i m q h = rw (records-all stepLength stepOf n a i h) at (q .1)
 
--- ---- sizes of what is written
+-- ---- power bytes and values
 
--- a lamp step without a time has one power byte
-pub power-one : (x : Step) → x .time ≡ 0 → length (powerBytes x) ≡ 1
+-- the power bytes of a step without a time
+pub power-untimed : (x : Step) → x .time ≡ 0 → powerBytes x ≡ x .value ∷ []
 unfolding powerBytes
-power-one x e = rw (eq-eqb (x .time) 0 e)
+power-untimed x e = rw (eq-eqb (x .time) 0 e)
 
--- a lamp step with a time has two
-pub power-two : (x : Step) → (x .time ≡ 0 → ⊥) → length (powerBytes x) ≡ 2
+-- the power bytes of a step with a time
+pub power-timed : (x : Step) → (x .time ≡ 0 → ⊥) → powerBytes x ≡ (x .value + 128) ∷ x .time ∷ []
 unfolding powerBytes
-power-two x e = rw (ne-eqb (x .time) 0 e)
+power-timed x e = rw (ne-eqb (x .time) 0 e)
 
 values-length : (ss : List Step) → length (values ss) ≡ length ss
 values-length [] = refl

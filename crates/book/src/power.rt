@@ -24,12 +24,11 @@ fn write_power(step: Step, out: &mut [u8], at: usize) -> usize
     ensures { λ r. ⌜ (r ≡ at + length (powerBytes step)) × (now (out .exit) ≡ sets (now (out .entry)) at (powerBytes step)) ⌝ }
 {
     if step.time == 0 {
-        out[at] = step.value;
-        return at + 1;
+        let power = [step.value];
+        return write_bytes(&power, out, at);
     }
-    out[at] = step.value + TIMED;
-    out[at + 1] = step.time;
-    at + 2
+    let timed = [step.value + TIMED, step.time];
+    write_bytes(&timed, out, at)
 }
 
 // Writes the power and time bytes of `count` steps; returns the position after them.
