@@ -15,10 +15,12 @@ use Rattle.book.proofs.entry.write_entry.Tie as tie
 
 returns : tie.Need-returns
 returns c =
-    let s = c .before .before .before .before .before .before .before .before .before .before .before in
-    let x = c .before .before .before .before .before .before .before .before in
-    let head = c .before .before .before .before .before .before .write-head .ensures in
-    let pdata = c .before .before .write-pdata .ensures in
+    let p = c .before .before in
+    let w = p .before .before .before .before in
+    let x = w .before .before in
+    let s = x .before .before .before in
+    let head = w .write-head .ensures in
+    let pdata = p .write-pdata .ensures in
     let e = entry-split (s .args .count) (s .args .body .now) (s .args .hwpid) (s .args .size) (s .pre .1) (s .pre .4) in
     let both = two-writes (s .args .out .now) _ _ (entryHead (stepAt (s .args .body .now) 0 .kind) (s .args .hwpid) (s .args .size))
     (groupData (stepsIn (s .args .count) (s .args .body .now))) _ _ _ _

@@ -14,8 +14,9 @@ write-bytes-requires c κs =
 
 returns : tie.Need-returns
 returns c =
-    let t = c .before .before .before .before .before in
-    rw (power-untimed (t .before .before .before .args .step) (t .if1 .taken)) (c .before .before .write-bytes .ensures)
+    let w = c .before .before in
+    let t = w .before .before .before in
+    rw (power-untimed (t .before .before .before .args .step) (t .if1 .taken)) (w .write-bytes .ensures)
 
 write-bytes-requires-2 : tie.Need-write-bytes-requires-2
 write-bytes-requires-2 c κs =
@@ -24,8 +25,9 @@ write-bytes-requires-2 c κs =
 
 returns-2 : tie.Need-returns-2
 returns-2 c =
-    let t = c .before .before .before .before .before .before in
-    rw (power-timed (t .before .before .before .args .step) (t .if1 .left)) (c .before .before .write-bytes2 .ensures)
+    let w = c .before .before in
+    let t = w .before .before .before .before in
+    rw (power-timed (t .before .before .before .args .step) (t .if1 .left)) (w .write-bytes2 .ensures)
 
 pub write-power-spec : {M : Type 1} → statement M
 write-power-spec =

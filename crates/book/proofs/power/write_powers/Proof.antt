@@ -18,24 +18,27 @@ loop-holds c = (omega arith, omega arith, refl, refl)
 
 write-power-requires : tie.Need-write-power-requires Inv-loop μ-loop
 write-power-requires c κs =
-    let at = c .before .before .before in
-    let a = at .before .before .before .args in
-    let h = c .before .before .loop-test .taken in (
-      rw (c .before .step-at .ensures) (at .before .before .before .pre .3 (at .loop .i) h .0),
-      rw (c .before .step-at .ensures) (omega (
+    let x = c .before in
+    let l = x .before .before in
+    let s = l .before .before .before in
+    let h = x .before .loop-test .taken in (
+      rw (x .step-at .ensures) (s .pre .3 (l .loop .i) h .0),
+      rw (x .step-at .ensures) (omega (
         arith,
-        room powerBytes (a .count) (a .body .now) (at .loop .i) h,
-        at .loop .inv .1,
-        at .loop .inv .3,
-        at .before .before .before .pre .2,
+        room powerBytes (s .args .count) (s .args .body .now) (l .loop .i) h,
+        l .loop .inv .1,
+        l .loop .inv .3,
+        s .pre .2,
       )),
     )
 
 loop-again : tie.Need-loop-again Inv-loop μ-loop
 loop-again c =
-    let at = c .before .before .before .before .before .before in
-    written-next powerBytes _ _ (at .loop .i) (c .before .before .before .before .before .loop-test .taken) _ _ _ _
-    (c .before .before .before .before .step-at .result) _ _ (at .loop .inv) (c .before .before .before .before .step-at .ensures) (c .before .before .write-power .ensures .0) (c .before .before .write-power .ensures .1)
+    let w = c .before .before in
+    let x = w .before .before in
+    let l = x .before .before .loop in
+    written-next powerBytes _ _ (l .i) (x .before .loop-test .taken) _ _ _ _ (x .step-at .result) _ _ (l .inv) (x .step-at .ensures)
+    (w .write-power .ensures .0) (w .write-power .ensures .1)
 
 same-length : tie.Need-same-length Inv-loop μ-loop
 same-length c = c .before .loop .inv .3
