@@ -19,7 +19,8 @@ use Rattle.book.proofs.Positions.{steps-length}
 
 -- ---- scene locations
 
-abbrev pub noLocation : SceneLocation
+-- the default where a list has no location
+abbrev noLocation : SceneLocation
 noLocation = locationOf []
 
 -- the locations start after the book's first byte

@@ -20,7 +20,7 @@ use Rattle.book.specs.Entry.{groupData, entryData, powerBytes}
 use Rattle.book.specs.Join.{joins, entriesOf, follows, lastOf}
 use Rattle.book.specs.Positions.{stepAt}
 use Rattle.book.specs.EntrySize.{stepSize, powerSize, firstSize, oneStepMax, joinedSize, FirstEntry}
-use Rattle.book.proofs.Sizes.{data-length}
+use Rattle.book.proofs.EntrySize.{data-length}
 use Rattle.book.proofs.Groups.{group-start, take-fits, take-not-fits}
 use Rattle.book.proofs.Records.{records-drop, records-end}
 use Rattle.book.proofs.Positions.{zeroStep, steps-length, steps-at}

@@ -3,7 +3,7 @@ pub mod Positions
 pub mod Groups
 pub mod Faults
 pub mod MachineLaws
-pub mod Sizes
+pub mod EntrySize
 pub mod EntryGroups
 pub mod FirstEntry
 pub mod GoodSteps

@@ -40,6 +40,7 @@ pub record Stays (st t : State) : Type 0 where
   pub ram-length : length (t .node .ram) ≡ length (st .node .ram)
   pub eeprom-length : length (t .eeprom) ≡ length (st .eeprom)
 
+-- a state that a step leaves as it is
 unchanged : (st : State) → Stays st st
 unchanged st = record { settings = refl; external = refl; lamps-length = refl; ram-length = refl; eeprom-length = refl }
 

@@ -9,11 +9,11 @@ use Rattle.book.specs.Book.{stepLength, stepOf, stepsIn}
 use Rattle.book.specs.Positions.{stepAt}
 use Rattle.book.proofs.Records.{records-length, records-at, records-drop, records-take}
 
--- the default of a step that is not there
+-- the default where a list has no step
 abbrev pub zeroStep : Step
 zeroStep = stepOf []
 
--- n steps are n
+-- the list of n steps has n elements
 pub steps-length : (n : ℕ) (bs : List ℕ) → length (stepsIn n bs) ≡ n
 steps-length = records-length stepLength stepOf
 

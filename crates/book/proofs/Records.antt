@@ -14,7 +14,7 @@ module _ {A : Type 0} (width : ℕ) (read : List ℕ → A) where
   pub drop-record : (bs : List ℕ) (i : ℕ) → drop (width * i) (drop width bs) ≡ drop (width * suc i) bs
   drop-record bs i = drop-drop (width * i) width bs ∙ ap (λ (k : ℕ). drop k bs) (add-comm width (width * i) ∙ sym (mul-suc width i))
 
-  -- n records are n
+  -- the list of n records has n elements
   pub records-length : (n : ℕ) (bs : List ℕ) → length (records width read n bs) ≡ n
   records-length zero bs = refl
   records-length (suc n) bs = ap suc (records-length n (drop width bs))
@@ -33,26 +33,31 @@ module _ {A : Type 0} (width : ℕ) (read : List ℕ → A) where
       let e : suc n - suc d ≡ n - d = omega arith in
       rw (e, ← (drop-record bs d)) (records-drop n d (drop width bs) (omega arith))
 
-  -- the first k records need no more bytes than theirs
+  -- the first k of n records are k records
   pub records-take : (n k : ℕ) (bs : List ℕ) → k ≤ n → take k (records width read n bs) ≡ records width read k bs
   records-take n zero bs h = refl
   records-take zero (suc k) bs h = absurd (omega arith)
   records-take (suc n) (suc k) bs h = ap (λ (l : List A). read bs ∷ l) (records-take n k (drop width bs) (omega arith))
 
-  -- ---- a loop over the records: the next one, and the end
+  -- ---- a loop over the records
+
+  -- record i comes next
   pub records-next : (n : ℕ) (bs : List ℕ) (i : ℕ) → i < n
       → drop i (records width read n bs) ≡ read (drop (width * i) bs) ∷ drop (suc i) (records width read n bs)
   records-next zero bs i h = absurd (omega arith)
   records-next (suc n) bs zero h = rw (mul-zero width)
   records-next (suc n) bs (suc i) h = rw (records-next n (drop width bs) i (omega arith), drop-record bs i)
 
+  -- after n records none is left
   pub records-end : (n : ℕ) (bs : List ℕ) (i : ℕ) → n ≤ i → drop i (records width read n bs) ≡ []
   records-end n bs i h = drop-of-length-le (records width read n bs) {i = i} (omega (arith, records-length n bs))
 
+  -- the first i + 1 records end with record i
   pub records-taken : (n : ℕ) (bs : List ℕ) (i : ℕ) → i < n
       → take (i + 1) (records width read n bs) ≡ take i (records width read n bs) ++ (read (drop (width * i) bs) ∷ [])
   records-taken n bs i h =
       rw (add-one i, ← (records-at n bs i (read []) h)) (take-suc (records width read n bs) i (read []) (omega (arith, records-length n bs)))
 
+  -- the first n records are all
   pub records-all : (n : ℕ) (bs : List ℕ) (i : ℕ) → n ≤ i → take i (records width read n bs) ≡ records width read n bs
   records-all n bs i h = take-all i (records width read n bs) (omega (arith, records-length n bs))

@@ -25,7 +25,7 @@ abbrev pub bytesOf : (Step → List ℕ) → List Step → List ℕ
 bytesOf f [] = []
 bytesOf f (s ∷ ss) = f s ++ bytesOf f ss
 
--- the power byte of a lamp step, and its time byte if it has one; bit 7 of the power byte announces it
+-- the power byte of a lamp step, and its time byte if it has one; bit 7 of the power byte marks a time
 unfoldable pub powerBytes : Step → List ℕ
 powerBytes s = cond (eqb (s .time) 0) (s .value ∷ []) ((s .value + 128) ∷ s .time ∷ [])
 

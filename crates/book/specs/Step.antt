@@ -28,7 +28,7 @@ eepromKind = 4
 abbrev pub isLamp : ℕ → Bool
 isLamp k = ltb k ramKind
 
--- ---- lamp steps: targets are below the first number, values at most the second
+-- ---- limits of a lamp step: its target is below `maxLamps`, its value at most `maxLevel`
 abbrev pub maxLamps : ℕ
 maxLamps = 32
 

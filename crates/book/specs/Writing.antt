@@ -16,7 +16,7 @@ AllStepsGood body n = (i : ℕ) → i < n → goodStep (stepAt body i) ≡ true
 abbrev pub LampStepsInRange : List ℕ → ℕ → Type 0
 LampStepsInRange body n = (i : ℕ) → i < n → (stepAt body i .value ≤ maxLevel) × (stepAt body i .target < maxLamps)
 
--- a limit of the bitmap of one lamp: 2 to the number of lamps
+-- 2 to the number of lamps: no lamp's bit is larger
 abbrev pub maxBitmap : ℕ
 maxBitmap = 4294967296
 

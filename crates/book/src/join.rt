@@ -13,7 +13,7 @@ ghost use Rattle.book.specs.Join.{follows};
 ghost use Rattle.book.specs.EntrySize.{oneStepMax, EntryLimit, stepSize, firstSize, joinedSize, FirstEntry};
 ghost use Rattle.book.specs.Positions.{stepAt};
 
-// The bytes of a memory address in front of the values.
+// The bytes of a memory's address before the values.
 const ADDRESS_LENGTH: usize = 1;
 
 // Whether a step may follow `before`, the last step of an entry.

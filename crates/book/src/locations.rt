@@ -10,6 +10,7 @@ ghost use lib.ListN.{length};
 ghost use Rattle.book.specs.Book.{scenesMax, locationLength, sceneCount, sceneLocations, chained, bookOk};
 ghost use Rattle.book.specs.Positions.{locationAt};
 
+// The most scenes of a book.
 pub const SCENES_MAX: usize = 16;
 
 // The bytes of a scene location.
@@ -56,6 +57,7 @@ fn bodies_ok(book: &[u8], scenes: usize) -> bool
     start == book.len()
 }
 
+// Whether a book is well formed.
 pub fn book_ok(book: &[u8]) -> bool
     ensures { λ r. ⌜ r ≡ bookOk (now (book .entry)) ⌝ }
 {

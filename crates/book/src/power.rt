@@ -16,7 +16,7 @@ ghost use Rattle.book.specs.Writing.{LampStepsInRange, maxBitmap};
 pub const BITMAP_LENGTH: usize = 4;
 
 // Bit 7 of a power byte: a time byte follows.
-const TIMED: u8 = 128;
+const TIME_BIT: u8 = 128;
 
 // Writes the power byte of a step, and its time byte if it has one; returns the position after them.
 fn write_power(step: Step, out: &mut [u8], at: usize) -> usize
@@ -27,7 +27,7 @@ fn write_power(step: Step, out: &mut [u8], at: usize) -> usize
         let power = [step.value];
         return write_bytes(&power, out, at);
     }
-    let timed = [step.value + TIMED, step.time];
+    let timed = [step.value + TIME_BIT, step.time];
     write_bytes(&timed, out, at)
 }
 

@@ -25,6 +25,7 @@ pub const STEPS_MAX: usize = 64;
 // The bytes of a step.
 pub const STEP_LENGTH: usize = 4;
 
+// The target is a lamp or an address; the time is a time byte of the lights peripheral, or 0.
 #[repr(C)]
 pub struct Step {
     pub kind: u8,
@@ -34,7 +35,7 @@ pub struct Step {
 }
 
 // Bit 7 of a time byte: its low seven bits are seconds, not minutes.
-const SECONDS: u8 = 128;
+const SECONDS_BIT: u8 = 128;
 
 // Step i of a scene's body.
 pub fn step_at(body: &[u8], i: usize) -> Step
@@ -49,6 +50,7 @@ pub fn step_at(body: &[u8], i: usize) -> Step
     }
 }
 
+// The fault of a lamp step.
 fn lamp_fault(step: Step) -> u8
     ensures { λ r. ⌜ r ≡ lampFault step ⌝ }
 {
@@ -61,12 +63,13 @@ fn lamp_fault(step: Step) -> u8
     if step.time == 0 {
         return fault::NONE;
     }
-    if step.time % SECONDS == 0 {
+    if step.time % SECONDS_BIT == 0 {
         return fault::TIME;
     }
     fault::NONE
 }
 
+// The fault of a step that writes a byte of a memory.
 fn byte_fault(memory: Memory, step: Step) -> u8
     ensures { λ r. ⌜ r ≡ byteFault (sizeOf memory) step ⌝ }
 {
