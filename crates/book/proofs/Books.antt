@@ -1,110 +1,97 @@
--- Laws of the book and of bad steps.
-use mathlib.Core.Bool.{true, false, cond, _&&_}
+-- Laws of the book: its scene locations, the loop over the bodies, and what a well-formed book guarantees.
+use mathlib.Core.Bool.{true, false, _&&_}
 use mathlib.Core.List.{List, [], _∷_}
-use mathlib.Core.Option.{none, some}
-use mathlib.Core.Path.{_≡_, refl, sym, ap, _∙_}
+use mathlib.Core.Path.{_≡_, sym, ap, subst, _∙_}
 use Prim.Native.Nat.{ℕ, zero, suc, _+_, _*_, _≤_, _<_}
+use native.Mathlib.Nat.{add-comm}
 use native.Mathlib.Numerals.{add-one}
 use native.Mathlib.Omega.{arith}
-use lib.Dec.{ltb, leb, eqb}
-use lib.ListN.{length, getD, drop, drop-of-length-le}
-use lib.Seq.{drop-cons, getD-drop}
-use borrow.Author.Tests.{lt-ltb, le-ltb, le-leb, lt-leb, eq-eqb, ne-eqb, eqb-true, leb-true}
-use Rattle.dpa.specs.Number.{word}
+use lib.Dec.{leb, eqb}
+use lib.ListN.{length, getD, drop}
+use lib.Seq.{drop-drop}
+use borrow.Author.Tests.{le-leb, lt-leb, eq-eqb, ne-eqb, eqb-true, leb-true}
 use Rattle.dpa.proofs.Bool.{and-left, and-right}
-use Rattle.dpa.specs.Lists.{All}
 use Rattle.book.specs.declared.locations.SceneLocation.{SceneLocation}
-use Rattle.book.specs.declared.step.Step.{Step}
-use Rattle.book.specs.Book.{scenesMax, stepsMax, locationLength, stepLength, content, sceneCount, stepsIn, locationsIn, chained, sceneLocations, bookOk, sceneOf}
-use Rattle.book.specs.Step.{goodStep, firstBadFrom}
-use Rattle.book.specs.Positions.{stepAt, locationAt}
-use Rattle.book.specs.Writing.{AllStepsGood}
-use Rattle.book.proofs.Positions.{steps-length, none as noStep, steps-at, next}
-use Rattle.book.proofs.Faults.{Good, no-bad}
+use Rattle.book.specs.Book.{scenesMax, stepsMax, locationLength, stepLength, locationOf, sceneCount, stepsIn, chained, sceneLocations, bookOk, sceneOf}
+use Rattle.book.specs.Positions.{locationAt}
+use Rattle.book.proofs.Records.{records-length, records-at, records-next, records-end}
+use Rattle.book.proofs.Positions.{steps-length}
 
--- ---- the contents of a book
+-- ---- scene locations
 
-abbrev third : List ℕ → ℕ → SceneLocation
-third bs i = content (word (getD bs (locationLength * i) 0) (getD bs (locationLength * i + 1) 0)) (getD bs (locationLength * i + 2) 0)
+-- the default where a list has no location
+abbrev noLocation : SceneLocation
+noLocation = locationOf []
 
-abbrev pub noContent : SceneLocation
-noContent = content 0 0
+-- the locations start after the book's first byte
+after-count : (b : List ℕ) (i : ℕ) → locationOf (drop (locationLength * i) (drop 1 b)) ≡ locationAt b i
+after-count b i = ap locationOf (drop-drop (locationLength * i) 1 b ∙ ap (λ (k : ℕ). drop k b) (add-comm 1 (locationLength * i)))
 
-third-next : (bs : List ℕ) (i : ℕ) → third (drop locationLength bs) i ≡ third bs (suc i)
-third-next bs i =
-    let e0 : locationLength * suc i ≡ locationLength + locationLength * i = omega arith in
-    let e1 : locationLength * suc i + 1 ≡ locationLength + (locationLength * i + 1) = omega arith in
-    let e2 : locationLength * suc i + 2 ≡ locationLength + (locationLength * i + 2) = omega arith in
-    rw (e1, e2, e0, getD-drop locationLength bs (locationLength * i) 0, getD-drop locationLength bs (locationLength * i + 1) 0, getD-drop locationLength bs (locationLength * i + 2) 0)
+location-at : (b : List ℕ) (i : ℕ) → i < sceneCount b → getD (sceneLocations b) i noLocation ≡ locationAt b i
+location-at b i h = records-at locationLength locationOf (sceneCount b) (drop 1 b) i noLocation h ∙ after-count b i
 
-contents-at : (n : ℕ) (bs : List ℕ) (i : ℕ) → i < n → getD (locationsIn n bs) i noContent ≡ third bs i
-contents-at zero bs i h = absurd (omega arith)
-contents-at (suc n) bs zero h = refl
-contents-at (suc n) bs (suc i) h = contents-at n (drop locationLength bs) i (omega arith) ∙ third-next bs i
+location-next : (b : List ℕ) (i : ℕ) → i < sceneCount b → drop i (sceneLocations b) ≡ locationAt b i ∷ drop (suc i) (sceneLocations b)
+location-next b i h = records-next locationLength locationOf (sceneCount b) (drop 1 b) i h ∙ rw (after-count b i)
 
-contents-length : (n : ℕ) (bs : List ℕ) → length (locationsIn n bs) ≡ n
-contents-length zero bs = refl
-contents-length (suc n) bs = ap suc (contents-length n (drop locationLength bs))
+-- ---- the loop of bodies_ok: l is the location of scene i, whose body should start at `start`
+module _ (b : List ℕ) (i start end : ℕ) (l : SceneLocation) (h : i < sceneCount b) (e : l ≡ locationAt b i) where
+  here : drop i (sceneLocations b) ≡ l ∷ drop (suc i) (sceneLocations b)
+  here = location-next b i h ∙ ap (λ (m : SceneLocation). m ∷ drop (suc i) (sceneLocations b)) (sym e)
 
-pub content-is : (b : List ℕ) (i : ℕ) → i < sceneCount b → getD (sceneLocations b) i noContent ≡ locationAt b i
-content-is b i h =
-    let e0 : locationLength * i + 1 ≡ 1 + locationLength * i = omega arith in
-    let e1 : locationLength * i + 2 ≡ 1 + (locationLength * i + 1) = omega arith in
-    let e2 : locationLength * i + 3 ≡ 1 + (locationLength * i + 2) = omega arith in
-    contents-at (sceneCount b) (drop 1 b) i h ∙ rw (e2, e1, e0, getD-drop 1 b (locationLength * i) 0, getD-drop 1 b (1 + locationLength * i) 0, getD-drop 1 b (1 + (1 + locationLength * i)) 0)
-
-content-next : (b : List ℕ) (i : ℕ) → i < sceneCount b → drop i (sceneLocations b) ≡ locationAt b i ∷ drop (suc i) (sceneLocations b)
-content-next b i h = drop-cons (sceneLocations b) i noContent (omega (arith, contents-length (sceneCount b) (drop 1 b))) ∙ rw (content-is b i h)
-
--- ---- the loop of bodies_ok
-module _ (b : List ℕ) (i at end offset count : ℕ) (h : i < sceneCount b) (eo : offset ≡ locationAt b i .offset) (ec : count ≡ locationAt b i .steps) where
-  pub chain-more : offset ≡ at → count ≤ stepsMax → chained at (drop i (sceneLocations b)) end ≡ chained (at + stepLength * count) (drop (i + 1) (sceneLocations b)) end
+  -- a body that fits is followed by the next
+  pub chained-next : l .offset ≡ start → l .steps ≤ stepsMax
+      → chained start (drop i (sceneLocations b)) end ≡ chained (start + stepLength * l .steps) (drop (i + 1) (sceneLocations b)) end
   unfolding chained
-  chain-more p q = rw (add-one i, content-next b i h, ← eo, ← ec, eq-eqb offset at p, le-leb count stepsMax q)
+  chained-next p q = rw (add-one i, here, eq-eqb (l .offset) start p, le-leb (l .steps) stepsMax q)
 
-  pub chain-apart : (offset ≡ at → ⊥) → chained at (drop i (sceneLocations b)) end ≡ false
+  -- a body that starts elsewhere is refused
+  pub chained-wrong-offset : (l .offset ≡ start → ⊥) → chained start (drop i (sceneLocations b)) end ≡ false
   unfolding chained
-  chain-apart p = rw (content-next b i h, ← eo, ← ec, ne-eqb offset at p)
+  chained-wrong-offset p = rw (here, ne-eqb (l .offset) start p)
 
-  pub chain-long : offset ≡ at → stepsMax < count → chained at (drop i (sceneLocations b)) end ≡ false
+  -- a body with too many steps is refused
+  pub chained-too-long : l .offset ≡ start → stepsMax < l .steps → chained start (drop i (sceneLocations b)) end ≡ false
   unfolding chained
-  chain-long p q = rw (content-next b i h, ← eo, ← ec, eq-eqb offset at p, lt-leb count stepsMax q)
+  chained-too-long p q = rw (here, eq-eqb (l .offset) start p, lt-leb (l .steps) stepsMax q)
 
-pub chain-end : (b : List ℕ) (i at end : ℕ) → sceneCount b ≤ i → chained at (drop i (sceneLocations b)) end ≡ eqb at end
+-- after the last body only the end is left to compare
+pub chained-end : (b : List ℕ) (i start end : ℕ) → sceneCount b ≤ i → chained start (drop i (sceneLocations b)) end ≡ eqb start end
 unfolding chained
-chain-end b i at end h =
-    let d : drop i (sceneLocations b) ≡ [] = drop-of-length-le (sceneLocations b) {i = i} (omega (arith, contents-length (sceneCount b) (drop 1 b))) in
-    rw d
+chained-end b i start end h = rw (records-end locationLength locationOf (sceneCount b) (drop 1 b) i h)
 
--- ---- a body is within the book
-chained-le : (at : ℕ) (cs : List SceneLocation) (end : ℕ) → chained at cs end ≡ true → at ≤ end
+-- ---- what a well-formed book guarantees
+
+-- the first location of a chain, and the chain after it
+chained-first : (start : ℕ) (l : SceneLocation) (ls : List SceneLocation) (end : ℕ) → chained start (l ∷ ls) end ≡ true
+    → (l .offset ≡ start) × (l .steps ≤ stepsMax) × (chained (start + stepLength * l .steps) ls end ≡ true)
 unfolding chained
-chained-le at [] end e = omega (arith, eqb-true at end e)
-chained-le at (c ∷ cs) end e = omega (arith, chained-le (at + stepLength * c .steps) cs end (and-right (eqb (c .offset) at && leb (c .steps) stepsMax) _ e))
+chained-first start l ls end e =
+    let f : (eqb (l .offset) start && leb (l .steps) stepsMax) ≡ true = and-left _ _ e in
+    (eqb-true _ _ (and-left _ _ f), leb-true _ _ (and-right (eqb (l .offset) start) _ f), and-right (eqb (l .offset) start && leb (l .steps) stepsMax) _ e)
 
-body-in : (at : ℕ) (cs : List SceneLocation) (end i : ℕ) → chained at cs end ≡ true → i < length cs
-    → (getD cs i noContent .offset + stepLength * getD cs i noContent .steps ≤ end) × (getD cs i noContent .steps ≤ stepsMax)
+chained-le : (start : ℕ) (ls : List SceneLocation) (end : ℕ) → chained start ls end ≡ true → start ≤ end
 unfolding chained
-body-in at [] end i e h = absurd (omega arith)
-body-in at (c ∷ cs) end zero e h =
-    let f : (eqb (c .offset) at && leb (c .steps) stepsMax) ≡ true = and-left _ _ e in (
-      omega (
-        arith,
-        eqb-true (c .offset) at (and-left _ _ f),
-        chained-le (at + stepLength * c .steps) cs end (and-right (eqb (c .offset) at && leb (c .steps) stepsMax) _ e),
-      ),
-      leb-true _ _ (and-right (eqb (c .offset) at) _ f),
-    )
-body-in at (c ∷ cs) end (suc i) e h = body-in (at + stepLength * c .steps) cs end i (and-right (eqb (c .offset) at && leb (c .steps) stepsMax) _ e) (omega arith)
+chained-le start [] end e = omega (arith, eqb-true start end e)
+chained-le start (l ∷ ls) end e = omega (arith, chained-le (start + stepLength * l .steps) ls end (chained-first start l ls end e .2))
 
-pub body-within : (b : List ℕ) (i : ℕ) → bookOk b ≡ true → i < sceneCount b
-    → (locationAt b i .offset + stepLength * locationAt b i .steps ≤ length b) × (locationAt b i .steps ≤ stepsMax)
+chained-body : (start : ℕ) (ls : List SceneLocation) (end i : ℕ) → chained start ls end ≡ true → i < length ls
+    → getD ls i noLocation .offset + stepLength * getD ls i noLocation .steps ≤ end
+chained-body start [] end i e h = absurd (omega arith)
+chained-body start (l ∷ ls) end zero e h =
+    let f = chained-first start l ls end e in
+    omega (arith, f .0, chained-le (start + stepLength * l .steps) ls end (f .2))
+chained-body start (l ∷ ls) end (suc i) e h = chained-body (start + stepLength * l .steps) ls end i (chained-first start l ls end e .2) (omega arith)
+
+chained-steps : (start : ℕ) (ls : List SceneLocation) (end i : ℕ) → chained start ls end ≡ true → getD ls i noLocation .steps ≤ stepsMax
+chained-steps start [] end i e = omega arith
+chained-steps start (l ∷ ls) end zero e = chained-first start l ls end e .1
+chained-steps start (l ∷ ls) end (suc i) e = chained-steps (start + stepLength * l .steps) ls end i (chained-first start l ls end e .2)
+
+book-chained : (b : List ℕ) → bookOk b ≡ true → chained (1 + locationLength * sceneCount b) (sceneLocations b) (length b) ≡ true
 unfolding bookOk
-body-within b i e h =
-    rw (content-is b i h) at
-    (body-in (1 + locationLength * sceneCount b) (sceneLocations b) (length b) i (and-right (leb 1 (length b) && leb (sceneCount b) scenesMax && leb (1 + locationLength * sceneCount b) (length b)) _ e)
-    (omega (arith, contents-length (sceneCount b) (drop 1 b))))
+book-chained b e = and-right (leb 1 (length b) && leb (sceneCount b) scenesMax && leb (1 + locationLength * sceneCount b) (length b)) _ e
 
+-- a well-formed book has a count, not too many scenes, and all their locations
 pub book-facts : (b : List ℕ) → bookOk b ≡ true → (1 ≤ length b) × (sceneCount b ≤ scenesMax) × (1 + locationLength * sceneCount b ≤ length b)
 unfolding bookOk
 book-facts b e =
@@ -112,23 +99,26 @@ book-facts b e =
     let g = and-left _ _ f in
     (leb-true _ _ (and-left _ _ g), leb-true _ _ (and-right (leb 1 (length b)) _ g), leb-true _ _ (and-right (leb 1 (length b) && leb (sceneCount b) scenesMax) _ f))
 
+-- the body of a scene is in the book, and not too long
+pub body-within : (b : List ℕ) (i : ℕ) → bookOk b ≡ true → i < sceneCount b
+    → (locationAt b i .offset + stepLength * locationAt b i .steps ≤ length b) × (locationAt b i .steps ≤ stepsMax)
+body-within b i e h =
+    let start = 1 + locationLength * sceneCount b in
+    let ls = sceneLocations b in
+    subst (λ (l : SceneLocation). (l .offset + stepLength * l .steps ≤ length b) × (l .steps ≤ stepsMax)) (location-at b i h) (
+      chained-body start ls (length b) i (book-chained b e) (omega (arith, records-length locationLength locationOf (sceneCount b) (drop 1 b))),
+      chained-steps start ls (length b) i (book-chained b e),
+    )
+
+-- the steps of a scene are read where its location says
 pub scene-at : (b : List ℕ) (i : ℕ) → i < sceneCount b → sceneOf b i ≡ stepsIn (locationAt b i .steps) (drop (locationAt b i .offset) b)
 unfolding sceneOf
-scene-at b i h = ap (λ (c : SceneLocation). stepsIn (c .steps) (drop (c .offset) b)) (content-is b i h)
+scene-at b i h = ap (λ (l : SceneLocation). stepsIn (l .steps) (drop (l .offset) b)) (location-at b i h)
 
--- ---- a scene of a well-formed book has at most `stepsMax` steps
-
-chained-count : (start : ℕ) (cs : List SceneLocation) (end i : ℕ) → chained start cs end ≡ true → getD cs i (content 0 0) .steps ≤ stepsMax
-unfolding chained
-chained-count start [] end i e = omega arith
-chained-count start (c ∷ cs) end zero e = leb-true _ _ (and-right (eqb (c .offset) start) _ (and-left _ _ e))
-chained-count start (c ∷ cs) end (suc i) e =
-    chained-count (start + stepLength * c .steps) cs end i (and-right (eqb (c .offset) start && leb (c .steps) stepsMax) _ e)
-
+-- a scene of a well-formed book has at most `stepsMax` steps
 pub scene-length : (b : List ℕ) (k : ℕ) → bookOk b ≡ true → length (sceneOf b k) ≤ stepsMax
-unfolding bookOk sceneOf
+unfolding sceneOf
 scene-length b k e =
-    let c = getD (sceneLocations b) k (content 0 0) in
-    rw (steps-length (c .steps) (drop (c .offset) b))
-    (chained-count (1 + locationLength * sceneCount b) (sceneLocations b) (length b) k
-    (and-right (leb 1 (length b) && leb (sceneCount b) scenesMax && leb (1 + locationLength * sceneCount b) (length b)) _ e))
+    let l = getD (sceneLocations b) k noLocation in
+    rw (steps-length (l .steps) (drop (l .offset) b))
+    (chained-steps (1 + locationLength * sceneCount b) (sceneLocations b) (length b) k (book-chained b e))

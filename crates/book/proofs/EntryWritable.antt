@@ -1,4 +1,4 @@
--- The steps of an entry can be written.
+-- The steps of an entry can be written: those of a lamp entry are in range.
 use mathlib.Core.List.{List, [], _∷_}
 use mathlib.Core.Path.{_≡_}
 use Prim.Native.Nat.{ℕ, zero, suc, _+_, _*_, _≤_, _<_}
@@ -9,19 +9,19 @@ use Rattle.dpa.proofs.Bool.{and-left}
 use Rattle.dpa.specs.Lists.{All}
 use Rattle.book.specs.declared.step.Step.{Step}
 use Rattle.book.specs.Book.{stepLength, stepsIn}
-use Rattle.book.specs.Step.{ramKind}
+use Rattle.book.specs.Step.{ramKind, maxLamps, maxLevel}
 use Rattle.book.specs.Join.{follows, entriesOf}
 use Rattle.book.specs.EntrySize.{oneStepMax, FirstEntry}
-use Rattle.book.specs.Writing.{Writable, AllStepsGood}
+use Rattle.book.specs.Writing.{AllStepsGood, EntryWritable}
 use Rattle.book.proofs.Faults.{Good, lamp-good}
 use Rattle.dpa.proofs.All.{all-drop}
 use Rattle.book.proofs.EntryGroups.{Linked, EntryGroup, entry-groups}
-use Rattle.book.proofs.Positions.{steps-length, none, steps-at, steps-slice}
+use Rattle.book.proofs.Positions.{steps-length, zeroStep, steps-at, steps-slice}
 use Rattle.book.proofs.GoodSteps.{good-steps}
 
--- the values and targets of a lamp entry
+-- lamp steps that follow a lamp step are in range
 linked-lamps : (p : Step) (ss : List Step) → Linked p ss → p .kind < ramKind
-    → (j : ℕ) → j < length ss → (getD ss j none .value ≤ 100) × (getD ss j none .target < 32)
+    → (j : ℕ) → j < length ss → (getD ss j zeroStep .value ≤ maxLevel) × (getD ss j zeroStep .target < maxLamps)
 unfolding follows
 linked-lamps p [] l k j h = absurd (omega arith)
 linked-lamps p (s ∷ ss) l k zero h =
@@ -32,20 +32,21 @@ linked-lamps p (s ∷ ss) l k (suc j) h =
     let same : s .kind ≡ p .kind = eqb-true _ _ (and-left _ _ (l .1)) in
     linked-lamps s ss (l .2) (omega arith) j (omega arith)
 
-run-lamps : (entryMost : ℕ) (ss : List Step) → EntryGroup entryMost ss → getD ss 0 none .kind < ramKind
-    → (j : ℕ) → j < length ss → (getD ss j none .value ≤ 100) × (getD ss j none .target < 32)
-run-lamps entryMost [] r k j h = absurd r
-run-lamps entryMost (s ∷ ss) r k zero h = let g = lamp-good s (r .0) k in (g .value-max, g .target-max)
-run-lamps entryMost (s ∷ ss) r k (suc j) h = linked-lamps s ss (r .1) k j (omega arith)
+-- so are all steps of a lamp entry
+group-lamps : (limit : ℕ) (ss : List Step) → EntryGroup limit ss → getD ss 0 zeroStep .kind < ramKind
+    → (j : ℕ) → j < length ss → (getD ss j zeroStep .value ≤ maxLevel) × (getD ss j zeroStep .target < maxLamps)
+group-lamps limit [] r k j h = absurd r
+group-lamps limit (s ∷ ss) r k zero h = let g = lamp-good s (r .0) k in (g .value-max, g .target-max)
+group-lamps limit (s ∷ ss) r k (suc j) h = linked-lamps s ss (r .1) k j (omega arith)
 
--- the steps of an entry can be written
-pub entry-writable : (entryMost : ℕ) → oneStepMax ≤ entryMost → (n i k size : ℕ) (a : List ℕ) → AllStepsGood a n → i + k ≤ n
-    → FirstEntry entryMost (drop i (stepsIn n a)) k size → Writable (drop (stepLength * i) a) k
-entry-writable entryMost six n i k size a g h f =
+-- the first entry of good steps can be written
+pub entry-writable : (limit : ℕ) → oneStepMax ≤ limit → (n i k size : ℕ) (a : List ℕ) → AllStepsGood a n → i + k ≤ n
+    → FirstEntry limit (drop i (stepsIn n a)) k size → EntryWritable (drop (stepLength * i) a) k
+entry-writable limit room n i k size a g h f =
     let ss = drop i (stepsIn n a) in
     let b = drop (stepLength * i) a in
-    let all : All (EntryGroup entryMost) (entriesOf entryMost ss) = entry-groups entryMost six ss (all-drop Good (stepsIn n a) i (good-steps n a g)) in
-    let run : EntryGroup entryMost (take k ss) = rw (f .first) at all .0 in
-    let r : EntryGroup entryMost (stepsIn k b) = rw (steps-slice n i k a h) at run in
+    let all : All (EntryGroup limit) (entriesOf limit ss) = entry-groups limit room ss (all-drop Good (stepsIn n a) i (good-steps n a g)) in
+    let first : EntryGroup limit (take k ss) = rw (f .first) at all .0 in
+    let r : EntryGroup limit (stepsIn k b) = rw (steps-slice n i k a h) at first in
     λ t j l. rw (steps-at k b j l) at
-    (run-lamps entryMost (stepsIn k b) r (rw (steps-at k b 0 (omega (arith, f .some))) (ltb-true _ _ t)) j (omega (arith, steps-length k b)))
+    (group-lamps limit (stepsIn k b) r (rw (steps-at k b 0 (omega (arith, f .some))) (ltb-true _ _ t)) j (omega (arith, steps-length k b)))

@@ -1,4 +1,4 @@
--- Document 01, "Worked examples": what the step machine makes of the table of levels and of the scene book.
+-- Document 01, "Worked examples": the step machine on the table of levels and on the scene book.
 use mathlib.Core.List.{List, [], _∷_}
 use mathlib.Core.Path.{_≡_, refl}
 use Prim.Native.Nat.{ℕ}
@@ -11,7 +11,7 @@ use Rattle.book.specs.Step.{setKind, raiseKind, lowerKind, stepTimeOk}
 use Rattle.book.specs.Machine.{wellFormed, machineLevel, machineSeconds, machineLamps, machineEffect, machineStep, machine}
 use Rattle.book.specs.Examples.{freshState, book}
 
--- one lamp with step 10: set 15, +6, -10, -9, -100, +0; the machine starts from the requested level, not the actual
+-- one lamp with step 10: set 15, +6, -10, -9, -100, +0; the machine starts from the requested level, not the actual one
 abbrev step : ℕ → ℕ → Step
 step kind value = record { kind = kind; target = 0; value = value; time = 0 }
 

@@ -1,4 +1,4 @@
--- What a step that is not bad keeps, that the step machine does it, and when a scene has no bad step.
+-- What holds of a good step, that the step machine executes it, and when a scene has no bad step.
 use mathlib.Core.Bool.{Bool, true, false, cond, _&&_}
 use mathlib.Core.List.{List, [], _∷_}
 use mathlib.Core.Logic.{_↔_}
@@ -13,58 +13,61 @@ use Rattle.memory.specs.Block.{sizeOf}
 use Rattle.memory.specs.declared.block.Memory.the-variants.{Eeprom, Ram}
 use Rattle.dpa.specs.Lists.{All}
 use Rattle.book.specs.declared.step.Step.{Step}
-use Rattle.book.specs.Step.{ramKind, eepromKind, isLamp, stepTimeOk, lampFault, byteFault, stepFault, goodStep, firstBadFrom}
+use Rattle.book.specs.Step.{ramKind, eepromKind, isLamp, maxLamps, maxLevel, noFault, kindFault, targetFault, valueFault, timeFault, stepTimeOk, lampFault, byteFault, stepFault, goodStep, firstBadFrom}
 use Rattle.book.specs.Machine.{lampFormed, byteFormed, wellFormed}
 
 abbrev pub Good : Step → Type 0
 Good s = goodStep s ≡ true
 
--- what each part keeps
+-- what holds of the parts of a good lamp step, and of a good step that writes a byte
 pub record LampGood (s : Step) : Type 0 where
-  pub target-max : s .target < 32
-  pub value-max : s .value ≤ 100
+  pub target-max : s .target < maxLamps
+  pub value-max : s .value ≤ maxLevel
   pub time-valid : stepTimeOk (s .time) ≡ true
 
 pub record ByteGood (size : ℕ) (s : Step) : Type 0 where
   pub target-max : s .target < size
   pub no-time : s .time ≡ 0
 
-lamp-parts : (s : Step) → lampFault s ≡ 0 → LampGood s
+lamp-parts : (s : Step) → lampFault s ≡ noFault → LampGood s
 unfolding lampFault
 lamp-parts s e =
-    let t = else-taken (leb 32 (s .target)) 2 _ 0 (λ z. omega arith) e in
-    let v = else-taken (ltb 100 (s .value)) 3 _ 0 (λ z. omega arith) (t .1) in
-    let m = then-taken (stepTimeOk (s .time)) 0 4 0 (λ z. omega arith) (v .1) in
-    record { target-max = leb-false 32 (s .target) (t .0); value-max = ltb-false 100 (s .value) (v .0); time-valid = m .0 }
+    let t = else-taken (leb maxLamps (s .target)) targetFault _ noFault (λ z. omega arith) e in
+    let v = else-taken (ltb maxLevel (s .value)) valueFault _ noFault (λ z. omega arith) (t .1) in
+    let m = then-taken (stepTimeOk (s .time)) noFault timeFault noFault (λ z. omega arith) (v .1) in
+    record { target-max = leb-false maxLamps (s .target) (t .0); value-max = ltb-false maxLevel (s .value) (v .0); time-valid = m .0 }
 
-byte-parts : (size : ℕ) (s : Step) → byteFault size s ≡ 0 → ByteGood size s
+byte-parts : (size : ℕ) (s : Step) → byteFault size s ≡ noFault → ByteGood size s
 unfolding byteFault
 byte-parts size s e =
-    let t = else-taken (leb size (s .target)) 2 _ 0 (λ z. omega arith) e in
-    let m = then-taken (eqb (s .time) 0) 0 4 0 (λ z. omega arith) (t .1) in
+    let t = else-taken (leb size (s .target)) targetFault _ noFault (λ z. omega arith) e in
+    let m = then-taken (eqb (s .time) 0) noFault timeFault noFault (λ z. omega arith) (t .1) in
     record { target-max = leb-false size (s .target) (t .0); no-time = eqb-true (s .time) 0 (m .0) }
 
--- a good step by its kind
+-- ---- a good step, by its kind
+
+-- a good lamp step
 pub lamp-good : (s : Step) → Good s → s .kind < ramKind → LampGood s
 unfolding stepFault
-lamp-good s g h = let f : stepFault s ≡ 0 = eqb-true _ _ g in lamp-parts s (rw (lt-ltb (s .kind) ramKind h) at f)
+lamp-good s g h = let f : stepFault s ≡ noFault = eqb-true _ _ g in lamp-parts s (rw (lt-ltb (s .kind) ramKind h) at f)
 
+-- a good step that writes RAM
 pub ram-good : (s : Step) → Good s → s .kind ≡ ramKind → ByteGood (sizeOf Ram) s
 unfolding stepFault
 ram-good s g h =
-    let f : stepFault s ≡ 0 = eqb-true _ _ g in
+    let f : stepFault s ≡ noFault = eqb-true _ _ g in
     byte-parts (sizeOf Ram) s (rw (le-ltb (s .kind) ramKind (omega arith), eq-eqb (s .kind) ramKind h) at f)
 
--- a good step of no lamp and not of RAM is one of EEPROM
+-- a good step with a kind above RAM writes EEPROM
 pub eeprom-good : (s : Step) → Good s → ramKind < s .kind → (s .kind ≡ eepromKind) × ByteGood (sizeOf Eeprom) s
 unfolding stepFault
 eeprom-good s g h =
-    let f : stepFault s ≡ 0 = eqb-true _ _ g in
+    let f : stepFault s ≡ noFault = eqb-true _ _ g in
     let e = rw (le-ltb (s .kind) ramKind (omega arith), ne-eqb (s .kind) ramKind (λ z. omega arith)) at f in
-    let k = then-taken (eqb (s .kind) eepromKind) (byteFault (sizeOf Eeprom) s) 1 0 (λ z. omega arith) e in
+    let k = then-taken (eqb (s .kind) eepromKind) (byteFault (sizeOf Eeprom) s) kindFault noFault (λ z. omega arith) e in
     (eqb-true (s .kind) eepromKind (k .0), byte-parts (sizeOf Eeprom) s (k .1))
 
--- ---- the step machine's rule
+-- ---- the step machine's rule agrees
 
 lamp-formed : (s : Step) → LampGood s → lampFormed s ≡ true
 lamp-formed s p = both (both (lt-ltb _ _ (p .target-max)) (le-leb _ _ (p .value-max))) (p .time-valid)
@@ -72,17 +75,17 @@ lamp-formed s p = both (both (lt-ltb _ _ (p .target-max)) (le-leb _ _ (p .value-
 byte-formed : (size : ℕ) (s : Step) → ByteGood size s → byteFormed size s ≡ true
 byte-formed size s p = both (lt-ltb _ _ (p .target-max)) (eq-eqb _ _ (p .no-time))
 
-formed-lamp : (s : Step) → lampFormed s ≡ true → lampFault s ≡ 0
+formed-lamp : (s : Step) → lampFormed s ≡ true → lampFault s ≡ noFault
 unfolding lampFault
 formed-lamp s e =
-    let f : (ltb (s .target) 32 && leb (s .value) 100) ≡ true = and-left _ _ e in
+    let f : (ltb (s .target) maxLamps && leb (s .value) maxLevel) ≡ true = and-left _ _ e in
     rw (
-      lt-leb 32 (s .target) (ltb-true _ _ (and-left _ _ f)),
-      le-ltb 100 (s .value) (leb-true _ _ (and-right (ltb (s .target) 32) _ f)),
-      and-right (ltb (s .target) 32 && leb (s .value) 100) _ e,
+      lt-leb maxLamps (s .target) (ltb-true _ _ (and-left _ _ f)),
+      le-ltb maxLevel (s .value) (leb-true _ _ (and-right (ltb (s .target) maxLamps) _ f)),
+      and-right (ltb (s .target) maxLamps && leb (s .value) maxLevel) _ e,
     )
 
-formed-byte : (size : ℕ) (s : Step) → byteFormed size s ≡ true → byteFault size s ≡ 0
+formed-byte : (size : ℕ) (s : Step) → byteFormed size s ≡ true → byteFault size s ≡ noFault
 unfolding byteFault
 formed-byte size s e = rw (lt-leb size (s .target) (ltb-true _ _ (and-left _ _ e)), and-right (ltb (s .target) size) _ e)
 
@@ -90,12 +93,12 @@ only-first : (b x : Bool) → cond b x false ≡ true → b ≡ true
 only-first true x e = refl
 only-first false x e = e
 
--- a well-formed step of no lamp and not of RAM is one of EEPROM
+-- a well-formed step that is not of a lamp or RAM writes EEPROM
 pub formed-eeprom : (s : Step) → wellFormed s ≡ true → isLamp (s .kind) ≡ false → eqb (s .kind) ramKind ≡ false → eqb (s .kind) eepromKind ≡ true
 unfolding wellFormed
 formed-eeprom s g l r = only-first (eqb (s .kind) eepromKind) (byteFormed (sizeOf Eeprom) s) (rw (l, r) at g)
 
--- exactly the steps that the compiler accepts are well-formed for the step machine
+-- the steps that the compiler accepts are exactly those that the step machine executes
 pub good-formed : (s : Step) → Good s ↔ (wellFormed s ≡ true)
 unfolding wellFormed stepFault
 good-formed s =
@@ -116,17 +119,19 @@ good-formed s =
     ))
     (λ e. (λ g. rw (l, r, e) (rw (l, r, e) at g), λ f. rw (l, r, e) (rw (l, r, e) at f)))))
 
-bad-told : {j : ℕ} → _≡_ {A = Option ℕ} (some j) none → ⊥
-bad-told e = let z : _≡_ {A = ℕ} 0 1 = cc in absurd (omega arith)
+-- ---- scenes without a bad step
 
-untold-good : (i : ℕ) (ss : List Step) → firstBadFrom i ss ≡ none → All Good ss
-untold-good i [] e = tt
-untold-good i (s ∷ ss) e = by-test (goodStep s) (λ g. (g, untold-good (suc i) ss (rw g at e))) (λ g. absurd (bad-told (rw g at e)))
+some-not-none : {j : ℕ} → _≡_ {A = Option ℕ} (some j) none → ⊥
+some-not-none e = let z : _≡_ {A = ℕ} 0 1 = cc in absurd (omega arith)
 
-good-untold : (i : ℕ) (ss : List Step) → All Good ss → firstBadFrom i ss ≡ none
-good-untold i [] a = refl
-good-untold i (s ∷ ss) a = rw (a .0) (good-untold (suc i) ss (a .1))
+no-bad-good : (i : ℕ) (ss : List Step) → firstBadFrom i ss ≡ none → All Good ss
+no-bad-good i [] e = tt
+no-bad-good i (s ∷ ss) e = by-test (goodStep s) (λ g. (g, no-bad-good (suc i) ss (rw g at e))) (λ g. absurd (some-not-none (rw g at e)))
 
--- no bad step is told exactly when each step is good
+good-no-bad : (i : ℕ) (ss : List Step) → All Good ss → firstBadFrom i ss ≡ none
+good-no-bad i [] a = refl
+good-no-bad i (s ∷ ss) a = rw (a .0) (good-no-bad (suc i) ss (a .1))
+
+-- no bad step is found exactly if each step is good
 pub no-bad : (ss : List Step) → (firstBadFrom 0 ss ≡ none) ↔ All Good ss
-no-bad ss = (untold-good 0 ss, good-untold 0 ss)
+no-bad ss = (no-bad-good 0 ss, good-no-bad 0 ss)

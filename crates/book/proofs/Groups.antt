@@ -1,8 +1,8 @@
--- Laws of grouping: nothing is lost or moved, what each joining keeps each group has, and how a group ends.
+-- Laws of grouping: nothing is lost or moved, what holds of each group, and how a group ends.
 use mathlib.Core.Bool.{Bool, true, false}
 use mathlib.Core.List.{List, [], _∷_, _++_, append-assoc}
 use mathlib.Core.Path.{_≡_, refl, ap, _∙_}
-use Prim.Native.Nat.{ℕ, zero, suc, _≤_, _<_}
+use Prim.Native.Nat.{ℕ, suc, _≤_, _<_}
 use native.Mathlib.Omega.{arith}
 use lib.ListN.{length, getD, take, drop}
 use lib.Seq.{take-suc, drop-cons}
@@ -11,22 +11,23 @@ use Rattle.dpa.specs.Lists.{All}
 use Rattle.book.specs.Group.{concat, grow, group}
 
 module _ {A : Type 0} where
+  -- the concatenation of two lists of groups
   pub concat-append : (xs ys : List (List A)) → concat (xs ++ ys) ≡ concat xs ++ concat ys
   concat-append [] ys = refl
   concat-append (x ∷ xs) ys = rw (concat-append xs ys, append-assoc x (concat xs) (concat ys))
 
 module _ {A : Type 0} (fits : List A → A → Bool) where
-  joined-grow : (cur xs : List A) → concat (grow fits cur xs) ≡ cur ++ xs
-  joined-grow cur [] = refl
-  joined-grow cur (x ∷ xs) =
+  concat-grow : (cur xs : List A) → concat (grow fits cur xs) ≡ cur ++ xs
+  concat-grow cur [] = refl
+  concat-grow cur (x ∷ xs) =
       by-cond (λ (g : List (List A)). concat g ≡ cur ++ (x ∷ xs)) (fits cur x) _ _
-      (λ _. joined-grow (cur ++ (x ∷ [])) xs ∙ append-assoc cur (x ∷ []) xs)
-      (λ _. ap (λ (l : List A). cur ++ l) (joined-grow (x ∷ []) xs))
+      (λ _. concat-grow (cur ++ (x ∷ [])) xs ∙ append-assoc cur (x ∷ []) xs)
+      (λ _. ap (λ (l : List A). cur ++ l) (concat-grow (x ∷ []) xs))
 
-  -- the groups in order are the list
+  -- the groups in order are the whole list
   pub concat-group : (xs : List A) → concat (group fits xs) ≡ xs
   concat-group [] = refl
-  concat-group (x ∷ xs) = joined-grow (x ∷ []) xs
+  concat-group (x ∷ xs) = concat-grow (x ∷ []) xs
 
   length-grow : (cur xs : List A) → length (grow fits cur xs) ≤ suc (length xs)
   length-grow cur [] = omega arith
@@ -48,26 +49,30 @@ module _ {A : Type 0} (fits : List A → A → Bool) where
         (λ e. all-grow (cur ++ (x ∷ [])) xs (more cur x p (qs .0) e) (qs .1))
         (λ _. (p, all-grow (x ∷ []) xs (one x (qs .0)) (qs .1)))
 
-    -- what an element may start with and each joining keeps, each group has
+    -- P holds of each group if it holds of one element and each added element keeps it
     pub all-group : (xs : List A) → All Q xs → All P (group fits xs)
     all-group [] qs = tt
     all-group (x ∷ xs) qs = all-grow (x ∷ []) xs (one x (qs .0)) (qs .1)
 
-  -- along a list: the first element begins a group, the next joins it or ends it
-  pub begin : (xs : List A) → 0 < length xs → group fits xs ≡ grow fits (take 1 xs) (drop 1 xs)
-  begin [] h = absurd (omega arith)
-  begin (x ∷ xs) h = refl
+  -- ---- a loop along a list: the current group is the first k elements
 
-  pub joined-on : (d : A) (xs : List A) (k : ℕ) → k < length xs → fits (take k xs) (getD xs k d) ≡ true
+  -- the first element starts a group
+  pub group-start : (xs : List A) → 0 < length xs → group fits xs ≡ grow fits (take 1 xs) (drop 1 xs)
+  group-start [] h = absurd (omega arith)
+  group-start (x ∷ xs) h = refl
+
+  -- an element that fits joins the current group
+  pub grow-fits : (cur : List A) (x : A) (xs : List A) → fits cur x ≡ true → grow fits cur (x ∷ xs) ≡ grow fits (cur ++ (x ∷ [])) xs
+  grow-fits cur x xs e = rw e
+
+  pub take-fits : (d : A) (xs : List A) (k : ℕ) → k < length xs → fits (take k xs) (getD xs k d) ≡ true
       → grow fits (take k xs) (drop k xs) ≡ grow fits (take (suc k) xs) (drop (suc k) xs)
-  joined-on d xs k h e = rw (drop-cons xs k d h, take-suc xs k d h, e)
+  take-fits d xs k h e = rw (drop-cons xs k d h, take-suc xs k d h, e)
 
-  pub left-off : (d : A) (xs : List A) (k : ℕ) → k < length xs → fits (take k xs) (getD xs k d) ≡ false
+  -- an element that does not fit starts the next group
+  pub grow-not-fits : (cur : List A) (x : A) (xs : List A) → fits cur x ≡ false → grow fits cur (x ∷ xs) ≡ cur ∷ group fits (x ∷ xs)
+  grow-not-fits cur x xs e = rw e
+
+  pub take-not-fits : (d : A) (xs : List A) (k : ℕ) → k < length xs → fits (take k xs) (getD xs k d) ≡ false
       → grow fits (take k xs) (drop k xs) ≡ take k xs ∷ group fits (drop k xs)
-  left-off d xs k h e = rw (drop-cons xs k d h, e)
-
-  pub grow-fits : (t : List A) (x : A) (ys : List A) → fits t x ≡ true → grow fits t (x ∷ ys) ≡ grow fits (t ++ (x ∷ [])) ys
-  grow-fits t x ys e = rw e
-
-  pub grow-not-fits : (t : List A) (x : A) (ys : List A) → fits t x ≡ false → grow fits t (x ∷ ys) ≡ t ∷ group fits (x ∷ ys)
-  grow-not-fits t x ys e = rw e
+  take-not-fits d xs k h e = rw (drop-cons xs k d h, e)

@@ -1,9 +1,10 @@
+pub mod Records
+pub mod Positions
 pub mod Groups
 pub mod Faults
 pub mod MachineLaws
-pub mod Sizes
+pub mod EntrySize
 pub mod EntryGroups
-pub mod Positions
 pub mod FirstEntry
 pub mod GoodSteps
 pub mod Books

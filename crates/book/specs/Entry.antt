@@ -1,4 +1,4 @@
--- Document 01, "Scenes": the entry of joined steps.
+-- Document 01, "Scenes": the batch entry of joined steps.
 use mathlib.Core.Bool.{cond}
 use mathlib.Core.List.{List, [], _∷_, _++_}
 use Prim.Native.Nat.{ℕ, _+_, _^_}
@@ -11,28 +11,34 @@ use Rattle.batch.specs.Batch.{Item, item}
 use Rattle.book.specs.declared.step.Step.{Step}
 use Rattle.book.specs.Step.{ramKind, isLamp}
 
--- lamp k's bit for each step
+-- the bitmap of lamp steps: the bit of each target
 abbrev pub bitmapOf : List Step → ℕ
 bitmapOf [] = 0
 bitmapOf (s ∷ ss) = 2 ^ (s .target) + bitmapOf ss
 
--- the four bytes of a bitmap
+-- a bitmap's four bytes, low byte first
 abbrev pub bitmapBytes : ℕ → List ℕ
 bitmapBytes m = low m ∷ low (high m) ∷ low (high (high m)) ∷ low (high (high (high m))) ∷ []
 
--- a lamp step's power byte, and its time byte if it has one
+-- the bytes of each step, one step after another
+abbrev pub bytesOf : (Step → List ℕ) → List Step → List ℕ
+bytesOf f [] = []
+bytesOf f (s ∷ ss) = f s ++ bytesOf f ss
+
+-- the power byte of a lamp step, and its time byte if it has one; bit 7 of the power byte marks a time
 unfoldable pub powerBytes : Step → List ℕ
 powerBytes s = cond (eqb (s .time) 0) (s .value ∷ []) ((s .value + 128) ∷ s .time ∷ [])
 
 abbrev pub powersBytes : List Step → List ℕ
-powersBytes [] = []
-powersBytes (s ∷ ss) = powerBytes s ++ powersBytes ss
+powersBytes ss = bytesOf powerBytes ss
+
+abbrev pub valueByte : Step → List ℕ
+valueByte s = s .value ∷ []
 
 abbrev pub values : List Step → List ℕ
-values [] = []
-values (s ∷ ss) = s .value ∷ values ss
+values ss = bytesOf valueByte ss
 
--- the PData of the joined steps s ∷ ss: bitmap and powers for lamps, address and values for a memory
+-- the PData of the joined steps s ∷ ss: bitmap and power bytes for lamps, address and values for a memory
 unfoldable pub entryData : Step → List Step → List ℕ
 entryData s ss =
     cond (isLamp (s .kind))
@@ -51,10 +57,10 @@ kindOf (s ∷ ss) = s .kind
 unfoldable pub pnumOf : ℕ → ℕ
 pnumOf k = cond (isLamp k) lightsPnum (cond (eqb k ramKind) (memoryPnum Ram) (memoryPnum Eeprom))
 
--- set, raise, lower, or a memory's write
+-- the lights command has the number of the step's kind; a memory's command is write
 unfoldable pub pcmdOf : ℕ → ℕ
 pcmdOf k = cond (isLamp k) k 0x01
 
--- the entry of joined steps for the profile h
+-- the entry of a group of joined steps, with HWPID h
 abbrev pub joinedItem : ℕ → List Step → Item
-joinedItem h run = item (pnumOf (kindOf run)) (pcmdOf (kindOf run)) h (groupData run)
+joinedItem h steps = item (pnumOf (kindOf steps)) (pcmdOf (kindOf steps)) h (groupData steps)

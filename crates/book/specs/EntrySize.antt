@@ -1,4 +1,4 @@
--- The size of an entry's PData, for any limit, and the first entry of a list of steps.
+-- The PData size of an entry, for any limit, and the first entry of a list of steps.
 use mathlib.Core.Bool.{cond, _&&_}
 use mathlib.Core.List.{List, _∷_}
 use mathlib.Core.Path.{_≡_}
@@ -18,26 +18,33 @@ powerSize s = cond (eqb (s .time) 0) 1 2
 unfoldable pub stepSize : ℕ → Step → ℕ
 stepSize k s = cond (isLamp k) (powerSize s) 1
 
+-- what the PData of an entry starts with: a bitmap, or a memory's address
+abbrev pub bitmapLength : ℕ
+bitmapLength = 4
+
+abbrev pub addressLength : ℕ
+addressLength = 1
+
 -- the PData size of an entry of one step, and the largest such size
 unfoldable pub firstSize : Step → ℕ
-firstSize s = stepSize (s .kind) s + cond (isLamp (s .kind)) 4 1
+firstSize s = stepSize (s .kind) s + cond (isLamp (s .kind)) bitmapLength addressLength
 
 abbrev pub oneStepMax : ℕ
 oneStepMax = 6
 
 -- the PData size of an entry of kind k and `size` bytes after x joins it, or 0 if x does not join; p is its last step
 unfoldable pub joinedSize : ℕ → Step → Step → ℕ → ℕ → ℕ
-joinedSize entryMost p x k size = cond (follows p x && leb (stepSize k x + size) entryMost) (stepSize k x + size) 0
+joinedSize limit p x k size = cond (follows p x && leb (stepSize k x + size) limit) (stepSize k x + size) 0
 
 -- a usable limit: any single step fits into an entry, and the entry's PData fits into a frame
-pub record EntryLimit (entryMost : ℕ) : Type 0 where
-  pub step : oneStepMax ≤ entryMost
-  pub frame : entryMost ≤ pdataMax
+pub record EntryLimit (limit : ℕ) : Type 0 where
+  pub step : oneStepMax ≤ limit
+  pub frame : limit ≤ pdataMax
 
 -- the first entry has k steps and `size` bytes of PData
-pub record FirstEntry (entryMost : ℕ) (ss : List Step) (k size : ℕ) : Type 0 where
+pub record FirstEntry (limit : ℕ) (ss : List Step) (k size : ℕ) : Type 0 where
   pub some : 1 ≤ k
   pub within : k ≤ length ss
-  pub small : size ≤ entryMost
+  pub small : size ≤ limit
   pub fits : size ≡ length (groupData (take k ss))
-  pub first : entriesOf entryMost ss ≡ take k ss ∷ entriesOf entryMost (drop k ss)
+  pub first : entriesOf limit ss ≡ take k ss ∷ entriesOf limit (drop k ss)

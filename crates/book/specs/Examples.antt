@@ -8,7 +8,7 @@ use Rattle.memory.specs.Block.{sizeOf}
 use Rattle.node.specs.Node.{fresh}
 use Rattle.handler.specs.Request.{State, state}
 
--- node 1 as it is started, with memories of zeros
+-- node 1 just started, with memories of zeros
 abbrev pub settings : ℕ → ℕ → Settings
 settings lamps step = record { address = 1; hwpid = 0x2471; «dpa_value» = 0; «lamp_count» = lamps; step = step }
 

@@ -1,4 +1,4 @@
--- Grouping a list from the left, and putting groups back together.
+-- Grouping a list from the left, and concatenating groups.
 use mathlib.Core.Bool.{Bool, cond}
 use mathlib.Core.List.{List, [], _∷_, _++_}
 
@@ -7,7 +7,7 @@ module _ {A : Type 0} where
   concat [] = []
   concat (x ∷ xs) = x ++ concat xs
 
-  -- each element goes to the end of the current group where it fits, and else starts a new one
+  -- an element that fits is added to the end of the current group, any other starts a new group
   abbrev pub grow : (List A → A → Bool) → List A → List A → List (List A)
   grow fits cur [] = cur ∷ []
   grow fits cur (x ∷ xs) = cond (fits cur x) (grow fits (cur ++ (x ∷ [])) xs) (cur ∷ grow fits (x ∷ []) xs)

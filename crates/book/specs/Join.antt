@@ -1,4 +1,4 @@
--- Document 01, "Scenes": steps joined into entries, for any limit of an entry.
+-- Document 01, "Scenes": steps joined into entries, for any limit of an entry's PData.
 use mathlib.Core.Bool.{Bool, false, cond, _&&_}
 use mathlib.Core.List.{List, [], _∷_, _++_}
 use Prim.Native.Nat.{ℕ, suc}
@@ -9,7 +9,7 @@ use Rattle.book.specs.Step.{isLamp}
 use Rattle.book.specs.Entry.{groupData}
 use Rattle.book.specs.Group.{group}
 
--- the longest PData of an entry
+-- the most PData bytes of an entry
 abbrev pub entryLimit : ℕ
 entryLimit = 50
 
@@ -23,11 +23,11 @@ follows p s =
     eqb (s .kind) (p .kind)
     && cond (isLamp (p .kind)) (ltb (p .target) (s .target)) (eqb (s .target) (suc (p .target)))
 
--- s joins the entry of the steps before it, whose PData stays at most `most`
+-- s joins the entry of the steps before it if the PData stays within the limit
 abbrev pub joins : ℕ → List Step → Step → Bool
-joins most [] s = false
-joins most (p ∷ ps) s = follows (lastOf p ps) s && leb (length (groupData ((p ∷ ps) ++ (s ∷ [])))) most
+joins limit [] s = false
+joins limit (p ∷ ps) s = follows (lastOf p ps) s && leb (length (groupData ((p ∷ ps) ++ (s ∷ [])))) limit
 
--- a scene's entries, each the steps that are joined in it
+-- the entries of a scene, each as the group of its steps
 abbrev pub entriesOf : ℕ → List Step → List (List Step)
-entriesOf entryMost ss = group (joins entryMost) ss
+entriesOf limit ss = group (joins limit) ss

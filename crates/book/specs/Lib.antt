@@ -1,3 +1,4 @@
+pub mod Records
 pub mod Book
 pub mod Step
 pub mod Machine

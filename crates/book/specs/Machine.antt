@@ -1,5 +1,5 @@
--- Document 01, "Scenes": the step machine, which does steps singly. It is written from its own paragraph; with the lights
--- request it shares the records and the replacing of their fields alone (`changed`, `off`, `withLamps`, `nodeIs`).
+-- Document 01, "Scenes": the step machine, which executes single steps. It is written from its own paragraph and shares with
+-- the lights request only the records and the replacing of their fields (`changed`, `off`, `withLamps`, `withNode`).
 use mathlib.Core.Bool.{Bool, false, cond, _&&_, _||_}
 use mathlib.Core.List.{List, [], _∷_}
 use Prim.Native.Nat.{ℕ, _+_, _-_, _*_, _%_, min}
@@ -12,15 +12,15 @@ use Rattle.lights.specs.declared.lamp.Lamp.{Lamp}
 use Rattle.node.specs.Node.{withLamps, withRam}
 use Rattle.handler.specs.Request.{State, withNode, withEeprom}
 use Rattle.book.specs.declared.step.Step.{Step}
-use Rattle.book.specs.Step.{setKind, raiseKind, ramKind, eepromKind, isLamp, stepTimeOk}
+use Rattle.book.specs.Step.{setKind, raiseKind, ramKind, eepromKind, isLamp, maxLamps, maxLevel, stepTimeOk}
 
--- ---- which steps are not bad. The machine has its own rule: it may do steps that the compiler refuses (`stepFault`).
+-- ---- which steps are not bad. The machine has its own rule, independent of the compiler's (`stepFault`).
 
--- a lamp step: target under 32, value at most 100, time 0 or a valid time byte
+-- a lamp step: target below 32, value at most 100, time 0 or a valid time byte
 abbrev pub lampFormed : Step → Bool
-lampFormed s = ltb (s .target) 32 && leb (s .value) 100 && stepTimeOk (s .time)
+lampFormed s = ltb (s .target) maxLamps && leb (s .value) maxLevel && stepTimeOk (s .time)
 
--- a step that writes a byte of a memory of this size: target in the memory, time 0
+-- a step that writes a byte of a memory of this size: target in the memory, no time
 abbrev pub byteFormed : ℕ → Step → Bool
 byteFormed size s = ltb (s .target) size && eqb (s .time) 0
 
@@ -32,37 +32,37 @@ wellFormed s =
     (cond (eqb (s .kind) eepromKind) (byteFormed (sizeOf Eeprom) s)
     false))
 
--- ---- what a step does
+-- ---- the effect of a step
 
--- the requested level: set the value, raise the value more but at most 100, lower the value less but at least 0
+-- the requested level: set takes the value, raise adds it up to 100, lower subtracts it down to 0
 unfoldable pub machineLevel : ℕ → ℕ → ℕ → ℕ
 machineLevel kind level value =
     cond (eqb kind setKind) value
-    (cond (eqb kind raiseKind) (min 100 (level + value))
+    (cond (eqb kind raiseKind) (min maxLevel (level + value))
     (level - value))
 
--- the seconds: 0 for time 0 or new level 0, else 60 times a time up to 7F hex, else its low seven bits
+-- the seconds: 0 if the time or the new level is 0; up to 7F hex the time is minutes, above it its low seven bits are seconds
 unfoldable pub machineSeconds : ℕ → ℕ → ℕ
 machineSeconds time level =
     cond (eqb time 0 || eqb level 0) 0
     (cond (ltb time 0x80) (60 * time)
     (time % 128))
 
--- the target lamp afterwards
+-- the target lamp after a step
 abbrev pub machineLamp : Step → Lamp → Lamp
 machineLamp s l =
     let v = machineLevel (s .kind) (l .level) (s .value) in
     changed l v (machineSeconds (s .time) v)
 
--- the lamps of a node with `count` lamps afterwards
+-- the lamps of a node with `count` lamps after a step; a target from the count up changes nothing
 unfoldable pub machineLamps : Step → ℕ → List Lamp → List Lamp
 machineLamps s count ls = cond (ltb (s .target) count) (set ls (s .target) (machineLamp s (getD ls (s .target) off))) ls
 
--- a memory afterwards
+-- a memory after a step
 abbrev pub machineByte : Step → List ℕ → List ℕ
 machineByte s bytes = set bytes (s .target) (s .value)
 
--- what a step that is not bad does
+-- the effect of a step that is not bad
 unfoldable pub machineEffect : Step → State → State
 machineEffect s st =
     let n = st .node in

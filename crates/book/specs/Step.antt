@@ -1,4 +1,4 @@
--- Document 01, "Scenes": the kinds of steps, which steps are bad, and by which part.
+-- Document 01, "Scenes": the kinds of steps, and which part of a step is bad.
 use mathlib.Core.Bool.{Bool, cond, not, _||_}
 use mathlib.Core.List.{List, [], _∷_}
 use mathlib.Core.Option.{Option, none, some}
@@ -8,7 +8,7 @@ use Rattle.memory.specs.Block.{sizeOf}
 use Rattle.memory.specs.declared.block.Memory.the-variants.{Eeprom, Ram}
 use Rattle.book.specs.declared.step.Step.{Step}
 
--- ---- the kinds: set, raise or lower a lamp; write a byte of RAM or of EEPROM
+-- ---- kinds: set, raise or lower a lamp; write a byte of RAM or of EEPROM
 abbrev pub setKind : ℕ
 setKind = 0
 
@@ -24,43 +24,64 @@ ramKind = 3
 abbrev pub eepromKind : ℕ
 eepromKind = 4
 
--- the kinds of lamp steps are the first three
+-- lamp steps have the first three kinds
 abbrev pub isLamp : ℕ → Bool
 isLamp k = ltb k ramKind
 
--- ---- faults
+-- ---- limits of a lamp step: its target is below `maxLamps`, its value at most `maxLevel`
+abbrev pub maxLamps : ℕ
+maxLamps = 32
 
--- a lamp step's time: 0 for none, else all but 80 hex
+abbrev pub maxLevel : ℕ
+maxLevel = 100
+
+-- ---- faults: the part of a step that is bad
+abbrev pub noFault : ℕ
+noFault = 0
+
+abbrev pub kindFault : ℕ
+kindFault = 1
+
+abbrev pub targetFault : ℕ
+targetFault = 2
+
+abbrev pub valueFault : ℕ
+valueFault = 3
+
+abbrev pub timeFault : ℕ
+timeFault = 4
+
+-- the time of a lamp step: 0 for none, otherwise any byte but 80 hex
 unfoldable pub stepTimeOk : ℕ → Bool
 stepTimeOk t = eqb t 0 || not (eqb (t % 128) 0)
 
--- the part of a lamp step that is bad: 2 target, 3 value, 4 time; 0 for none
+-- the fault of a lamp step
 unfoldable pub lampFault : Step → ℕ
 lampFault s =
-    cond (leb 32 (s .target)) 2
-    (cond (ltb 100 (s .value)) 3
-    (cond (stepTimeOk (s .time)) 0
-    4))
+    cond (leb maxLamps (s .target)) targetFault
+    (cond (ltb maxLevel (s .value)) valueFault
+    (cond (stepTimeOk (s .time)) noFault
+    timeFault))
 
--- the same of a step that writes a byte of a memory of this size; it has any value and no time
+-- the fault of a step that writes a byte of a memory of this size: any value, no time
 unfoldable pub byteFault : ℕ → Step → ℕ
 byteFault size s =
-    cond (leb size (s .target)) 2
-    (cond (eqb (s .time) 0) 0
-    4)
+    cond (leb size (s .target)) targetFault
+    (cond (eqb (s .time) 0) noFault
+    timeFault)
 
--- the same of any step; 1 is the kind
+-- the fault of any step
 unfoldable pub stepFault : Step → ℕ
 stepFault s =
     cond (isLamp (s .kind)) (lampFault s)
     (cond (eqb (s .kind) ramKind) (byteFault (sizeOf Ram) s)
     (cond (eqb (s .kind) eepromKind) (byteFault (sizeOf Eeprom) s)
-    1))
+    kindFault))
 
 abbrev pub goodStep : Step → Bool
-goodStep s = eqb (stepFault s) 0
+goodStep s = eqb (stepFault s) noFault
 
--- the number of the first bad step, counted from i
+-- the number of the first bad step; the first of these steps has number i
 abbrev pub firstBadFrom : ℕ → List Step → Option ℕ
 firstBadFrom i [] = none
 firstBadFrom i (s ∷ ss) = cond (goodStep s) (firstBadFrom (suc i) ss) (some i)

@@ -4,22 +4,29 @@ use mathlib.Core.List.{List, _∷_, []}
 use mathlib.Core.Path.{_≡_}
 use Prim.Native.Nat.{ℕ, _+_, _≤_, _<_}
 use Rattle.dpa.specs.Number.{low, high}
-use Rattle.book.specs.Step.{goodStep, isLamp}
+use Rattle.book.specs.Step.{maxLamps, maxLevel, goodStep, isLamp}
 use Rattle.book.specs.Entry.{pnumOf, pcmdOf}
 use Rattle.book.specs.Positions.{stepAt}
 
 -- each of the n steps is good
 abbrev pub AllStepsGood : List ℕ → ℕ → Type 0
-AllStepsGood s n = (i : ℕ) → i < n → goodStep (stepAt s i) ≡ true
+AllStepsGood body n = (i : ℕ) → i < n → goodStep (stepAt body i) ≡ true
 
--- each of the n steps has a value and a target that a lamp step may have
-abbrev pub Lamps : List ℕ → ℕ → Type 0
-Lamps s n = (i : ℕ) → i < n → (stepAt s i .value ≤ 100) × (stepAt s i .target < 32)
+-- the value and the target of each of the n steps are in range for a lamp step
+abbrev pub LampStepsInRange : List ℕ → ℕ → Type 0
+LampStepsInRange body n = (i : ℕ) → i < n → (stepAt body i .value ≤ maxLevel) × (stepAt body i .target < maxLamps)
 
--- the n steps can be written as one entry: if the first is a lamp step, all are in range for lamps
-abbrev pub Writable : List ℕ → ℕ → Type 0
-Writable s n = isLamp (stepAt s 0 .kind) ≡ true → Lamps s n
+-- 2 to the number of lamps: no lamp's bit is larger
+abbrev pub maxBitmap : ℕ
+maxBitmap = 4294967296
 
--- the five bytes before an entry's PData
-abbrev pub headBytes : ℕ → ℕ → ℕ → List ℕ
-headBytes kind h size = (5 + size) ∷ pnumOf kind ∷ pcmdOf kind ∷ low h ∷ high h ∷ []
+-- the n steps can be written as one entry: if the first is a lamp step, all are in range
+abbrev pub EntryWritable : List ℕ → ℕ → Type 0
+EntryWritable body n = isLamp (stepAt body 0 .kind) ≡ true → LampStepsInRange body n
+
+-- the bytes before an entry's PData
+abbrev pub headLength : ℕ
+headLength = 5
+
+abbrev pub entryHead : ℕ → ℕ → ℕ → List ℕ
+entryHead kind h size = (headLength + size) ∷ pnumOf kind ∷ pcmdOf kind ∷ low h ∷ high h ∷ []

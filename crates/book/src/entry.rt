@@ -1,4 +1,4 @@
-// The bytes of an entry of joined steps.
+// Writing the entry of joined steps.
 use crate::kind::WRITE_RAM;
 use crate::kind::is_lamp;
 use crate::power::bitmap_of;
@@ -6,6 +6,7 @@ use crate::power::write_bitmap;
 use crate::power::write_powers;
 use crate::step::STEP_LENGTH;
 use crate::step::step_at;
+use crate::write::write_bytes;
 use batch::entry::HEAD;
 use dpa::pnum;
 ghost use mathlib.Core.Path.{_≡_};
@@ -16,9 +17,12 @@ ghost use Rattle.dpa.specs.Frame.{pdataMax};
 ghost use Rattle.batch.specs.Batch.{entryBytes};
 ghost use Rattle.book.specs.Book.{stepsMax, stepLength, stepsIn};
 ghost use Rattle.book.specs.Entry.{values, groupData, pnumOf, pcmdOf, joinedItem};
-ghost use Rattle.book.specs.Writing.{Writable, headBytes};
+ghost use Rattle.book.specs.Writing.{headLength, EntryWritable, entryHead};
 
-// The values of `count` steps.
+// The write command of RAM and EEPROM.
+const WRITE: u8 = 0x01;
+
+// Writes the values of `count` steps; returns the position after them.
 fn write_values(body: &[u8], count: usize, out: &mut [u8], at: usize) -> usize
     requires { ⌜ (stepLength * count ≤ length (now body)) × (count ≤ stepsMax) × (at + count ≤ length (now out)) ⌝ }
     ensures { λ r. ⌜ (r ≡ at + count) × (now (out .exit) ≡ sets (now (out .entry)) at (values (stepsIn count (now (body .entry))))) ⌝ }
@@ -32,6 +36,7 @@ fn write_values(body: &[u8], count: usize, out: &mut [u8], at: usize) -> usize
     at + count
 }
 
+// The peripheral of a step kind.
 fn pnum_of(kind: u8) -> u8
     ensures { λ r. ⌜ r ≡ pnumOf kind ⌝ }
 {
@@ -45,29 +50,32 @@ fn pnum_of(kind: u8) -> u8
     }
 }
 
+// The command of a step kind: the lights commands have the kinds' numbers.
 fn pcmd_of(kind: u8) -> u8
     ensures { λ r. ⌜ r ≡ pcmdOf kind ⌝ }
 {
-    if is_lamp(kind) { kind } else { 1 }
+    if is_lamp(kind) { kind } else { WRITE }
 }
 
-// An entry's five bytes in front of its PData.
+// Writes the bytes of an entry before its PData; returns the position after them.
 fn write_head(kind: u8, hwpid: u16, size: usize, out: &mut [u8], at: usize) -> usize
-    requires { ⌜ (at + 5 ≤ length (now out)) × (size ≤ pdataMax) ⌝ }
-    ensures { λ r. ⌜ (r ≡ at + 5) × (now (out .exit) ≡ sets (now (out .entry)) at (headBytes kind hwpid size)) ⌝ }
+    requires { ⌜ (at + headLength ≤ length (now out)) × (size ≤ pdataMax) ⌝ }
+    ensures { λ r. ⌜ (r ≡ at + headLength) × (now (out .exit) ≡ sets (now (out .entry)) at (entryHead kind hwpid size)) ⌝ }
 {
-    out[at] = (HEAD + size) as u8;
-    out[at + 1] = pnum_of(kind);
-    out[at + 2] = pcmd_of(kind);
-    out[at + 3] = (hwpid % 256) as u8;
-    out[at + 4] = (hwpid / 256) as u8;
-    at + HEAD
+    let head = [
+        (HEAD + size) as u8,
+        pnum_of(kind),
+        pcmd_of(kind),
+        (hwpid % 256) as u8,
+        (hwpid / 256) as u8,
+    ];
+    write_bytes(&head, out, at)
 }
 
-// The PData of an entry of `count` joined steps.
+// Writes the PData of an entry of `count` joined steps; returns the position after it.
 fn write_pdata(body: &[u8], count: usize, out: &mut [u8], at: usize) -> usize
     requires { ⌜ (stepLength * count ≤ length (now body)) × (0 < count) × (count ≤ stepsMax) × (at + length (groupData (stepsIn count (now body))) ≤ length (now out))
-        × Writable (now body) count ⌝ }
+        × EntryWritable (now body) count ⌝ }
     ensures { λ r. ⌜ (r ≡ at + length (groupData (stepsIn count (now (body .entry)))))
         × (now (out .exit) ≡ sets (now (out .entry)) at (groupData (stepsIn count (now (body .entry))))) ⌝ }
 {
@@ -82,7 +90,7 @@ fn write_pdata(body: &[u8], count: usize, out: &mut [u8], at: usize) -> usize
     write_values(body, count, out, at + 1)
 }
 
-// An entry of `count` joined steps, whose PData has `size` bytes.
+// Writes an entry of `count` joined steps with `size` bytes of PData; returns the position after it.
 fn write_entry(
     body: &[u8],
     count: usize,
@@ -92,8 +100,8 @@ fn write_entry(
     at: usize,
 ) -> usize
     requires { ⌜ (stepLength * count ≤ length (now body)) × (0 < count) × (count ≤ stepsMax) × (size ≤ pdataMax)
-        × (size ≡ length (groupData (stepsIn count (now body)))) × (at + 5 + size ≤ length (now out)) × Writable (now body) count ⌝ }
-    ensures { λ r. ⌜ (r ≡ at + 5 + size)
+        × (size ≡ length (groupData (stepsIn count (now body)))) × (at + headLength + size ≤ length (now out)) × EntryWritable (now body) count ⌝ }
+    ensures { λ r. ⌜ (r ≡ at + headLength + size)
         × (now (out .exit) ≡ sets (now (out .entry)) at (entryBytes (joinedItem hwpid (stepsIn count (now (body .entry)))))) ⌝ }
 {
     let step = step_at(body, 0);
@@ -101,22 +109,22 @@ fn write_entry(
     write_pdata(body, count, out, end)
 }
 
-// The entry of the `taken` steps from step `done` on.
+// The same for the `steps` steps from step `done` on.
 pub fn write_entry_at(
     body: &[u8],
     done: usize,
-    taken: usize,
+    steps: usize,
     hwpid: u16,
     size: usize,
     out: &mut [u8],
     at: usize,
 ) -> usize
-    requires { ⌜ (stepLength * (done + taken) ≤ length (now body)) × (0 < taken) × (done + taken ≤ stepsMax) × (size ≤ pdataMax)
-        × (size ≡ length (groupData (stepsIn taken (drop (stepLength * done) (now body))))) × (at + 5 + size ≤ length (now out))
-        × Writable (drop (stepLength * done) (now body)) taken ⌝ }
-    ensures { λ r. ⌜ (r ≡ at + 5 + size)
-        × (now (out .exit) ≡ sets (now (out .entry)) at (entryBytes (joinedItem hwpid (stepsIn taken (drop (stepLength * done) (now (body .entry))))))) ⌝ }
+    requires { ⌜ (stepLength * (done + steps) ≤ length (now body)) × (0 < steps) × (done + steps ≤ stepsMax) × (size ≤ pdataMax)
+        × (size ≡ length (groupData (stepsIn steps (drop (stepLength * done) (now body))))) × (at + headLength + size ≤ length (now out))
+        × EntryWritable (drop (stepLength * done) (now body)) steps ⌝ }
+    ensures { λ r. ⌜ (r ≡ at + headLength + size)
+        × (now (out .exit) ≡ sets (now (out .entry)) at (entryBytes (joinedItem hwpid (stepsIn steps (drop (stepLength * done) (now (body .entry))))))) ⌝ }
 {
-    let from = STEP_LENGTH * done;
-    write_entry(&body[from..], taken, hwpid, size, out, at)
+    let start = STEP_LENGTH * done;
+    write_entry(&body[start..], steps, hwpid, size, out, at)
 }

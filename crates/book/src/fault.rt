@@ -1,4 +1,4 @@
-// Which part of a step is bad.
+// Faults: the part of a step that is bad.
 pub const NONE: u8 = 0;
 
 pub const KIND: u8 = 1;

@@ -1,5 +1,6 @@
-// Steps joined into entries.
+// Joining steps into entries.
 use crate::kind::is_lamp;
+use crate::power::BITMAP_LENGTH;
 use crate::step::STEP_LENGTH;
 use crate::step::Step;
 use crate::step::step_at;
@@ -9,10 +10,13 @@ ghost use Prim.Native.Nat.{_+_, _*_, _-_, _≤_, _<_};
 ghost use lib.ListN.{length, drop};
 ghost use Rattle.book.specs.Book.{stepsMax, stepLength, stepsIn};
 ghost use Rattle.book.specs.Join.{follows};
-ghost use Rattle.book.specs.EntrySize.{EntryLimit, stepSize, firstSize, joinedSize, FirstEntry};
+ghost use Rattle.book.specs.EntrySize.{oneStepMax, EntryLimit, stepSize, firstSize, joinedSize, FirstEntry};
 ghost use Rattle.book.specs.Positions.{stepAt};
 
-// Whether a step may join an entry whose last step is `before`.
+// The bytes of a memory's address before the values.
+const ADDRESS_LENGTH: usize = 1;
+
+// Whether a step may follow `before`, the last step of an entry.
 fn may_follow(before: Step, step: Step) -> bool
     ensures { λ r. ⌜ r ≡ follows before step ⌝ }
 {
@@ -27,7 +31,7 @@ fn may_follow(before: Step, step: Step) -> bool
     }
 }
 
-// The bytes that a step takes in an entry of a kind.
+// The PData bytes of a step in an entry of a kind.
 fn step_size(kind: u8, step: Step) -> usize
     ensures { λ r. ⌜ (r ≡ stepSize kind step) × (r ≤ 2) ⌝ }
 {
@@ -38,63 +42,64 @@ fn step_size(kind: u8, step: Step) -> usize
     }
 }
 
-// The length of the PData of an entry of one step.
+// The PData size of an entry of one step.
 fn first_size(step: Step) -> usize
-    ensures { λ r. ⌜ (r ≡ firstSize step) × (r ≤ 6) ⌝ }
+    ensures { λ r. ⌜ (r ≡ firstSize step) × (r ≤ oneStepMax) ⌝ }
 {
     let kind = step.kind;
     if is_lamp(kind) {
-        step_size(kind, step) + 4
+        step_size(kind, step) + BITMAP_LENGTH
     } else {
-        step_size(kind, step) + 1
+        step_size(kind, step) + ADDRESS_LENGTH
     }
 }
 
-// The length of an entry's PData of `size` bytes with the step after its `taken` steps added, or 0 where that step does not join it.
-fn joined_size(body: &[u8], taken: usize, kind: u8, size: usize, most: usize) -> usize
-    requires { ⌜ (0 < taken) × (stepLength * taken + stepLength ≤ length (now body)) × (size ≤ most) × (taken ≤ stepsMax) × EntryLimit most ⌝ }
-    ensures { λ r. ⌜ r ≡ joinedSize most (stepAt (now (body .entry)) (taken - 1)) (stepAt (now (body .entry)) taken) kind size ⌝ }
+// The PData size of an entry after the next step joins it, or 0 if that step does not join. The entry has `steps` steps and
+// `size` bytes.
+fn joined_size(body: &[u8], steps: usize, kind: u8, size: usize, limit: usize) -> usize
+    requires { ⌜ (0 < steps) × (stepLength * steps + stepLength ≤ length (now body)) × (size ≤ limit) × (steps ≤ stepsMax) × EntryLimit limit ⌝ }
+    ensures { λ r. ⌜ r ≡ joinedSize limit (stepAt (now (body .entry)) (steps - 1)) (stepAt (now (body .entry)) steps) kind size ⌝ }
 {
-    let before = step_at(body, taken - 1);
-    let step = step_at(body, taken);
-    let more = step_size(kind, step) + size;
-    if most < more {
+    let before = step_at(body, steps - 1);
+    let step = step_at(body, steps);
+    let joined = step_size(kind, step) + size;
+    if limit < joined {
         return 0;
     }
-    if may_follow(before, step) { more } else { 0 }
+    if may_follow(before, step) { joined } else { 0 }
 }
 
-// An entry: its steps, and the length of its PData.
+// The number of steps of an entry, and its PData size.
 pub struct EntrySpan {
     pub steps: usize,
     pub size: usize,
 }
 
-// The first entry of a scene, with at most `most` bytes of PData.
-pub fn first_entry(body: &[u8], count: usize, most: usize) -> EntrySpan
-    requires { ⌜ (stepLength * count ≤ length (now body)) × (0 < count) × (count ≤ stepsMax) × EntryLimit most ⌝ }
-    ensures { λ r. ⌜ FirstEntry most (stepsIn count (now (body .entry))) (r .steps) (r .size) ⌝ }
+// The first entry of a scene, with at most `limit` bytes of PData.
+pub fn first_entry(body: &[u8], count: usize, limit: usize) -> EntrySpan
+    requires { ⌜ (stepLength * count ≤ length (now body)) × (0 < count) × (count ≤ stepsMax) × EntryLimit limit ⌝ }
+    ensures { λ r. ⌜ FirstEntry limit (stepsIn count (now (body .entry))) (r .steps) (r .size) ⌝ }
 {
     let first = step_at(body, 0);
     let kind = first.kind;
     let mut size = first_size(first);
-    let mut taken: usize = 1;
-    while taken < count {
-        let more = joined_size(body, taken, kind, size, most);
-        if more == 0 {
-            return EntrySpan { steps: taken, size };
+    let mut steps: usize = 1;
+    while steps < count {
+        let joined = joined_size(body, steps, kind, size, limit);
+        if joined == 0 {
+            return EntrySpan { steps, size };
         }
-        size = more;
-        taken = taken + 1;
+        size = joined;
+        steps = steps + 1;
     }
-    EntrySpan { steps: taken, size }
+    EntrySpan { steps, size }
 }
 
-// The entry that begins at step `done`.
-pub fn entry_from(body: &[u8], count: usize, done: usize, most: usize) -> EntrySpan
-    requires { ⌜ (stepLength * count ≤ length (now body)) × (done < count) × (count ≤ stepsMax) × EntryLimit most ⌝ }
-    ensures { λ r. ⌜ FirstEntry most (drop done (stepsIn count (now (body .entry)))) (r .steps) (r .size) ⌝ }
+// The entry that starts at step `done`.
+pub fn entry_from(body: &[u8], count: usize, done: usize, limit: usize) -> EntrySpan
+    requires { ⌜ (stepLength * count ≤ length (now body)) × (done < count) × (count ≤ stepsMax) × EntryLimit limit ⌝ }
+    ensures { λ r. ⌜ FirstEntry limit (drop done (stepsIn count (now (body .entry)))) (r .steps) (r .size) ⌝ }
 {
-    let from = STEP_LENGTH * done;
-    first_entry(&body[from..], count - done, most)
+    let start = STEP_LENGTH * done;
+    first_entry(&body[start..], count - done, limit)
 }

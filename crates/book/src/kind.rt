@@ -1,4 +1,4 @@
-// The kinds of steps.
+// Step kinds.
 ghost use mathlib.Core.Path.{_≡_};
 ghost use Rattle.book.specs.Step.{isLamp};
 
@@ -12,7 +12,7 @@ pub const WRITE_RAM: u8 = 3;
 
 pub const WRITE_EEPROM: u8 = 4;
 
-// Whether it sets, raises or lowers a lamp.
+// Whether a step of this kind sets, raises or lowers a lamp.
 pub fn is_lamp(kind: u8) -> bool
     ensures { λ r. ⌜ r ≡ isLamp kind ⌝ }
 {

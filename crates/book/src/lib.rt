@@ -1,4 +1,4 @@
-// Scene books: contents, steps and their faults, and the entries of joined steps.
+// Scene books: scene locations, steps and their faults, and the entries of joined steps.
 pub mod entry;
 pub mod fault;
 pub mod join;
@@ -6,3 +6,4 @@ pub mod kind;
 pub mod locations;
 pub mod power;
 pub mod step;
+pub mod write;

@@ -1,32 +1,40 @@
-// The PData of a lamp entry: bitmap, then power and time bytes.
+// Writing the PData of a lamp entry: bitmap, then power and time bytes.
 use crate::step::Step;
 use crate::step::step_at;
+use crate::write::write_bytes;
 ghost use mathlib.Core.Path.{_≡_};
 ghost use Prim.Native.Nat.{_+_, _*_, _^_, _≤_, _<_};
 ghost use lib.ListN.{length};
 ghost use lib.Seq.{sets};
 ghost use Rattle.book.specs.Book.{stepsMax, stepLength, stepsIn};
+ghost use Rattle.book.specs.Step.{maxLamps, maxLevel};
+ghost use Rattle.book.specs.EntrySize.{bitmapLength};
 ghost use Rattle.book.specs.Entry.{powerBytes, powersBytes, bitmapOf, bitmapBytes};
-ghost use Rattle.book.specs.Writing.{Lamps};
+ghost use Rattle.book.specs.Writing.{LampStepsInRange, maxBitmap};
 
-// Writes a step's power byte, and its time byte if it has one; returns the place after them.
+// The bytes of a bitmap.
+pub const BITMAP_LENGTH: usize = 4;
+
+// Bit 7 of a power byte: a time byte follows.
+const TIME_BIT: u8 = 128;
+
+// Writes the power byte of a step, and its time byte if it has one; returns the position after them.
 fn write_power(step: Step, out: &mut [u8], at: usize) -> usize
-    requires { ⌜ (step .value ≤ 100) × (at + length (powerBytes step) ≤ length (now out)) ⌝ }
+    requires { ⌜ (step .value ≤ maxLevel) × (at + length (powerBytes step) ≤ length (now out)) ⌝ }
     ensures { λ r. ⌜ (r ≡ at + length (powerBytes step)) × (now (out .exit) ≡ sets (now (out .entry)) at (powerBytes step)) ⌝ }
 {
     if step.time == 0 {
-        out[at] = step.value;
-        return at + 1;
+        let power = [step.value];
+        return write_bytes(&power, out, at);
     }
-    out[at] = step.value + 128;
-    out[at + 1] = step.time;
-    at + 2
+    let timed = [step.value + TIME_BIT, step.time];
+    write_bytes(&timed, out, at)
 }
 
-// The power bytes of `count` steps.
+// Writes the power and time bytes of `count` steps; returns the position after them.
 pub fn write_powers(body: &[u8], count: usize, out: &mut [u8], at: usize) -> usize
     requires { ⌜ (stepLength * count ≤ length (now body)) × (count ≤ stepsMax) × (at + length (powersBytes (stepsIn count (now body))) ≤ length (now out))
-        × Lamps (now body) count ⌝ }
+        × LampStepsInRange (now body) count ⌝ }
     ensures { λ r. ⌜ (r ≡ at + length (powersBytes (stepsIn count (now (body .entry)))))
         × (now (out .exit) ≡ sets (now (out .entry)) at (powersBytes (stepsIn count (now (body .entry))))) ⌝ }
 {
@@ -40,16 +48,17 @@ pub fn write_powers(body: &[u8], count: usize, out: &mut [u8], at: usize) -> usi
     end
 }
 
+// The bitmap of one lamp.
 fn power_of_two(exponent: u8) -> u64
-    requires { ⌜ exponent < 32 ⌝ }
-    ensures { λ r. ⌜ (r ≡ 2 ^ exponent) × (r ≤ 4294967296) ⌝ }
+    requires { ⌜ exponent < maxLamps ⌝ }
+    ensures { λ r. ⌜ (r ≡ 2 ^ exponent) × (r ≤ maxBitmap) ⌝ }
 {
     1u64 << exponent
 }
 
 // The bitmap of `count` lamp steps.
 pub fn bitmap_of(body: &[u8], count: usize) -> u64
-    requires { ⌜ (stepLength * count ≤ length (now body)) × (count ≤ stepsMax) × Lamps (now body) count ⌝ }
+    requires { ⌜ (stepLength * count ≤ length (now body)) × (count ≤ stepsMax) × LampStepsInRange (now body) count ⌝ }
     ensures { λ r. ⌜ r ≡ bitmapOf (stepsIn count (now (body .entry))) ⌝ }
 {
     let mut bitmap: u64 = 0;
@@ -62,14 +71,16 @@ pub fn bitmap_of(body: &[u8], count: usize) -> u64
     bitmap
 }
 
-// The four bytes of a bitmap.
+// Writes the bytes of a bitmap; returns the position after them.
 pub fn write_bitmap(bitmap: u64, out: &mut [u8], at: usize) -> usize
-    requires { ⌜ at + 4 ≤ length (now out) ⌝ }
-    ensures { λ r. ⌜ (r ≡ at + 4) × (now (out .exit) ≡ sets (now (out .entry)) at (bitmapBytes bitmap)) ⌝ }
+    requires { ⌜ at + bitmapLength ≤ length (now out) ⌝ }
+    ensures { λ r. ⌜ (r ≡ at + bitmapLength) × (now (out .exit) ≡ sets (now (out .entry)) at (bitmapBytes bitmap)) ⌝ }
 {
-    out[at] = (bitmap % 256) as u8;
-    out[at + 1] = (bitmap / 256 % 256) as u8;
-    out[at + 2] = (bitmap / 256 / 256 % 256) as u8;
-    out[at + 3] = (bitmap / 256 / 256 / 256 % 256) as u8;
-    at + 4
+    let bytes = [
+        (bitmap % 256) as u8,
+        (bitmap / 256 % 256) as u8,
+        (bitmap / 256 / 256 % 256) as u8,
+        (bitmap / 256 / 256 / 256 % 256) as u8,
+    ];
+    write_bytes(&bytes, out, at)
 }

@@ -1,9 +1,11 @@
-// One step of a scene, and what is bad about it.
+// The steps of a scene, and their faults.
 use crate::fault;
 use crate::kind::WRITE_EEPROM;
 use crate::kind::WRITE_RAM;
 use crate::kind::is_lamp;
 use dpa::number::wide;
+use dpa::settings::MAX_LAMPS;
+use lights::lamp::MAX_LEVEL;
 use memory::block::Memory;
 use memory::block::size_of;
 ghost use mathlib.Core.Path.{_≡_};
@@ -17,12 +19,13 @@ ghost use Rattle.book.specs.Book.{stepsMax, stepLength, stepsIn};
 ghost use Rattle.book.specs.Step.{lampFault, byteFault, stepFault, firstBadFrom};
 ghost use Rattle.book.specs.Positions.{stepAt};
 
-// The steps that a scene has at most.
+// The most steps of a scene.
 pub const STEPS_MAX: usize = 64;
 
 // The bytes of a step.
 pub const STEP_LENGTH: usize = 4;
 
+// The target is a lamp or an address; the time is a time byte of the lights peripheral, or 0.
 #[repr(C)]
 pub struct Step {
     pub kind: u8,
@@ -30,6 +33,9 @@ pub struct Step {
     pub value: u8,
     pub time: u8,
 }
+
+// Bit 7 of a time byte: its low seven bits are seconds, not minutes.
+const SECONDS_BIT: u8 = 128;
 
 // Step i of a scene's body.
 pub fn step_at(body: &[u8], i: usize) -> Step
@@ -44,24 +50,26 @@ pub fn step_at(body: &[u8], i: usize) -> Step
     }
 }
 
+// The fault of a lamp step.
 fn lamp_fault(step: Step) -> u8
     ensures { λ r. ⌜ r ≡ lampFault step ⌝ }
 {
-    if 32 <= step.target {
+    if MAX_LAMPS <= step.target {
         return fault::TARGET;
     }
-    if 100 < step.value {
+    if MAX_LEVEL < step.value {
         return fault::VALUE;
     }
     if step.time == 0 {
         return fault::NONE;
     }
-    if step.time % 128 == 0 {
+    if step.time % SECONDS_BIT == 0 {
         return fault::TIME;
     }
     fault::NONE
 }
 
+// The fault of a step that writes a byte of a memory.
 fn byte_fault(memory: Memory, step: Step) -> u8
     ensures { λ r. ⌜ r ≡ byteFault (sizeOf memory) step ⌝ }
 {
@@ -74,7 +82,7 @@ fn byte_fault(memory: Memory, step: Step) -> u8
     fault::TIME
 }
 
-// The first part of a step that is bad.
+// The first part of a step that is bad, or `fault::NONE`.
 pub fn step_fault(step: Step) -> u8
     ensures { λ r. ⌜ r ≡ stepFault step ⌝ }
 {
@@ -90,7 +98,7 @@ pub fn step_fault(step: Step) -> u8
     fault::KIND
 }
 
-// The number of the first bad step, or `count`.
+// The number of the first bad step, or `count` if all steps are good.
 pub fn first_bad_step(body: &[u8], count: usize) -> usize
     requires { ⌜ (stepLength * count ≤ length (now body)) × (count ≤ stepsMax) ⌝ }
     ensures { λ r. ⌜ (r ≤ count) × (firstBadFrom 0 (stepsIn count (now (body .entry))) ≡ cond (ltb r count) (some r) none) ⌝ }
@@ -98,11 +106,10 @@ pub fn first_bad_step(body: &[u8], count: usize) -> usize
     let mut i: usize = 0;
     while i < count {
         let step = step_at(body, i);
-        let next = i + 1;
         if step_fault(step) != fault::NONE {
             return i;
         }
-        i = next;
+        i = i + 1;
     }
     count
 }

@@ -1,3 +1,4 @@
+-- Each return decides the test of `pcmdOf`.
 use mathlib.Core.Path.{sym, _∙_}
 use borrow.Author.Needs.{needs}
 use Rattle.book.specs.Entry.{pcmdOf}

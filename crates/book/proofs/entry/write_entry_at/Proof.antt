@@ -1,3 +1,4 @@
+-- The bytes from step `done` on hold the entry's steps.
 use Prim.Native.Nat.{_*_}
 use native.Mathlib.Omega.{arith}
 use lib.ListN.{length-drop}
@@ -15,8 +16,9 @@ write-entry-requires c κs =
 
 returns : tie.Need-returns
 returns c =
-    let s = c .before .before .before .before .before .before .before in
-    rw (slice-to-end (stepLength * s .args .done) (s .args .body .now)) at (c .before .before .write-entry .ensures)
+    let w = c .before .before in
+    let s = w .before .before .before .before .before in
+    rw (slice-to-end (stepLength * s .args .done) (s .args .body .now)) at (w .write-entry .ensures)
 
 pub write-entry-at-spec : {M : Type 1} → statement M
 write-entry-at-spec =

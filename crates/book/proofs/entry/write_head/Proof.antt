@@ -1,18 +1,15 @@
-use mathlib.Core.Path.{refl}
-use native.Mathlib.Numerals.{towards-suc}
-use native.Mathlib.Omega.{arith}
-use lib.ListN.{length-set}
+-- The head's bytes are written whole.
 use borrow.Author.Needs.{needs}
 use Rattle.book.proofs.entry.write_head.Statement.{statement}
 use Rattle.book.proofs.entry.write_head.Tie as tie
 
 returns : tie.Need-returns
-returns c = (refl, simp (towards-suc, c .before .pnum-of .ensures, c .pcmd-of .ensures))
+returns c =
+    let w = c .before .before .write-bytes .ensures in
+    let pcmd = c .before .before .before .before .before in
+    rw (← (pcmd .pcmd-of .ensures), ← (pcmd .before .pnum-of .ensures)) w
 
 pub write-head-spec : {M : Type 1} → statement M
 write-head-spec =
-    tie.close (tie.spec (λ c. search needs) (λ c. search needs) (λ c. search needs) (λ c κs. search needs)
-    (λ c. search needs) (λ c. simp length-set (omega arith)) (λ c κs. search needs) (λ c. search needs)
-    (λ c. simp length-set (omega arith)) (λ c. search needs) (λ c. search needs) (λ c. simp length-set (omega arith))
-    (λ c. search needs) (λ c. search needs) (λ c. simp length-set (omega arith)) (λ c. search needs) (λ c. search needs)
-    returns)
+    tie.close (tie.spec (λ c. search needs) (λ c. search needs) (λ c κs. search needs) (λ c κs. search needs)
+    (λ c. search needs) (λ c. search needs) (λ c. search needs) (λ c κs. search needs) (λ c. search needs) returns)

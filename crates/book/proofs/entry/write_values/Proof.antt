@@ -1,27 +1,31 @@
+-- The loop: the values of the first i steps are written, one byte each.
 use mathlib.Core.Path.{refl}
-use Prim.Native.Nat.{_-_}
+use Prim.Native.Nat.{_+_, _-_}
 use native.Mathlib.Omega.{arith}
-use Rattle.book.proofs.Writing.{Valued, value-more, value-end}
+use Rattle.book.specs.Entry.{valueByte}
+use Rattle.book.proofs.Writing.{Written, written-next, written-all}
 use Rattle.book.proofs.entry.write_values.Statement.{statement}
 use Rattle.book.proofs.entry.write_values.Tie as tie
 
 abbrev Inv-loop : tie.InvT-loop
-Inv-loop body count out₀ at i₀ out i = Valued count body out₀ at i out
+Inv-loop body count out₀ at i₀ out i = Written valueByte count body out₀ at i (at + i) out
 
 abbrev μ-loop : tie.MeasureT-loop
 μ-loop body count out₀ at i₀ out i = count - i
 
 loop-holds : tie.Need-loop-holds Inv-loop μ-loop
-loop-holds c = (omega arith, refl, refl)
+loop-holds c = (omega arith, omega arith, refl, refl)
 
 loop-again : tie.Need-loop-again Inv-loop μ-loop
-loop-again c = value-more _ _ _ _ _ _ (c .step-at .result) (c .before .before .loop .inv) (c .before .loop-test .taken) (c .step-at .ensures)
+loop-again c =
+    let l = c .before .before .loop in
+    written-next valueByte _ _ (l .i) (c .before .loop-test .taken) _ _ _ _ (c .step-at .result) _ _ (l .inv) (c .step-at .ensures) (omega arith) refl
 
 same-length : tie.Need-same-length Inv-loop μ-loop
-same-length c = c .before .loop .inv .2
+same-length c = c .before .loop .inv .3
 
 returns : tie.Need-returns Inv-loop μ-loop
-returns c = (refl, value-end _ _ _ _ _ _ (c .before .loop .inv) (c .loop-test .left))
+returns c = (refl, written-all valueByte _ _ _ _ _ _ _ (c .before .loop .inv) (c .loop-test .left) .1)
 
 pub write-values-spec : {M : Type 1} → statement M
 write-values-spec =

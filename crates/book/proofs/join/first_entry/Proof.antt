@@ -1,39 +1,40 @@
+-- The loop: the first `steps` steps are in one entry, of `size` bytes so far.
 use mathlib.Core.Path.{ap, _∙_}
 use Prim.Native.Nat.{_-_}
 use native.Mathlib.Omega.{arith}
 use borrow.Author.Needs.{needs}
 use Rattle.book.specs.declared.step.Step.{Step}
 use Rattle.book.specs.EntrySize.{firstSize}
-use Rattle.book.proofs.FirstEntry.{At, run-start, run-stop, run-more, run-end}
+use Rattle.book.proofs.FirstEntry.{FirstSteps, first-steps-start, first-steps-stop, first-steps-next, first-steps-end}
 use Rattle.book.proofs.join.first_entry.Statement.{statement}
 use Rattle.book.proofs.join.first_entry.Tie as tie
 
 abbrev Inv-loop : tie.InvT-loop
-Inv-loop body count most kind size₀ taken₀ size taken = At most count body taken size
+Inv-loop body count limit kind size₀ steps₀ size steps = FirstSteps limit count body steps size
 
 abbrev μ-loop : tie.MeasureT-loop
-μ-loop body count most kind size₀ taken₀ size taken = count - taken
+μ-loop body count limit kind size₀ steps₀ size steps = count - steps
 
 loop-holds : tie.Need-loop-holds Inv-loop μ-loop
 loop-holds c =
     let s = c .before .before .before in
-    run-start (s .args .most) (s .pre .3 .step) _ _ _ (s .pre .1) (c .first-size .ensures .0 ∙ ap firstSize (c .before .step-at .ensures))
+    first-steps-start (s .args .limit) (s .pre .3 .step) _ _ _ (s .pre .1) (c .first-size .ensures .0 ∙ ap firstSize (c .before .step-at .ensures))
     (c .first-size .ensures .1)
 
 returns : tie.Need-returns Inv-loop μ-loop
 returns c =
-    run-stop _ _ _ _ _ _ _ (c .before .before .before .loop .inv) (c .before .before .loop-test .taken)
+    first-steps-stop _ _ _ _ _ _ _ (c .before .before .before .loop .inv) (c .before .before .loop-test .taken)
     (ap (λ (x : Step). x .kind) (c .before .before .before .before .before .step-at .ensures))
     (c .before .joined-size .ensures) (c .if1 .taken)
 
 loop-again : tie.Need-loop-again Inv-loop μ-loop
 loop-again c =
-    run-more _ _ _ _ _ _ _ (c .before .before .before .loop .inv) (c .before .before .loop-test .taken)
+    first-steps-next _ _ _ _ _ _ _ (c .before .before .before .loop .inv) (c .before .before .loop-test .taken)
     (ap (λ (x : Step). x .kind) (c .before .before .before .before .before .step-at .ensures))
     (c .before .joined-size .ensures) (c .if1 .left)
 
 returns-2 : tie.Need-returns-2 Inv-loop μ-loop
-returns-2 c = run-end _ _ _ _ _ (c .before .loop .inv) (c .loop-test .left)
+returns-2 c = first-steps-end _ _ _ _ _ (c .before .loop .inv) (c .loop-test .left)
 
 pub first-entry-spec : {M : Type 1} → statement M
 first-entry-spec =

@@ -1,3 +1,4 @@
+-- A step's own bytes, after a bitmap or an address.
 use mathlib.Core.Path.{sym, _∙_}
 use native.Mathlib.Omega.{arith}
 use borrow.Author.Needs.{needs}

@@ -1,7 +1,8 @@
+-- Each return decides one part of `joinedSize`.
 use mathlib.Core.Path.{sym, _∙_}
 use native.Mathlib.Omega.{arith}
 use borrow.Author.Needs.{needs}
-use Rattle.book.proofs.FirstEntry.{size-over, size-yes, size-no}
+use Rattle.book.proofs.FirstEntry.{size-over-limit, size-joins, size-not-follows}
 use Rattle.book.proofs.join.joined_size.Statement.{statement}
 use Rattle.book.proofs.join.joined_size.Tie as tie
 
@@ -11,7 +12,7 @@ returns c =
     let x = c .before .before .step-at2 .result in
     let e = c .before .step-size .ensures .0 in
     rw (← (c .before .before .before .step-at .ensures), ← (c .before .before .step-at2 .ensures))
-    (size-over (a .most) _ x (a .kind) (a .size) (omega (arith, e, c .if1 .taken)))
+    (size-over-limit (a .limit) _ x (a .kind) (a .size) (omega (arith, e, c .if1 .taken)))
 
 returns-2 : tie.Need-returns-2
 returns-2 c =
@@ -20,14 +21,14 @@ returns-2 c =
     let x = at .before .step-at2 .result in
     let e = at .step-size .ensures .0 in
     rw (← (at .before .before .step-at .ensures), ← (at .before .step-at2 .ensures))
-    (rw e (size-yes (a .most) _ x (a .kind) (a .size) (omega (arith, e, c .before .before .if1 .left)) (sym (c .before .may-follow .ensures) ∙ c .if2 .taken)))
+    (rw e (size-joins (a .limit) _ x (a .kind) (a .size) (omega (arith, e, c .before .before .if1 .left)) (sym (c .before .may-follow .ensures) ∙ c .if2 .taken)))
 
 returns-3 : tie.Need-returns-3
 returns-3 c =
     let at = c .before .before .before in
     let a = at .before .before .before .before .args in
     rw (← (at .before .before .step-at .ensures), ← (at .before .step-at2 .ensures))
-    (size-no (a .most) _ _ (a .kind) (a .size) (sym (c .before .may-follow .ensures) ∙ c .if2 .left))
+    (size-not-follows (a .limit) _ _ (a .kind) (a .size) (sym (c .before .may-follow .ensures) ∙ c .if2 .left))
 
 pub joined-size-spec : {M : Type 1} → statement M
 joined-size-spec =

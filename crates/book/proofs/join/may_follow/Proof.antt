@@ -1,3 +1,4 @@
+-- Each return decides one test of `follows`.
 use mathlib.Core.Path.{sym, _∙_}
 use native.Mathlib.Numerals.{add-one}
 use borrow.Author.Needs.{needs}

@@ -1,3 +1,7 @@
+-- A location's three bytes.
+use native.Mathlib.Nat.{add-zero}
+use native.Mathlib.Numerals.{towards-suc}
+use lib.Seq.{getD-drop}
 use borrow.Author.Needs.{needs}
 use Rattle.book.proofs.locations.scene_location.Statement.{statement}
 use Rattle.book.proofs.locations.scene_location.Tie as tie
@@ -5,7 +9,7 @@ use Rattle.book.proofs.locations.scene_location.Tie as tie
 returns : tie.Need-returns
 returns c =
     let w = c .before .before .wide-word .ensures in
-    (rw (c .wide .ensures .0, w .0, c .before .before .before .word-of .ensures), c .wide .ensures .1, w .1)
+    (simp (c .wide .ensures .0, w .0, c .before .before .before .word-of .ensures, getD-drop, add-zero, towards-suc), c .wide .ensures .1, w .1)
 
 pub scene-location-spec : {M : Type 1} → statement M
 scene-location-spec =

@@ -1,12 +1,13 @@
+-- The loop: `bitmap` is that of the first i steps.
 use mathlib.Core.Path.{refl}
 use Prim.Native.Nat.{_-_}
 use native.Mathlib.Omega.{arith}
-use Rattle.book.proofs.Writing.{Mapped, map-more, map-end}
+use Rattle.book.proofs.Writing.{BitmapOfFirst, bitmap-next, bitmap-all}
 use Rattle.book.proofs.power.bitmap_of.Statement.{statement}
 use Rattle.book.proofs.power.bitmap_of.Tie as tie
 
 abbrev Inv-loop : tie.InvT-loop
-Inv-loop body count bitmap₀ i₀ bitmap i = Mapped count body i bitmap
+Inv-loop body count bitmap₀ i₀ bitmap i = BitmapOfFirst count body i bitmap
 
 abbrev μ-loop : tie.MeasureT-loop
 μ-loop body count bitmap₀ i₀ bitmap i = count - i
@@ -23,11 +24,11 @@ add-bitmap c = omega (arith, c .before .before .before .loop .inv .2, c .power-o
 
 loop-again : tie.Need-loop-again Inv-loop μ-loop
 loop-again c =
-    map-more _ _ _ _ (c .before .step-at .result) _ (c .before .before .before .loop .inv) (c .before .before .loop-test .taken)
+    bitmap-next _ _ _ _ (c .before .step-at .result) _ (c .before .before .before .loop .inv) (c .before .before .loop-test .taken)
     (c .before .step-at .ensures) (c .power-of-two .ensures .0) (c .power-of-two .ensures .1)
 
 returns : tie.Need-returns Inv-loop μ-loop
-returns c = map-end _ _ _ _ (c .before .loop .inv) (c .loop-test .left)
+returns c = bitmap-all _ _ _ _ (c .before .loop .inv) (c .loop-test .left)
 
 pub bitmap-of-spec : {M : Type 1} → statement M
 bitmap-of-spec =

@@ -1,3 +1,4 @@
+-- 2 to a number below 32 is in range.
 use native.Mathlib.Omega.{arith}
 use lib.Pow.{pow-mono}
 use borrow.Author.Needs.{needs}

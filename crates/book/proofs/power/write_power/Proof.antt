@@ -1,41 +1,35 @@
-use mathlib.Core.Path.{refl}
-use native.Mathlib.Numerals.{add-one}
+-- One byte, or two if the step has a time.
+use mathlib.Core.Path.{ap}
 use native.Mathlib.Omega.{arith}
-use lib.ListN.{length-set}
+use lib.ListN.{length}
 use borrow.Author.Needs.{needs}
-use borrow.Author.Tests.{eq-eqb, ne-eqb}
-use Rattle.book.specs.Entry.{powerBytes}
-use Rattle.book.proofs.Writing.{power-one, power-two}
+use Rattle.book.proofs.Writing.{power-untimed, power-timed}
 use Rattle.book.proofs.power.write_power.Statement.{statement}
 use Rattle.book.proofs.power.write_power.Tie as tie
 
-slice-write-out : tie.Need-slice-write-out
-slice-write-out c = omega (arith, power-one (c .before .before .args .step) (c .if1 .taken))
-
-add-result : tie.Need-add-result
-add-result c = omega (arith, power-one (c .before .before .args .step) (c .if1 .taken))
+write-bytes-requires : tie.Need-write-bytes-requires
+write-bytes-requires c κs =
+    let t = c .before .before in
+    omega (arith, ap length (power-untimed (t .before .before .before .args .step) (t .if1 .taken)), t .before .before .before .pre .1)
 
 returns : tie.Need-returns
-unfolding powerBytes
-returns c = rw (eq-eqb _ _ (c .if1 .taken)) (refl, refl)
+returns c =
+    let w = c .before .before in
+    let t = w .before .before .before in
+    rw (power-untimed (t .before .before .before .args .step) (t .if1 .taken)) (w .write-bytes .ensures)
 
-slice-write-out-2 : tie.Need-slice-write-out-2
-slice-write-out-2 c = omega (arith, power-two (c .before .before .before .args .step) (c .before .if1 .left))
-
-add-out-2 : tie.Need-add-out-2
-add-out-2 c = omega (arith, power-two (c .before .before .before .args .step) (c .before .if1 .left))
-
-slice-write-out-3 : tie.Need-slice-write-out-3
-slice-write-out-3 c = rw length-set (omega (arith, power-two (c .before .before .before .args .step) (c .before .if1 .left)))
-
-add-result-2 : tie.Need-add-result-2
-add-result-2 c = omega (arith, power-two (c .before .before .before .args .step) (c .before .if1 .left))
+write-bytes-requires-2 : tie.Need-write-bytes-requires-2
+write-bytes-requires-2 c κs =
+    let t = c .before .before .before in
+    omega (arith, ap length (power-timed (t .before .before .before .args .step) (t .if1 .left)), t .before .before .before .pre .1)
 
 returns-2 : tie.Need-returns-2
-unfolding powerBytes
-returns-2 c = rw (ne-eqb _ _ (c .before .if1 .left)) (refl, rw add-one)
+returns-2 c =
+    let w = c .before .before in
+    let t = w .before .before .before .before in
+    rw (power-timed (t .before .before .before .args .step) (t .if1 .left)) (w .write-bytes2 .ensures)
 
 pub write-power-spec : {M : Type 1} → statement M
 write-power-spec =
-    tie.close (tie.spec slice-write-out add-result (λ c. search needs) returns (λ c. search needs) slice-write-out-2
-    add-out-2 slice-write-out-3 add-result-2 (λ c. search needs) returns-2)
+    tie.close (tie.spec (λ c. search needs) write-bytes-requires (λ c. search needs) returns (λ c. search needs)
+    (λ c. search needs) write-bytes-requires-2 (λ c. search needs) returns-2)

@@ -1,3 +1,4 @@
+-- Each return decides one test of `byteFault`.
 use Prim.Native.Nat.{_<_}
 use native.Mathlib.Omega.{arith}
 use borrow.Author.Needs.{needs}

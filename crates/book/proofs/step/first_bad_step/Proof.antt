@@ -1,3 +1,4 @@
+-- The loop: the first bad step of all steps is the first bad one from step i on.
 use mathlib.Core.Path.{_≡_, refl, sym, _∙_}
 use Prim.Native.Nat.{_-_, _≤_}
 use native.Mathlib.Omega.{arith}
@@ -6,7 +7,7 @@ use borrow.Author.Needs.{needs}
 use borrow.Author.Tests.{eq-eqb, ne-eqb}
 use Rattle.book.specs.Book.{stepsIn}
 use Rattle.book.specs.Step.{firstBadFrom}
-use Rattle.book.proofs.GoodSteps.{bad-more, bad-stop, bad-end}
+use Rattle.book.proofs.GoodSteps.{first-bad-next, first-bad-found, first-bad-none}
 use Rattle.book.proofs.step.first_bad_step.Statement.{statement}
 use Rattle.book.proofs.step.first_bad_step.Tie as tie
 
@@ -19,32 +20,24 @@ abbrev μ-loop : tie.MeasureT-loop
 loop-holds : tie.Need-loop-holds Inv-loop μ-loop
 loop-holds c = (omega arith, refl)
 
-loop-again : tie.Need-loop-again Inv-loop μ-loop
-loop-again c =
-    let s = c .before .before .before .before .before .before in
-    let l = c .before .before .before .before .loop in
-    let x = c .before .before .step-at in
-    let good = eq-eqb _ _ (sym (c .before .step-fault .ensures) ∙ c .if1 .left) in (
-      omega arith,
-      l .inv .1 ∙ bad-more (s .args .count) (s .args .body .now) (l .i) (x .result) (c .before .before .before .loop-test .taken) (x .ensures) good,
-    )
-
 returns : tie.Need-returns Inv-loop μ-loop
 returns c =
-    let s = c .before .before .before .before .before .before in
-    let l = c .before .before .before .before .loop in
     let x = c .before .before .step-at in
-    let bad = ne-eqb _ _ (λ z. c .if1 .taken (c .before .step-fault .ensures ∙ z)) in (
-      omega arith,
-      l .inv .1 ∙ bad-stop (s .args .count) (s .args .body .now) (l .i) (x .result) (c .before .before .before .loop-test .taken) (x .ensures) bad,
-    )
+    let l = c .before .before .before .before .loop in
+    let bad = ne-eqb _ _ (λ z. c .if1 .taken (c .before .step-fault .ensures ∙ z)) in
+    (omega arith, l .inv .1 ∙ first-bad-found _ _ (l .i) (x .result) (c .before .before .before .loop-test .taken) (x .ensures) bad)
+
+loop-again : tie.Need-loop-again Inv-loop μ-loop
+loop-again c =
+    let x = c .before .before .step-at in
+    let l = c .before .before .before .before .loop in
+    let good = eq-eqb _ _ (sym (c .before .step-fault .ensures) ∙ c .if1 .left) in
+    (omega arith, l .inv .1 ∙ first-bad-next _ _ (l .i) (x .result) (c .before .before .before .loop-test .taken) (x .ensures) good)
 
 returns-2 : tie.Need-returns-2 Inv-loop μ-loop
-returns-2 c =
-    let s = c .before .before .before in
-    (omega arith, c .before .loop .inv .1 ∙ bad-end (s .args .count) (s .args .body .now) (c .before .loop .i) (c .loop-test .left))
+returns-2 c = (omega arith, c .before .loop .inv .1 ∙ first-bad-none _ _ (c .before .loop .i) (c .loop-test .left))
 
 pub first-bad-step-spec : {M : Type 1} → statement M
 first-bad-step-spec =
-    tie.close (tie.spec Inv-loop μ-loop loop-holds (λ c κs. omega arith) (λ c. omega arith) (λ c κs. search needs)
-    returns (λ c. omega arith) loop-again returns-2)
+    tie.close (tie.spec Inv-loop μ-loop loop-holds (λ c κs. omega arith) (λ c κs. search needs) returns (λ c. omega arith)
+    (λ c. omega arith) loop-again returns-2)

@@ -1,3 +1,4 @@
+-- Each return decides one test of `lampFault`.
 use borrow.Author.Tests.{lt-ltb, le-ltb, le-leb, lt-leb, eq-eqb, ne-eqb}
 use Rattle.book.specs.Step.{lampFault, stepTimeOk}
 use Rattle.book.proofs.step.lamp_fault.Statement.{statement}
@@ -18,12 +19,14 @@ returns-3 c = simp (lt-leb _ _ (c .before .before .before .before .if1 .left), l
 returns-4 : tie.Need-returns-4
 unfolding lampFault stepTimeOk
 returns-4 c =
-    simp (lt-leb _ _ (c .before .before .before .before .before .before .if1 .left), le-ltb _ _ (c .before .before .before .before .if2 .left), ne-eqb _ _ (c .before .before .if3 .left), eq-eqb _ _ (c .if4 .taken))
+    let d = c .before .before in
+    simp (lt-leb _ _ (d .before .before .before .before .if1 .left), le-ltb _ _ (d .before .before .if2 .left), ne-eqb _ _ (d .if3 .left), eq-eqb _ _ (c .if4 .taken))
 
 returns-5 : tie.Need-returns-5
 unfolding lampFault stepTimeOk
 returns-5 c =
-    simp (lt-leb _ _ (c .before .before .before .before .before .before .if1 .left), le-ltb _ _ (c .before .before .before .before .if2 .left), ne-eqb _ _ (c .before .before .if3 .left), ne-eqb _ _ (c .if4 .left))
+    let d = c .before .before in
+    simp (lt-leb _ _ (d .before .before .before .before .if1 .left), le-ltb _ _ (d .before .before .if2 .left), ne-eqb _ _ (d .if3 .left), ne-eqb _ _ (c .if4 .left))
 
 pub lamp-fault-spec : {M : Type 1} → statement M
 lamp-fault-spec = tie.close (tie.spec returns returns-2 returns-3 returns-4 returns-5)

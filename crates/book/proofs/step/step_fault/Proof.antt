@@ -1,3 +1,4 @@
+-- Each return decides one test of `stepFault`.
 use mathlib.Core.Path.{sym, _∙_}
 use borrow.Author.Needs.{needs}
 use borrow.Author.Tests.{eq-eqb, ne-eqb}

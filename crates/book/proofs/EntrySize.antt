@@ -1,4 +1,4 @@
--- How long the PData of an entry is.
+-- The PData size of an entry.
 use mathlib.Core.List.{List, [], _∷_, _++_}
 use mathlib.Core.Path.{_≡_, refl}
 use Prim.Native.Nat.{_+_}
@@ -11,23 +11,24 @@ use Rattle.book.specs.Step.{isLamp}
 use Rattle.book.specs.Entry.{powerBytes, powersBytes, values, entryData, groupData}
 use Rattle.book.specs.EntrySize.{powerSize, stepSize}
 
+-- the power bytes of a step have its size
 pub power-length : (s : Step) → length (powerBytes s) ≡ powerSize s
 unfolding powerBytes powerSize
 power-length s = by-test (eqb (s .time) 0) (λ e. rw e) (λ e. rw e)
 
-powers-length : (ss : List Step) (x : Step) → length (powersBytes (ss ++ (x ∷ []))) ≡ length (powersBytes ss) + powerSize x
-powers-length [] x = omega (arith, power-length x, length-append (powerBytes x) [])
-powers-length (s ∷ ss) x =
-    omega (arith, length-append (powerBytes s) (powersBytes (ss ++ (x ∷ []))), length-append (powerBytes s) (powersBytes ss), powers-length ss x)
+powers-size : (ss : List Step) (x : Step) → length (powersBytes (ss ++ (x ∷ []))) ≡ length (powersBytes ss) + powerSize x
+powers-size [] x = omega (arith, power-length x, length-append (powerBytes x) [])
+powers-size (s ∷ ss) x =
+    omega (arith, length-append (powerBytes s) (powersBytes (ss ++ (x ∷ []))), length-append (powerBytes s) (powersBytes ss), powers-size ss x)
 
-values-more : (ss : List Step) (x : Step) → length (values (ss ++ (x ∷ []))) ≡ length (values ss) + 1
-values-more [] x = refl
-values-more (s ∷ ss) x = omega (arith, values-more ss x)
+values-size : (ss : List Step) (x : Step) → length (values (ss ++ (x ∷ []))) ≡ length (values ss) + 1
+values-size [] x = refl
+values-size (s ∷ ss) x = omega (arith, values-size ss x)
 
--- a step more in an entry
+-- an added step makes the PData longer by its size
 pub data-length : (p : Step) (ps : List Step) (x : Step) → length (groupData ((p ∷ ps) ++ (x ∷ []))) ≡ length (groupData (p ∷ ps)) + stepSize (p .kind) x
 unfolding entryData stepSize
 data-length p ps x =
     by-test (isLamp (p .kind))
-    (λ e. rw e (omega (arith, powers-length (p ∷ ps) x)))
-    (λ e. rw e (omega (arith, values-more (p ∷ ps) x)))
+    (λ e. rw e (omega (arith, powers-size (p ∷ ps) x)))
+    (λ e. rw e (omega (arith, values-size (p ∷ ps) x)))
