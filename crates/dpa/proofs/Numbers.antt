@@ -8,10 +8,11 @@ use Rattle.dpa.specs.Number.{low, high, word}
 pub word-split : (x : ℕ) → word (low x) (high x) ≡ x
 word-split x = omega arith
 
--- the bytes of a number are those that it was made of
+-- the low byte of a number is the one that it was made of
 pub low-word : (a b : ℕ) → a < 256 → low (word a b) ≡ a
 low-word a b h = omega arith
 
+-- and so is its high byte
 pub high-word : (a b : ℕ) → a < 256 → high (word a b) ≡ b
 high-word a b h = omega arith
 

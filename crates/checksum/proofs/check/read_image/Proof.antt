@@ -4,7 +4,10 @@ use Rattle.checksum.proofs.check.read_image.Statement.{statement}
 use Rattle.checksum.proofs.check.read_image.Tie as tie
 
 returns : tie.Need-returns
-returns c = rw (c .word-of3 .ensures, c .before .before .before .word-of2 .ensures, c .before .before .before .before .before .before .word-of .ensures)
+returns c =
+    let length = c .before .before .before in
+    let address = length .before .before .before in
+    rw (c .word-of3 .ensures, length .word-of2 .ensures, address .word-of .ensures)
 
 pub read-image-spec : {M : Type 1} → statement M
 read-image-spec =

@@ -13,9 +13,11 @@ use Rattle.dpa.proofs.frame.write_header.Tie as tie
 
 returns : tie.Need-returns
 returns c =
-    let a = c .before .before .before .before .before .before .before .args in
-    let header = c .before .before .before .before .before .header in
-    let copy = c .before .before .copy in
+    let copied = c .before .before in
+    let made = copied .before .before .before in
+    let a = made .before .before .args in
+    let header = made .header in
+    let copy = copied .copy in
     let last-two = a .error ∷ a .settings .«dpa_value» ∷ [] in
     sets-after-copy (header .result) last-two (a .response .now) (copy .last .1 .0) headerSize (ap length (header .ensures)) (omega arith) (copy .ensures .1)
     ∙ ap (λ (h : List ℕ). overwriteFront (h ++ last-two) (a .response .now)) (header .ensures)

@@ -15,8 +15,9 @@ use Rattle.timing.proofs.confirm.write_confirmation.Tie as tie
 
 returns : tie.Need-returns
 returns c =
-    let a = c .before .before .before .before .before .before .before .before .args in
-    let copy = c .before .before .before .copy in
+    let copied = c .before .before .before in
+    let a = copied .before .before .before .before .before .args in
+    let copy = copied .copy in
     let hops-sent = c .response-hops-sent in
     let rest : ℕ → List ℕ = λ hops. statusConfirmation ∷ a .dpa-value ∷ a .hops ∷ a .slot ∷ hops ∷ [] in
     sets-after-copy (take headerSize (a .frame .now)) (rest (hops-sent .result)) (a .out .now) (copy .last .1 .0) headerSize
