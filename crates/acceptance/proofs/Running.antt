@@ -47,54 +47,55 @@ module _ (book : List ℕ) (k : ℕ) (st : State) (out : List ℕ) where
       unfolding runScene
       run-external n = rw (ok, eq-eqb (length (st .eeprom)) (sizeOf Eeprom) e, ne-eqb (length (st .external)) (sizeOf External) n)
 
-      -- a sound state, and the result of the compiler
-      module _ (x : length (st .external) ≡ sizeOf External) (c : CompileResult)
-          (q : c ≡ compileFor book k (st .node .settings .address) (st .node .settings .hwpid) out) where
-        rule : SoundState st
-        rule = record { node-ok = ok; eeprom-size = e; external-size = x }
+-- the tests are passed: the state is sound, and c is the result of compiling for the node
+pub record Compiled (book : List ℕ) (k : ℕ) (st : State) (out : List ℕ) (c : CompileResult) : Type 0 where
+  pub sound : SoundState st
+  pub result-is : c ≡ compileFor book k (st .node .settings .address) (st .node .settings .hwpid) out
 
-        compiled-first : runScene book k st out ≡ afterCompile c st (machine (sceneOf book k) st)
-        unfolding runScene
-        compiled-first =
-            rw (ok, eq-eqb (length (st .eeprom)) (sizeOf Eeprom) e, eq-eqb (length (st .external)) (sizeOf External) x)
-            (ap (λ (d : CompileResult). afterCompile d st (machine (sceneOf book k) st)) (sym q))
+module _ {book : List ℕ} {k : ℕ} {st : State} {out : List ℕ} {c : CompileResult} (p : Compiled book k st out c) where
+  compiled-first : runScene book k st out ≡ afterCompile c st (machine (sceneOf book k) st)
+  unfolding runScene
+  compiled-first =
+      let s = p .sound in
+      rw (s .node-ok, eq-eqb (length (st .eeprom)) (sizeOf Eeprom) (s .eeprom-size), eq-eqb (length (st .external)) (sizeOf External) (s .external-size))
+      (ap (λ (d : CompileResult). afterCompile d st (machine (sceneOf book k) st)) (sym (p .result-is)))
 
-        -- refused by the compiler
-        pub run-refused : (c .refusal ≡ 0 → ⊥) → result (c .refusal) (c .step) st (c .buffer) ≡ runScene book k st out
-        unfolding afterCompile
-        run-refused n = sym (compiled-first ∙ rw (ne-eqb (c .refusal) 0 n))
+  -- refused by the compiler
+  pub run-refused : (c .refusal ≡ 0 → ⊥) → result (c .refusal) (c .step) st (c .buffer) ≡ runScene book k st out
+  unfolding afterCompile
+  run-refused n = sym (compiled-first ∙ rw (ne-eqb (c .refusal) 0 n))
 
-        module _ (z : c .refusal ≡ 0) where
-          accepted : compileFor book k (st .node .settings .address) (st .node .settings .hwpid) out .refusal ≡ 0
-          accepted = sym (ap (λ (d : CompileResult). d .refusal) q) ∙ z
+  module _ (z : c .refusal ≡ 0) where
+    accepted : compileFor book k (st .node .settings .address) (st .node .settings .hwpid) out .refusal ≡ 0
+    accepted = sym (ap (λ (d : CompileResult). d .refusal) (p .result-is)) ∙ z
 
-          -- the buffer holds all requests
-          pub run-complete : CompleteOutput (c .buffer)
-          run-complete =
-              let a = st .node .settings .address in
-              let h = st .node .settings .hwpid in
-              let rs = sceneRequests a h (sceneOf book k) in
-              let w : c .buffer ≡ output rs ++ drop (length (output rs)) out =
-              ap (λ (d : CompileResult). d .buffer) (q ∙ accepted-answer book k a h out (compile-refusals book k a h out .none .0 accepted)) in
-              rw w (output-complete rs (drop (length (output rs)) out))
+    -- the buffer holds all requests
+    pub run-complete : CompleteOutput (c .buffer)
+    run-complete =
+        let a = st .node .settings .address in
+        let h = st .node .settings .hwpid in
+        let rs = sceneRequests a h (sceneOf book k) in
+        let w : c .buffer ≡ output rs ++ drop (length (output rs)) out =
+        ap (λ (d : CompileResult). d .buffer) (p .result-is ∙ accepted-answer book k a h out (compile-refusals book k a h out .none .0 accepted)) in
+        rw w (output-complete rs (drop (length (output rs)) out))
 
-          -- the state after the requests is the one that the step machine reaches
-          pub run-done : (done : State) → done ≡ afterCalls (λ _. zeroBuffer) (requestsIn (c .buffer)) st → result 0 0 done (c .buffer) ≡ runScene book k st out
-          unfolding afterCompile
-          run-done done d =
-              let a = st .node .settings .address in
-              let h = st .node .settings .hwpid in
-              let end : done ≡ machine (sceneOf book k) st =
-              d
-              ∙ ap (λ (y : CompileResult). afterCalls (λ _. zeroBuffer) (requestsIn (y .buffer)) st) q
-              ∙ buffer-theorem st (λ _. zeroBuffer) book k a h out (own-given st rule) accepted .final in
-              sym (compiled-first ∙ rw (eq-eqb (c .refusal) 0 z) (ap (λ (y : State). result 0 0 y (c .buffer)) (sym end)))
+    -- the state after the requests is the one that the step machine reaches
+    pub run-done : (done : State) → done ≡ afterCalls (λ _. zeroBuffer) (requestsIn (c .buffer)) st → result 0 0 done (c .buffer) ≡ runScene book k st out
+    unfolding afterCompile
+    run-done done d =
+        let a = st .node .settings .address in
+        let h = st .node .settings .hwpid in
+        let end : done ≡ machine (sceneOf book k) st =
+        d
+        ∙ ap (λ (y : CompileResult). afterCalls (λ _. zeroBuffer) (requestsIn (y .buffer)) st) (p .result-is)
+        ∙ buffer-theorem st (λ _. zeroBuffer) book k a h out (own-given st (p .sound)) accepted .final in
+        sym (compiled-first ∙ rw (eq-eqb (c .refusal) 0 z) (ap (λ (y : State). result 0 0 y (c .buffer)) (sym end)))
 
 -- a sound state stays sound under any calls
-calls-rule : (buffers : ℕ → List ℕ) (rs : List (List ℕ)) (st : State) → SoundState st → SoundState (afterCalls buffers rs st)
-calls-rule buffers [] st r = r
-calls-rule buffers (f ∷ fs) st r =
-    calls-rule (λ i. buffers (suc i)) fs (handleRequest f st (buffers 0) .after) (request-sound f st (buffers 0) r)
+calls-sound : (buffers : ℕ → List ℕ) (rs : List (List ℕ)) (st : State) → SoundState st → SoundState (afterCalls buffers rs st)
+calls-sound buffers [] st r = r
+calls-sound buffers (f ∷ fs) st r =
+    calls-sound (λ i. buffers (suc i)) fs (handleRequest f st (buffers 0) .after) (request-sound f st (buffers 0) r)
 
 module _ (book : List ℕ) (k : ℕ) (st : State) (out : List ℕ) where
   abbrev Unchanged : SceneResult → Type 0
@@ -117,9 +118,9 @@ module _ (book : List ℕ) (k : ℕ) (st : State) (out : List ℕ) where
       (λ _ _. (refl, refl))
 
   -- running a scene keeps a state sound
-  pub scene-rule : SoundState st → SoundState (runScene book k st out .after)
+  pub scene-sound : SoundState st → SoundState (runScene book k st out .after)
   unfolding runScene afterCompile
-  scene-rule r =
+  scene-sound r =
       let a = st .node .settings .address in
       let h = st .node .settings .hwpid in
       let c = compileFor book k a h out in
@@ -129,7 +130,7 @@ module _ (book : List ℕ) (k : ℕ) (st : State) (out : List ℕ) where
       (λ _. by-cond Sound (eqb (length (st .external)) (sizeOf External)) _ _
       (λ _. by-cond Sound (eqb (c .refusal) 0) _ _
       (λ z. subst SoundState (buffer-theorem st (λ _. zeroBuffer) book k a h out (own-given st r) (eqb-true _ _ z) .final)
-      (calls-rule (λ _. zeroBuffer) (requestsIn (c .buffer)) st r))
+      (calls-sound (λ _. zeroBuffer) (requestsIn (c .buffer)) st r))
       (λ _. r))
       (λ _. r))
       (λ _. r))

@@ -10,26 +10,22 @@ use lib.Seq.{take-append-seam, drop-append-seam, take-at, drop-at, sets}
 use lib.Dec.{ltb, leb}
 use borrow.Author.Tests.{lt-leb, le-ltb}
 use Rattle.dpa.specs.declared.frame.Frame.{Frame}
-use Rattle.dpa.specs.Frame.{longestFrame, frame}
-use Rattle.dpa.specs.Pnum.{osPnum}
-use Rattle.handler.specs.Request.{batchPcmd}
+use Rattle.dpa.specs.Frame.{longestFrame}
 use Rattle.dpa.proofs.Bool.{by-cond}
 use Rattle.dpa.proofs.Lists.{sets-front}
 use Rattle.dpa.specs.Lists.{All}
 use Rattle.book.specs.declared.step.Step.{Step}
 use Rattle.book.specs.Group.{concat}
-use Rattle.book.specs.Join.{joins, entriesOf, entryLimit}
+use Rattle.book.specs.Join.{joins, entriesOf}
 use Rattle.book.specs.Book.{stepsMax, sceneCount, bookOk, sceneOf}
 use Rattle.book.specs.Step.{firstBadFrom}
-use Rattle.book.proofs.Faults.{Good, no-bad}
+use Rattle.book.proofs.Faults.{Good}
 use Rattle.book.proofs.Groups.{length-group}
-use Rattle.book.proofs.Books.{scene-length}
 use Rattle.scene.specs.declared.fill.SizeLimits.{SizeLimits}
-use Rattle.scene.specs.Compile.{listLimit, Limits, fitsBatch, batchesOf, requestWith, sceneRequests}
+use Rattle.scene.specs.Compile.{Limits, fitsBatch, batchesOf, requestWith, sceneRequests}
 use Rattle.scene.specs.Call.{lengths, output, splitBy, requestsIn, minOutput, CompileResult, outputInBuffer, addressOk, compileSteps, compileScene, compileFor}
 use Rattle.scene.specs.Fill.{requestsWith}
 use Rattle.scene.proofs.Sizes.{FrameSized, requests-fit}
-use Rattle.scene.proofs.Batches.{batch-limits}
 
 -- ---- the requests are read back
 
@@ -89,12 +85,6 @@ pub record Faultless (b : List ℕ) (k : ℕ) : Type 0 where
   pub book : bookOk b ≡ true
   pub number : k < sceneCount b
   pub steps : firstBadFrom 0 (sceneOf b k) ≡ none
-
--- the output of a compiled scene fits its buffer
-pub scene-fits : (b : List ℕ) (k a h : ℕ) → Faultless b k → length (output (sceneRequests a h (sceneOf b k))) ≤ minOutput
-scene-fits b k a h f =
-    output-fits (record { entry = entryLimit; list = listLimit }) (frame a osPnum batchPcmd h) [] batch-limits (sceneOf b k) (scene-length b k (f .book))
-    (no-bad (sceneOf b k) .0 (f .steps))
 
 -- with any rule from steps to requests
 module _ (b : List ℕ) (k : ℕ) (requests : List Step → List (List ℕ)) (out : List ℕ) where

@@ -1,4 +1,4 @@
-// Reads a scene book on standard input, runs scene 0 on a fresh node and prints its lamps.
+// Reads a scene book from standard input, runs scene 0 on a fresh node and prints its lamps.
 use acceptance::run::run_scene;
 use dpa::refusal;
 use dpa::settings::Settings;
@@ -9,40 +9,47 @@ use node::levels::actual_levels;
 use node::record::Node;
 use node::start::start;
 
-// The longest book: a count, 16 contents entries, and 16 scenes of 64 steps.
-const LONGEST_BOOK: usize = 4145;
+// The longest book: a count, and for each of 16 scenes a location of 3 bytes and 64 steps of 4 bytes.
+const LONGEST_BOOK: usize = 1 + 16 * (3 + 64 * 4);
 
-fn text(s: &[u8]) {
+const EEPROM: usize = 192;
+
+const EXTERNAL: usize = 16384;
+
+// Room for the longest compiled scene.
+const OUTPUT: usize = 4096;
+
+fn print(s: &[u8]) {
     io::write_all(STDOUT_FILENO, s);
 }
 
-fn number(n: u64, end: &[u8]) {
+fn print_number(n: u64, end: &[u8]) {
     io::print_decimal(STDOUT_FILENO, n);
-    text(end);
+    print(end);
 }
 
-fn refuse(refusal: u8) {
-    text(b"refused ");
-    number(refusal as u64, b"\n");
+fn print_refusal(refusal: u8) {
+    print(b"refused ");
+    print_number(refusal as u64, b"\n");
 }
 
-fn row(at: u64, lamp: Lamp, actual: u8) {
-    number(at, b" ");
-    number(lamp.level as u64, b" ");
-    number(actual as u64, b" ");
-    number(lamp.seconds as u64, b"\n");
+fn print_lamp(number: u64, lamp: Lamp, actual: u8) {
+    print_number(number, b" ");
+    print_number(lamp.level as u64, b" ");
+    print_number(actual as u64, b" ");
+    print_number(lamp.seconds as u64, b"\n");
 }
 
-fn show(node: Node) {
-    let shown = actual_levels(node);
-    text(b"lamp level actual left\n");
-    row(0, node.lamps[0], shown.levels[0]);
-    row(1, node.lamps[1], shown.levels[1]);
-    row(2, node.lamps[2], shown.levels[2]);
+fn print_lamps(node: Node) {
+    let actual = actual_levels(node);
+    print(b"lamp level actual left\n");
+    print_lamp(0, node.lamps[0], actual.levels[0]);
+    print_lamp(1, node.lamps[1], actual.levels[1]);
+    print_lamp(2, node.lamps[2], actual.levels[2]);
 }
 
-// A started node 1 with three lamps, step 1, and memories of zeros.
-fn run(book: &[u8]) {
+// The node has address 1, three lamps and step 1; its memories are zeros.
+fn run_book(book: &[u8]) {
     let settings = Settings {
         address: 1,
         hwpid: 0x2471,
@@ -51,23 +58,23 @@ fn run(book: &[u8]) {
         step: 1,
     };
     let started = start(settings);
-    let mut eeprom = [0u8; 192];
-    let mut external = [0u8; 16384];
-    let mut out = [0u8; 4096];
-    let ran = run_scene(started.node, book, 0, &mut eeprom, &mut external, &mut out);
-    if ran.refusal != refusal::NONE {
-        refuse(ran.refusal);
+    let mut eeprom = [0u8; EEPROM];
+    let mut external = [0u8; EXTERNAL];
+    let mut out = [0u8; OUTPUT];
+    let answer = run_scene(started.node, book, 0, &mut eeprom, &mut external, &mut out);
+    if answer.refusal != refusal::NONE {
+        print_refusal(answer.refusal);
         return;
     }
-    show(ran.node);
+    print_lamps(answer.node);
 }
 
 fn main() {
     let mut book = [0u8; LONGEST_BOOK + 1];
     let n = io::read_full(STDIN_FILENO, &mut book);
     if LONGEST_BOOK < n {
-        refuse(refusal::BOOK);
+        print_refusal(refusal::BOOK);
         return;
     }
-    run(&book[..n]);
+    run_book(&book[..n]);
 }

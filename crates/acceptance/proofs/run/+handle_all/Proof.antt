@@ -29,57 +29,54 @@ handle-all-below t = and 4 handle-all-kinds.ps (falls 4 handle-all-kinds.ps _<_ 
 abbrev calls : ℕ → handle-all-lts.Claims
 calls t = (wide-reads.Asked, wide-reads.Learnt, handle-one-reads.Asked, handle-one-reads.Learnt, handle-all-below t, handle-all.Post)
 
--- the first request lies in the bytes
-covered : (t : ℕ) (c : handle-all-lts.After-wide (calls t) (handle-all-at t) handle-all.Post)
-    → c .wide .result ≤ length (c .before .before .before .before .before .before .before .args .requests .now)
-covered t c =
-    let a = c .before .before .before .before .before .before .before .args in
-    first-covered (a .lengths .now) (a .requests .now) (c .before .before .if1 .left) (c .wide .ensures .0) (c .before .before .before .before .before .before .before .pre .1)
+module _ (t : ℕ) where
+  -- the start, from where the first length byte is read
+  abbrev start : handle-all-lts.After-wide (calls t) (handle-all-at t) handle-all.Post → handle-all-lts.Start (calls t) (handle-all-at t) handle-all.Post
+  start w = w .before .before .before .before .before .before .before
 
-handle-all-returns : (t : ℕ) → handle-all-lts.Need-returns (calls t) (handle-all-at t) handle-all.Post
-handle-all-returns t c =
-    let a = c .before .before .before .before .before .args in
-    none-handled (a .lengths .now) (a .requests .now) (state (a .node) (a .eeprom .now) (a .external .now)) (c .if1 .taken)
+  -- the bytes hold the first request
+  covered : (w : handle-all-lts.After-wide (calls t) (handle-all-at t) handle-all.Post) → w .wide .result ≤ length (start w .args .requests .now)
+  covered w = first-covered (start w .args .lengths .now) (start w .args .requests .now) (w .before .before .if1 .left) (w .wide .ensures .0) (start w .pre .1)
 
-handle-all-wide-requires : (t : ℕ) → handle-all-lts.Need-wide-requires (calls t) (handle-all-at t) handle-all.Post
-handle-all-wide-requires t c κs = tt
+  returns : handle-all-lts.Need-returns (calls t) (handle-all-at t) handle-all.Post
+  returns c =
+      let a = c .before .before .before .before .before .args in
+      none-handled (a .lengths .now) (a .requests .now) (state (a .node) (a .eeprom .now) (a .external .now)) (c .if1 .taken)
 
-handle-all-slice-aggregate-handle-one : (t : ℕ) → handle-all-lts.Need-slice-aggregate-handle-one (calls t) (handle-all-at t) handle-all.Post
-handle-all-slice-aggregate-handle-one t c = sym (length-take-le (c .before .wide .result) _ (covered t (c .before)))
+  slice-aggregate-handle-one : handle-all-lts.Need-slice-aggregate-handle-one (calls t) (handle-all-at t) handle-all.Post
+  slice-aggregate-handle-one c = sym (length-take-le (c .before .wide .result) _ (covered (c .before)))
 
-handle-all-handle-one-requires : (t : ℕ) → handle-all-lts.Need-handle-one-requires (calls t) (handle-all-at t) handle-all.Post
-handle-all-handle-one-requires t c κs = tt
+  sub-handle-all-2 : handle-all-lts.Need-sub-handle-all-2 (calls t) (handle-all-at t) handle-all.Post
+  sub-handle-all-2 c = covered (c .before .before .before .before .before .before .before .before .before)
 
-handle-all-sub-handle-all-2 : (t : ℕ) → handle-all-lts.Need-sub-handle-all-2 (calls t) (handle-all-at t) handle-all.Post
-handle-all-sub-handle-all-2 t c = covered t (c .before .before .before .before .before .before .before .before .before)
+  handle-all-requires : handle-all-lts.Need-handle-all-requires (calls t) (handle-all-at t) handle-all.Post
+  handle-all-requires c κs =
+      let w = c .before .before .before .before .before .before .before .before .before .before .before .before in
+      let a = start w .args in
+      (simp (length-take, length-drop) (omega arith), rest-covered (a .lengths .now) (a .requests .now) (w .before .before .if1 .left) (w .wide .ensures .0) (start w .pre .1))
 
-handle-all-part-handle-all-start-2 : (t : ℕ) → handle-all-lts.Need-part-handle-all-start-2 (calls t) (handle-all-at t) handle-all.Post
-handle-all-part-handle-all-start-2 t c = covered t (c .before .before .before .before .before .before .before .before .before)
+  -- the first call, from where the others are done
+  abbrev one : handle-all-lts.After-handle-all (calls t) (handle-all-at t) handle-all.Post → handle-all-lts.After-handle-one (calls t) (handle-all-at t) handle-all.Post
+  one r = r .before .before .before .before .before .before .before .before .before
 
-handle-all-handle-all-requires : (t : ℕ) → handle-all-lts.Need-handle-all-requires (calls t) (handle-all-at t) handle-all.Post
-handle-all-handle-all-requires t c κs =
-    let w = c .before .before .before .before .before .before .before .before .before .before .before .before in
-    let a = w .before .before .before .before .before .before .before .args in
-    let z = w .before .before .if1 .left in
-    (simp (length-take, length-drop) (omega arith), rest-covered (a .lengths .now) (a .requests .now) z (w .wide .ensures .0) (w .before .before .before .before .before .before .before .pre .1))
+  same-length : handle-all-lts.Need-same-length (calls t) (handle-all-at t) handle-all.Post
+  same-length c = let r = c .before .before .before .before in r .handle-all .kept .1 .1 .1 .0 ∙ one r .handle-one .kept .1 .1 .0
 
-handle-all-same-length : (t : ℕ) → handle-all-lts.Need-same-length (calls t) (handle-all-at t) handle-all.Post
-handle-all-same-length t c = let r = c .before .before .before .before in r .handle-all .kept .1 .1 .1 .0 ∙ r .before .before .before .before .before .before .before .before .before .handle-one .kept .1 .1 .0
+  same-length-2 : handle-all-lts.Need-same-length-2 (calls t) (handle-all-at t) handle-all.Post
+  same-length-2 c = let r = c .before .before .before .before in r .handle-all .kept .1 .1 .1 .1 .0 ∙ one r .handle-one .kept .1 .1 .1 .0
 
-handle-all-same-length-2 : (t : ℕ) → handle-all-lts.Need-same-length-2 (calls t) (handle-all-at t) handle-all.Post
-handle-all-same-length-2 t c = let r = c .before .before .before .before in r .handle-all .kept .1 .1 .1 .1 .0 ∙ r .before .before .before .before .before .before .before .before .before .handle-one .kept .1 .1 .1 .0
-
-handle-all-returns-2 : (t : ℕ) → handle-all-lts.Need-returns-2 (calls t) (handle-all-at t) handle-all.Post
-handle-all-returns-2 t c =
-    let r = c .before .before .before .before in
-    let w = r .before .before .before .before .before .before .before .before .before .before .before .before .before in
-    let a = w .before .before .before .before .before .before .before .args in
-    one-handled (a .lengths .now) (a .requests .now) (state (a .node) (a .eeprom .now) (a .external .now)) (w .before .before .if1 .left) (w .wide .ensures .0) (r .before .before .before .before .before .before .before .before .before .handle-one .ensures) (r .handle-all .ensures)
+  returns-2 : handle-all-lts.Need-returns-2 (calls t) (handle-all-at t) handle-all.Post
+  returns-2 c =
+      let r = c .before .before .before .before in
+      let w = one r .before .before .before .before in
+      let a = start w .args in
+      one-handled (a .lengths .now) (a .requests .now) (state (a .node) (a .eeprom .now) (a .external .now)) (w .before .before .if1 .left) (w .wide .ensures .0)
+      (one r .handle-one .ensures) (r .handle-all .ensures)
 
 pub +handle-all-spec : {M : Type 1} → statement M
 +handle-all-spec = close μ-handle-all λ t. handle-all-lts.spec (calls t) (handle-all-at t)
-    handle-all.Post (handle-all-returns t) (λ c. search needs) (handle-all-wide-requires t)
-    (handle-all-slice-aggregate-handle-one t) (handle-all-handle-one-requires t) (λ c. search needs)
-    (λ c. search needs) (λ c. search needs) (handle-all-sub-handle-all-2 t)
-    (handle-all-part-handle-all-start-2 t) (λ c. search needs) (handle-all-handle-all-requires t)
-    (handle-all-same-length t) (handle-all-same-length-2 t) (handle-all-returns-2 t)
+    handle-all.Post (returns t) (λ c. search needs) (λ c κs. tt)
+    (slice-aggregate-handle-one t) (λ c κs. tt) (λ c. search needs)
+    (λ c. search needs) (λ c. search needs) (sub-handle-all-2 t)
+    (λ c. covered t (c .before .before .before .before .before .before .before .before .before)) (λ c. search needs) (handle-all-requires t)
+    (same-length t) (same-length-2 t) (returns-2 t)

@@ -10,16 +10,21 @@ use Rattle.acceptance.proofs.OutputRequests.{parts-covered, parts-reque
 use Rattle.acceptance.proofs.run.handle_output.Statement.{statement}
 use Rattle.acceptance.proofs.run.handle_output.Tie as tie
 
+-- the start, from where the count is read
+abbrev start : tie.After-wide → tie.Start
+start w = w .before .before .before .before .before
+
 handle-all-requires : tie.Need-handle-all-requires
 handle-all-requires c κs =
-    let a = c .before .before .before .before .before .before .before .before .before .args in
-    parts-covered (a .output .now) (c .before .before .before .before .wide .ensures .0) (c .before .before .before .before .before .before .before .before .before .pre)
+    let w = c .before .before .before .before in
+    parts-covered (start w .args .output .now) (w .wide .ensures .0) (start w .pre)
 
 returns : tie.Need-returns
 returns c =
-    let a = c .before .before .before .before .before .before .before .before .before .before .before .before .before .before .args in
+    let w = c .before .before .before .before .before .before .before .before .before in
+    let a = start w .args in
     c .before .before .before .before .handle-all .ensures
-    ∙ ap (λ (rs : List (List ℕ)). afterCalls (λ _. zeroBuffer) rs (state (a .node) (a .eeprom .now) (a .external .now))) (parts-requests (a .output .now) (c .before .before .before .before .before .before .before .before .before .wide .ensures .0))
+    ∙ ap (λ (rs : List (List ℕ)). afterCalls (λ _. zeroBuffer) rs (state (a .node) (a .eeprom .now) (a .external .now))) (parts-requests (a .output .now) (w .wide .ensures .0))
 
 pub handle-output-spec : {M : Type 1} → statement M
 handle-output-spec =

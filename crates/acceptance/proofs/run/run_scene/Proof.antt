@@ -7,13 +7,16 @@ use lib.ListN.{length}
 use Rattle.memory.specs.declared.block.Memory.the-variants.{Eeprom, External}
 use Rattle.memory.specs.Block.{sizeOf}
 use Rattle.node.specs.Node.{nodeOk}
-use Rattle.handler.specs.Request.{state}
+use Rattle.handler.specs.Request.{State, SoundState, state}
 use Rattle.scene.specs.Call.{compileResult}
 use Rattle.acceptance.specs.declared.run.SceneAnswer.{SceneAnswer}
 use Rattle.acceptance.specs.RunScene.{sceneResult}
-use Rattle.acceptance.proofs.Running.{run-unsound, run-eeprom, run-external, run-refused, run-complete, run-done}
+use Rattle.acceptance.proofs.Running.{Compiled, run-unsound, run-eeprom, run-external, run-refused, run-complete, run-done}
 use Rattle.acceptance.proofs.run.run_scene.Statement.{statement}
 use Rattle.acceptance.proofs.run.run_scene.Tie as tie
+
+abbrev stateAt : tie.Start → State
+stateAt s = state (s .args .node) (s .args .eeprom .now) (s .args .external .now)
 
 -- what the tests on the way have shown
 node-sound : (c : tie.Else1) → nodeOk (c .before .before .before .before .before .before .args .node) ≡ true
@@ -22,46 +25,61 @@ node-sound c = sym (c .before .node-ok .ensures) ∙ not-false _ (c .if1 .left)
 eeprom-size : (c : tie.Else2) → length (c .before .before .before .before .before .before .before .before .args .eeprom .now) ≡ sizeOf Eeprom
 eeprom-size c = c .if2 .left ∙ c .before .size-of .ensures .0
 
-external-size : (c : tie.Else3) → length (c .before .before .before .before .before .before .before .before .before .before .args .external .now) ≡ sizeOf External
-external-size c = c .if3 .left ∙ c .before .size-of2 .ensures .0
+-- the start, from where all tests are passed
+abbrev start : tie.Else3 → tie.Start
+start c = c .before .before .before .before .before .before .before .before .before .before
+
+sound : (c : tie.Else3) → SoundState (stateAt (start c))
+sound c =
+    record {
+      node-ok = node-sound (c .before .before .before .before);
+      eeprom-size = eeprom-size (c .before .before);
+      external-size = c .if3 .left ∙ c .before .size-of2 .ensures .0;
+    }
+
+compiled : (k : tie.After-compile) → let s = start (k .before .before .before) in
+    Compiled (s .args .book .now) (s .args .scene) (stateAt s) (s .args .out .now) (compileResult (k .compile .result) (k .compile .last .1 .1 .1 .1 .0))
+compiled k = record { sound = sound (k .before .before .before); result-is = k .compile .ensures }
 
 returns : tie.Need-returns
 returns c =
-    let a = c .before .before .before .before .before .before .before .args in
+    let s = c .before .before .before .before .before .before .before in
+    let a = s .args in
     ap (λ (r : SceneAnswer). sceneResult r (a .eeprom .now) (a .external .now) (a .out .now)) (c .answer .ensures)
-    ∙ run-unsound (a .book .now) (a .scene) (state (a .node) (a .eeprom .now) (a .external .now)) (a .out .now) (sym (c .before .before .node-ok .ensures) ∙ not-true _ (c .before .if1 .taken))
+    ∙ run-unsound (a .book .now) (a .scene) (stateAt s) (a .out .now) (sym (c .before .before .node-ok .ensures) ∙ not-true _ (c .before .if1 .taken))
 
 returns-2 : tie.Need-returns-2
 returns-2 c =
-    let a = c .before .before .before .before .before .before .before .before .before .args in
+    let s = c .before .before .before .before .before .before .before .before .before in
+    let a = s .args in
     ap (λ (r : SceneAnswer). sceneResult r (a .eeprom .now) (a .external .now) (a .out .now)) (c .answer2 .ensures)
-    ∙ run-eeprom (a .book .now) (a .scene) (state (a .node) (a .eeprom .now) (a .external .now)) (a .out .now) (node-sound (c .before .before .before)) (λ z. c .before .if2 .taken (z ∙ sym (c .before .before .size-of .ensures .0)))
+    ∙ run-eeprom (a .book .now) (a .scene) (stateAt s) (a .out .now) (node-sound (c .before .before .before))
+    (λ z. c .before .if2 .taken (z ∙ sym (c .before .before .size-of .ensures .0)))
 
 returns-3 : tie.Need-returns-3
 returns-3 c =
-    let a = c .before .before .before .before .before .before .before .before .before .before .before .args in
+    let s = c .before .before .before .before .before .before .before .before .before .before .before in
+    let a = s .args in
     ap (λ (r : SceneAnswer). sceneResult r (a .eeprom .now) (a .external .now) (a .out .now)) (c .answer3 .ensures)
-    ∙ run-external (a .book .now) (a .scene) (state (a .node) (a .eeprom .now) (a .external .now)) (a .out .now) (node-sound (c .before .before .before .before .before)) (eeprom-size (c .before .before .before)) (λ z. c .before .if3 .taken (z ∙ sym (c .before .before .size-of2 .ensures .0)))
+    ∙ run-external (a .book .now) (a .scene) (stateAt s) (a .out .now) (node-sound (c .before .before .before .before .before)) (eeprom-size (c .before .before .before))
+    (λ z. c .before .if3 .taken (z ∙ sym (c .before .before .size-of2 .ensures .0)))
 
 returns-4 : tie.Need-returns-4
 returns-4 c =
     let k = c .before .before .before .before .before in
-    let a = k .before .before .before .before .before .before .before .before .before .before .before .before .before .args in
+    let a = start (k .before .before .before) .args in
     ap (λ (r : SceneAnswer). sceneResult r (a .eeprom .now) (a .external .now) (k .compile .last .1 .1 .1 .1 .0)) (c .answer4 .ensures)
-    ∙ run-refused (a .book .now) (a .scene) (state (a .node) (a .eeprom .now) (a .external .now)) (a .out .now) (node-sound (k .before .before .before .before .before .before .before)) (eeprom-size (k .before .before .before .before .before)) (external-size (k .before .before .before)) (compileResult (k .compile .result) (k .compile .last .1 .1 .1 .1 .0)) (k .compile .ensures) (c .before .if4 .taken)
+    ∙ run-refused (compiled k) (c .before .if4 .taken)
 
 handle-output-requires : tie.Need-handle-output-requires
-handle-output-requires c κs =
-    let k = c .before .before .before .before .before .before .before in
-    let a = k .before .before .before .before .before .before .before .before .before .before .before .before .before .args in
-    run-complete (a .book .now) (a .scene) (state (a .node) (a .eeprom .now) (a .external .now)) (a .out .now) (node-sound (k .before .before .before .before .before .before .before)) (eeprom-size (k .before .before .before .before .before)) (external-size (k .before .before .before)) (compileResult (k .compile .result) (k .compile .last .1 .1 .1 .1 .0)) (k .compile .ensures) (c .before .before .before .if4 .left)
+handle-output-requires c κs = run-complete (compiled (c .before .before .before .before .before .before .before)) (c .before .before .before .if4 .left)
 
 returns-5 : tie.Need-returns-5
 returns-5 c =
-    let k = c .before .before .before .before .before .before .before .before .before .before .before .before .before in
-    let a = k .before .before .before .before .before .before .before .before .before .before .before .before .before .args in
-    ap (λ (r : SceneAnswer). sceneResult r (c .before .before .before .before .before .handle-output .last .1 .1 .0) (c .before .before .before .before .before .handle-output .last .1 .1 .1 .0) (k .compile .last .1 .1 .1 .1 .0)) (c .answer5 .ensures)
-    ∙ run-done (a .book .now) (a .scene) (state (a .node) (a .eeprom .now) (a .external .now)) (a .out .now) (node-sound (k .before .before .before .before .before .before .before)) (eeprom-size (k .before .before .before .before .before)) (external-size (k .before .before .before)) (compileResult (k .compile .result) (k .compile .last .1 .1 .1 .1 .0)) (k .compile .ensures) (c .before .before .before .before .before .before .before .before .before .if4 .left) _ (c .before .before .before .before .before .handle-output .ensures)
+    let o = c .before .before .before .before .before in
+    let k = o .before .before .before .before .before .before .before .before in
+    ap (λ (r : SceneAnswer). sceneResult r (o .handle-output .last .1 .1 .0) (o .handle-output .last .1 .1 .1 .0) (k .compile .last .1 .1 .1 .1 .0)) (c .answer5 .ensures)
+    ∙ run-done (compiled k) (o .before .before .before .before .if4 .left) _ (o .handle-output .ensures)
 
 pub run-scene-spec : {M : Type 1} → statement M
 run-scene-spec =

@@ -19,7 +19,9 @@ compile-scene-requires c κs = batch-limits
 
 returns-2 : tie.Need-returns-2
 unfolding compileFor
-returns-2 c = rw (sym (c .before .before .before .before .before .before .address-ok .ensures) ∙ not-false _ (c .before .before .before .before .before .if1 .left)) (c .before .before .compile-scene .ensures)
+returns-2 c =
+    let e = c .before .before .before .before .before in
+    rw (sym (e .before .address-ok .ensures) ∙ not-false _ (e .if1 .left)) (c .before .before .compile-scene .ensures)
 
 pub compile-spec : {M : Type 1} → statement M
 compile-spec =

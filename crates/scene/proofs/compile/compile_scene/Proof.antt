@@ -19,17 +19,19 @@ use Rattle.scene.proofs.compile.compile_scene.Tie as tie
 book : (c : tie.Else1) → bookOk (c .before .before .before .before .before .args .book .now) ≡ true
 book c = sym (c .before .book-ok .ensures) ∙ not-false _ (c .if1 .left)
 
-below : (c : tie.Else2) → let a = c .before .before .before .before .before .before .before .before .args in a .scene < sceneCount (a .book .now)
+abbrev start : tie.Else2 → tie.Start
+start c = c .before .before .before .before .before .before .before .before
+
+below : (c : tie.Else2) → let a = start c .args in a .scene < sceneCount (a .book .now)
 below c = rw (c .before .wide .ensures .0) at (c .if2 .left)
 
 -- the scene's steps lie in the book
-inside : (c : tie.After-scene-location) → let a = c .before .before .before .before .before .before .before .before .before .args in
-    let n = c .scene-location .result in
+inside : (d : tie.After-scene-location) → let a = start (d .before) .args in
+    let n = d .scene-location .result in
     (n .offset + stepLength * n .steps ≤ length (a .book .now)) × (n .steps ≤ stepsMax)
-inside c =
-    let s = c .before .before .before .before .before .before .before .before .before in
-    let p = c .scene-location .ensures in
-    rw (p .0) (body-within (s .args .book .now) (s .args .scene) (book (c .before .before .before .before)) (below (c .before)))
+inside d =
+    let a = start (d .before) .args in
+    rw (d .scene-location .ensures .0) (body-within (a .book .now) (a .scene) (book (d .before .before .before .before)) (below (d .before)))
 
 returns : tie.Need-returns
 unfolding compileScene
@@ -58,7 +60,7 @@ part-compile-steps-start c = omega (arith, inside c)
 compile-steps-requires : tie.Need-compile-steps-requires
 compile-steps-requires c κs =
     let d = c .before .before in
-    let s = d .before .before .before .before .before .before .before .before .before in
+    let s = start (d .before) in
     let b = s .args .book .now in
     let i = inside d in
     rw (slice-to-end (d .scene-location .result .offset) b)
@@ -68,7 +70,7 @@ returns-3 : tie.Need-returns-3
 unfolding compileScene
 returns-3 c =
     let d = c .before .before .before .before .before in
-    let s = d .before .before .before .before .before .before .before .before .before in
+    let s = start (d .before) in
     let b = s .args .book .now in
     let p = d .scene-location .ensures in
     let scene : sceneOf b (s .args .scene) ≡ stepsIn (d .scene-location .result .steps) (drop (d .scene-location .result .offset) b) =

@@ -1,6 +1,6 @@
 -- `request::write_output`: the length bytes from byte 1 on, their count, then the requests.
 use mathlib.Core.List.{List}
-use mathlib.Core.Path.{_∙_}
+use mathlib.Core.Path.{_≡_, _∙_}
 use Prim.Native.Nat.{ℕ, suc, _+_, _≤_}
 use native.Mathlib.Omega.{arith}
 use lib.ListN.{length, length-set}
@@ -33,15 +33,21 @@ write-lengths-requires c κs =
     let s = c .before .before .before .before .before in
     (s .pre .0, s .pre .1, s .pre .2, s .pre .3, omega arith, λ f. omega (arith, room s f))
 
-sub-requests : tie.Need-sub-requests
-sub-requests c = let s = c .before .before .before .before .before .before .before .before .before in omega (arith, c .before .before .before .write-lengths .ensures .0 (s .args .header) .0)
+-- the start, from where the length bytes are written
+abbrev start : tie.After-write-lengths → tie.Start
+start k = k .before .before .before .before .before .before
+
+-- the place after them
+after-lengths : (k : tie.After-write-lengths) → k .write-lengths .result ≡ 1 + length (requests (start k) (start k .args .header))
+after-lengths k = k .write-lengths .ensures .0 (start k .args .header) .0
 
 cast-out : tie.Need-cast-out
 cast-out c =
-    let s = c .before .before .before .before .before .before .before .before .before in
+    let k = c .before .before .before in
+    let s = start k in
     omega (
       arith,
-      c .before .before .before .write-lengths .ensures .0 (s .args .header) .0,
+      after-lengths k,
       request-count (s .args .limits) (s .args .header) (s .args .front .now) (stepsIn (s .args .count) (s .args .body .now)),
       steps-length (s .args .count) (s .args .body .now),
       s .pre .1,
@@ -49,14 +55,15 @@ cast-out c =
 
 write-requests-requires : tie.Need-write-requests-requires
 write-requests-requires c κs =
-    let s = c .before .before .before .before .before .before .before .before .before .before .before in
-    let p = c .before .before .before .before .before .write-lengths in (
+    let k = c .before .before .before .before .before in
+    let s = start k in
+    let p = k .write-lengths in (
       s .pre .0,
       s .pre .1,
       s .pre .2,
       s .pre .3,
       p .ensures .1,
-      rw length-set (omega (arith, room s (s .args .header), p .ensures .0 (s .args .header) .0, p .kept .1 .1 .1 .1 .1 .0)),
+      rw length-set (omega (arith, room s (s .args .header), after-lengths k, p .kept .1 .1 .1 .1 .1 .0)),
     )
 
 same-length : tie.Need-same-length
@@ -66,8 +73,9 @@ same-length c =
 
 returns : tie.Need-returns
 returns c =
-    let s = c .before .before .before .before .before .before .before .before .before .before .before .before .before .before in
-    let p = c .before .before .before .before .before .before .before .before .write-lengths in
+    let k = c .before .before .before .before .before .before .before .before in
+    let s = start k in
+    let p = k .write-lengths in
     let l = p .ensures .0 (s .args .header) in
     let q = c .before .before .write-requests .ensures in
     output-written (s .args .out .now) (p .last .1 .1 .1 .1 .1 .0) _ (requests s (s .args .header)) _ (p .result) _ (omega (arith, l .0))
@@ -75,5 +83,5 @@ returns c =
 
 pub write-output-spec : {M : Type 1} → statement M
 write-output-spec =
-    tie.close (tie.spec (λ c. search needs) write-lengths-requires sub-requests cast-out (λ c. search needs)
+    tie.close (tie.spec (λ c. search needs) write-lengths-requires (λ c. omega (arith, after-lengths (c .before .before .before))) cast-out (λ c. search needs)
     (λ c. search needs) write-requests-requires same-length returns)
