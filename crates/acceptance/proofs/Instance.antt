@@ -18,7 +18,7 @@ use Rattle.node.specs.Node.{shapeOk, lampsOk, nodeOk}
 use Rattle.handler.specs.Request.{State, state, batchPcmd}
 use Rattle.book.specs.Book.{chained, bookOk, sceneOf}
 use Rattle.book.specs.Step.{stepTimeOk, lampFault, byteFault, stepFault}
-use Rattle.book.specs.Machine.{wellFormed, machineLevel, machineSeconds, machineLamps, machineEffect, machineStep, machine}
+use Rattle.book.specs.Machine.{timeFormed, wellFormed, machineLevel, machineSeconds, machineLamps, machineEffect, machineStep, machine}
 use Rattle.book.specs.Entry.{powerBytes, entryData, pnumOf, pcmdOf}
 use Rattle.book.specs.Join.{follows, entryLimit}
 use Rattle.scene.specs.Compile.{listLimit, batchesOf, sceneRequests}
@@ -103,7 +103,7 @@ afterwards =
     (1 ∷ 0x21 ∷ 0x22 ∷ 4 ∷ []) (0x24 ∷ 0x23 ∷ [])
 
 machine-leaves : machine (sceneOf book 1) before ≡ afterwards
-unfolding sceneOf stepTimeOk wellFormed machineLevel machineSeconds machineLamps machineEffect machineStep
+unfolding sceneOf timeFormed wellFormed machineLevel machineSeconds machineLamps machineEffect machineStep
 machine-leaves = refl
 
 -- condition 3 for the requests of the compiling rule

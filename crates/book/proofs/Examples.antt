@@ -7,8 +7,8 @@ use Rattle.lights.specs.Lamp.{lamp, off}
 use Rattle.handler.specs.Request.{State}
 use Rattle.book.specs.declared.step.Step.{Step}
 use Rattle.book.specs.Book.{sceneOf}
-use Rattle.book.specs.Step.{setKind, raiseKind, lowerKind, stepTimeOk}
-use Rattle.book.specs.Machine.{wellFormed, machineLevel, machineSeconds, machineLamps, machineEffect, machineStep, machine}
+use Rattle.book.specs.Step.{setKind, raiseKind, lowerKind}
+use Rattle.book.specs.Machine.{timeFormed, wellFormed, machineLevel, machineSeconds, machineLamps, machineEffect, machineStep, machine}
 use Rattle.book.specs.Examples.{freshState, book}
 
 -- one lamp with step 10: set 15, +6, -10, -9, -100, +0; the machine starts from the requested level, not the actual one
@@ -21,12 +21,12 @@ levels (s ∷ ss) st = getD (machineStep s st .node .lamps) 0 off .level ∷ lev
 
 pub machine-table :
     levels (step setKind 15 ∷ step raiseKind 6 ∷ step lowerKind 10 ∷ step lowerKind 9 ∷ step lowerKind 100 ∷ step raiseKind 0 ∷ []) (freshState 1 10) ≡ 15 ∷ 21 ∷ 11 ∷ 2 ∷ 0 ∷ 0 ∷ []
-unfolding stepTimeOk wellFormed machineLevel machineSeconds machineLamps machineEffect machineStep
+unfolding timeFormed wellFormed machineLevel machineSeconds machineLamps machineEffect machineStep
 machine-table = refl
 
 -- the step machine on a node with three lamps, as sceneshow prints it
 pub shown-book :
     take 3 (machine (sceneOf book 0) (freshState 3 1) .node .lamps)
     ≡ lamp 10 0 ∷ lamp 0 0 ∷ lamp 100 120 ∷ []
-unfolding sceneOf stepTimeOk wellFormed machineLevel machineSeconds machineLamps machineEffect machineStep
+unfolding sceneOf timeFormed wellFormed machineLevel machineSeconds machineLamps machineEffect machineStep
 shown-book = refl

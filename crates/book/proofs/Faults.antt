@@ -3,18 +3,18 @@ use mathlib.Core.Bool.{Bool, true, false, cond, _&&_}
 use mathlib.Core.List.{List, [], _∷_}
 use mathlib.Core.Logic.{_↔_}
 use mathlib.Core.Option.{Option, none, some}
-use mathlib.Core.Path.{_≡_, refl}
-use Prim.Native.Nat.{ℕ, suc, _≤_, _<_}
+use mathlib.Core.Path.{_≡_, refl, sym, _∙_}
+use Prim.Native.Nat.{ℕ, suc, _≤_, _<_, _%_}
 use native.Mathlib.Omega.{arith}
 use lib.Dec.{ltb, leb, eqb}
-use borrow.Author.Tests.{eqb-true, eq-eqb, ne-eqb, ltb-true, ltb-false, leb-true, leb-false, lt-ltb, le-ltb, lt-leb, le-leb}
+use borrow.Author.Tests.{eqb-true, eqb-false, eq-eqb, ne-eqb, ltb-true, ltb-false, leb-true, leb-false, lt-ltb, le-ltb, lt-leb, le-leb}
 use Rattle.dpa.proofs.Bool.{by-test, both, and-left, and-right, else-taken, then-taken}
 use Rattle.memory.specs.Block.{sizeOf}
 use Rattle.memory.specs.declared.block.Memory.the-variants.{Eeprom, Ram}
 use Rattle.dpa.specs.Lists.{All}
 use Rattle.book.specs.declared.step.Step.{Step}
 use Rattle.book.specs.Step.{ramKind, eepromKind, isLamp, maxLamps, maxLevel, noFault, kindFault, targetFault, valueFault, timeFault, stepTimeOk, lampFault, byteFault, stepFault, goodStep, firstBadFrom}
-use Rattle.book.specs.Machine.{lampFormed, byteFormed, wellFormed}
+use Rattle.book.specs.Machine.{timeFormed, lampFormed, byteFormed, wellFormed}
 
 abbrev pub Good : Step → Type 0
 Good s = goodStep s ≡ true
@@ -69,8 +69,15 @@ eeprom-good s g h =
 
 -- ---- the step machine's rule agrees
 
+time-agrees : (t : ℕ) → timeFormed t ≡ stepTimeOk t
+unfolding timeFormed stepTimeOk
+time-agrees t =
+    by-test (eqb (t % 128) 0)
+    (λ z. rw (z, le-ltb 0 (t % 128) (omega (arith, eqb-true (t % 128) 0 z))))
+    (λ n. rw (n, lt-ltb 0 (t % 128) (omega (arith, eqb-false (t % 128) 0 n))))
+
 lamp-formed : (s : Step) → LampGood s → lampFormed s ≡ true
-lamp-formed s p = both (both (lt-ltb _ _ (p .target-max)) (le-leb _ _ (p .value-max))) (p .time-valid)
+lamp-formed s p = both (both (lt-ltb _ _ (p .target-max)) (le-leb _ _ (p .value-max))) (time-agrees (s .time) ∙ p .time-valid)
 
 byte-formed : (size : ℕ) (s : Step) → ByteGood size s → byteFormed size s ≡ true
 byte-formed size s p = both (lt-ltb _ _ (p .target-max)) (eq-eqb _ _ (p .no-time))
@@ -82,7 +89,7 @@ formed-lamp s e =
     rw (
       lt-leb maxLamps (s .target) (ltb-true _ _ (and-left _ _ f)),
       le-ltb maxLevel (s .value) (leb-true _ _ (and-right (ltb (s .target) maxLamps) _ f)),
-      and-right (ltb (s .target) maxLamps && leb (s .value) maxLevel) _ e,
+      sym (time-agrees (s .time)) ∙ and-right (ltb (s .target) maxLamps && leb (s .value) maxLevel) _ e,
     )
 
 formed-byte : (size : ℕ) (s : Step) → byteFormed size s ≡ true → byteFault size s ≡ noFault

@@ -12,13 +12,17 @@ use Rattle.lights.specs.declared.lamp.Lamp.{Lamp}
 use Rattle.node.specs.Node.{withLamps, withRam}
 use Rattle.handler.specs.Request.{State, withNode, withEeprom}
 use Rattle.book.specs.declared.step.Step.{Step}
-use Rattle.book.specs.Step.{setKind, raiseKind, ramKind, eepromKind, isLamp, maxLamps, maxLevel, stepTimeOk}
+use Rattle.book.specs.Step.{setKind, raiseKind, ramKind, eepromKind, isLamp, maxLamps, maxLevel}
 
 -- ---- which steps are not bad. The machine has its own rule, independent of the compiler's (`stepFault`).
 
+-- time 0, or a time byte: a nonzero number in the low seven bits
+unfoldable pub timeFormed : ℕ → Bool
+timeFormed t = eqb t 0 || ltb 0 (t % 128)
+
 -- a lamp step: target below 32, value at most 100, time 0 or a valid time byte
 abbrev pub lampFormed : Step → Bool
-lampFormed s = ltb (s .target) maxLamps && leb (s .value) maxLevel && stepTimeOk (s .time)
+lampFormed s = ltb (s .target) maxLamps && leb (s .value) maxLevel && timeFormed (s .time)
 
 -- a step that writes a byte of a memory of this size: target in the memory, no time
 abbrev pub byteFormed : ℕ → Step → Bool
