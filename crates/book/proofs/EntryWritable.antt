@@ -5,11 +5,13 @@ use Prim.Native.Nat.{ℕ, zero, suc, _+_, _*_, _≤_, _<_}
 use native.Mathlib.Omega.{arith}
 use lib.ListN.{length, getD, take, drop}
 use borrow.Author.Tests.{eqb-true, ltb-true}
+use Rattle.lights.specs.Lamp.{maxLevel}
+use Rattle.dpa.specs.Settings.{maxLamps}
 use Rattle.dpa.proofs.Bool.{and-left}
 use Rattle.dpa.specs.Lists.{All}
 use Rattle.book.specs.declared.step.Step.{Step}
 use Rattle.book.specs.Book.{stepLength, stepsIn}
-use Rattle.book.specs.Step.{ramKind, maxLamps, maxLevel}
+use Rattle.book.specs.Step.{ramKind}
 use Rattle.book.specs.Join.{follows, entriesOf}
 use Rattle.book.specs.EntrySize.{oneStepMax, FirstEntry}
 use Rattle.book.specs.Writing.{AllStepsGood, EntryWritable}

@@ -8,12 +8,14 @@ use Prim.Native.Nat.{ℕ, suc, _≤_, _<_, _%_}
 use native.Mathlib.Omega.{arith}
 use lib.Dec.{ltb, leb, eqb}
 use borrow.Author.Tests.{eqb-true, eqb-false, eq-eqb, ne-eqb, ltb-true, ltb-false, leb-true, leb-false, lt-ltb, le-ltb, lt-leb, le-leb}
+use Rattle.lights.specs.Lamp.{maxLevel}
+use Rattle.dpa.specs.Settings.{maxLamps}
 use Rattle.dpa.proofs.Bool.{by-test, both, and-left, and-right, else-taken, then-taken}
 use Rattle.memory.specs.Block.{sizeOf}
 use Rattle.memory.specs.declared.block.Memory.the-variants.{Eeprom, Ram}
 use Rattle.dpa.specs.Lists.{All}
 use Rattle.book.specs.declared.step.Step.{Step}
-use Rattle.book.specs.Step.{ramKind, eepromKind, isLamp, maxLamps, maxLevel, noFault, kindFault, targetFault, valueFault, timeFault, stepTimeOk, lampFault, byteFault, stepFault, goodStep, firstBadFrom}
+use Rattle.book.specs.Step.{ramKind, eepromKind, isLamp, noFault, kindFault, targetFault, valueFault, timeFault, stepTimeOk, lampFault, byteFault, stepFault, goodStep, firstBadFrom}
 use Rattle.book.specs.Machine.{timeFormed, lampFormed, byteFormed, wellFormed}
 
 abbrev pub Good : Step → Type 0

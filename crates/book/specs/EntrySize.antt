@@ -5,6 +5,7 @@ use mathlib.Core.Path.{_≡_}
 use Prim.Native.Nat.{ℕ, _+_, _≤_}
 use lib.Dec.{leb, eqb}
 use lib.ListN.{length, take, drop}
+use Rattle.lights.specs.Bits.{bitmapSize}
 use Rattle.dpa.specs.Frame.{pdataMax}
 use Rattle.book.specs.declared.step.Step.{Step}
 use Rattle.book.specs.Step.{isLamp}
@@ -18,16 +19,13 @@ powerSize s = cond (eqb (s .time) 0) 1 2
 unfoldable pub stepSize : ℕ → Step → ℕ
 stepSize k s = cond (isLamp k) (powerSize s) 1
 
--- what the PData of an entry starts with: a bitmap, or a memory's address
-abbrev pub bitmapLength : ℕ
-bitmapLength = 4
-
+-- a memory entry's PData starts with an address; a lamp entry's with a bitmap (`bitmapSize`)
 abbrev pub addressLength : ℕ
 addressLength = 1
 
 -- the PData size of an entry of one step, and the largest such size
 unfoldable pub firstSize : Step → ℕ
-firstSize s = stepSize (s .kind) s + cond (isLamp (s .kind)) bitmapLength addressLength
+firstSize s = stepSize (s .kind) s + cond (isLamp (s .kind)) bitmapSize addressLength
 
 abbrev pub oneStepMax : ℕ
 oneStepMax = 6

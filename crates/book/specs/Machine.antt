@@ -5,14 +5,15 @@ use mathlib.Core.List.{List, [], _∷_}
 use Prim.Native.Nat.{ℕ, _+_, _-_, _*_, _%_, min}
 use lib.Dec.{ltb, leb, eqb}
 use lib.ListN.{getD, set}
+use Rattle.dpa.specs.Settings.{maxLamps}
 use Rattle.memory.specs.Block.{sizeOf}
 use Rattle.memory.specs.declared.block.Memory.the-variants.{Eeprom, Ram}
-use Rattle.lights.specs.Lamp.{changed, off}
+use Rattle.lights.specs.Lamp.{changed, off, maxLevel}
 use Rattle.lights.specs.declared.lamp.Lamp.{Lamp}
 use Rattle.node.specs.Node.{withLamps, withRam}
 use Rattle.handler.specs.Request.{State, withNode, withEeprom}
 use Rattle.book.specs.declared.step.Step.{Step}
-use Rattle.book.specs.Step.{setKind, raiseKind, ramKind, eepromKind, isLamp, maxLamps, maxLevel}
+use Rattle.book.specs.Step.{setKind, raiseKind, ramKind, eepromKind, isLamp}
 
 -- ---- which steps are not bad. The machine has its own rule, independent of the compiler's (`stepFault`).
 

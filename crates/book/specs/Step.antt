@@ -4,6 +4,8 @@ use mathlib.Core.List.{List, [], _∷_}
 use mathlib.Core.Option.{Option, none, some}
 use Prim.Native.Nat.{ℕ, suc, _%_}
 use lib.Dec.{ltb, leb, eqb}
+use Rattle.dpa.specs.Settings.{maxLamps}
+use Rattle.lights.specs.Lamp.{maxLevel}
 use Rattle.memory.specs.Block.{sizeOf}
 use Rattle.memory.specs.declared.block.Memory.the-variants.{Eeprom, Ram}
 use Rattle.book.specs.declared.step.Step.{Step}
@@ -27,13 +29,6 @@ eepromKind = 4
 -- lamp steps have the first three kinds
 abbrev pub isLamp : ℕ → Bool
 isLamp k = ltb k ramKind
-
--- ---- limits of a lamp step: its target is below `maxLamps`, its value at most `maxLevel`
-abbrev pub maxLamps : ℕ
-maxLamps = 32
-
-abbrev pub maxLevel : ℕ
-maxLevel = 100
 
 -- ---- faults: the part of a step that is bad
 abbrev pub noFault : ℕ

@@ -3,8 +3,11 @@ use mathlib.Core.Bool.{true}
 use mathlib.Core.List.{List, _∷_, []}
 use mathlib.Core.Path.{_≡_}
 use Prim.Native.Nat.{ℕ, _+_, _≤_, _<_}
+use Rattle.batch.specs.Batch.{entryHead}
+use Rattle.lights.specs.Lamp.{maxLevel}
+use Rattle.dpa.specs.Settings.{maxLamps}
 use Rattle.dpa.specs.Number.{low, high}
-use Rattle.book.specs.Step.{maxLamps, maxLevel, goodStep, isLamp}
+use Rattle.book.specs.Step.{goodStep, isLamp}
 use Rattle.book.specs.Entry.{pnumOf, pcmdOf}
 use Rattle.book.specs.Positions.{stepAt}
 
@@ -25,8 +28,5 @@ abbrev pub EntryWritable : List ℕ → ℕ → Type 0
 EntryWritable body n = isLamp (stepAt body 0 .kind) ≡ true → LampStepsInRange body n
 
 -- the bytes before an entry's PData
-abbrev pub headLength : ℕ
-headLength = 5
-
-abbrev pub entryHead : ℕ → ℕ → ℕ → List ℕ
-entryHead kind h size = (headLength + size) ∷ pnumOf kind ∷ pcmdOf kind ∷ low h ∷ high h ∷ []
+abbrev pub entryHeadBytes : ℕ → ℕ → ℕ → List ℕ
+entryHeadBytes kind h size = (entryHead + size) ∷ pnumOf kind ∷ pcmdOf kind ∷ low h ∷ high h ∷ []

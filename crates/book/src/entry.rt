@@ -14,10 +14,10 @@ ghost use Prim.Native.Nat.{_+_, _*_, _≤_, _<_};
 ghost use lib.ListN.{length, drop};
 ghost use lib.Seq.{sets};
 ghost use Rattle.dpa.specs.Frame.{pdataMax};
-ghost use Rattle.batch.specs.Batch.{entryBytes};
+ghost use Rattle.batch.specs.Batch.{entryBytes, entryHead};
 ghost use Rattle.book.specs.Book.{stepsMax, stepLength, stepsIn};
 ghost use Rattle.book.specs.Entry.{values, groupData, pnumOf, pcmdOf, joinedItem};
-ghost use Rattle.book.specs.Writing.{headLength, EntryWritable, entryHead};
+ghost use Rattle.book.specs.Writing.{EntryWritable, entryHeadBytes};
 
 // The write command of RAM and EEPROM.
 const WRITE: u8 = 0x01;
@@ -59,8 +59,8 @@ fn pcmd_of(kind: u8) -> u8
 
 // Writes the bytes of an entry before its PData; returns the position after them.
 fn write_head(kind: u8, hwpid: u16, size: usize, out: &mut [u8], at: usize) -> usize
-    requires { ⌜ (at + headLength ≤ length (now out)) × (size ≤ pdataMax) ⌝ }
-    ensures { λ r. ⌜ (r ≡ at + headLength) × (now (out .exit) ≡ sets (now (out .entry)) at (entryHead kind hwpid size)) ⌝ }
+    requires { ⌜ (at + entryHead ≤ length (now out)) × (size ≤ pdataMax) ⌝ }
+    ensures { λ r. ⌜ (r ≡ at + entryHead) × (now (out .exit) ≡ sets (now (out .entry)) at (entryHeadBytes kind hwpid size)) ⌝ }
 {
     let head = [
         (HEAD + size) as u8,
@@ -100,8 +100,8 @@ fn write_entry(
     at: usize,
 ) -> usize
     requires { ⌜ (stepLength * count ≤ length (now body)) × (0 < count) × (count ≤ stepsMax) × (size ≤ pdataMax)
-        × (size ≡ length (groupData (stepsIn count (now body)))) × (at + headLength + size ≤ length (now out)) × EntryWritable (now body) count ⌝ }
-    ensures { λ r. ⌜ (r ≡ at + headLength + size)
+        × (size ≡ length (groupData (stepsIn count (now body)))) × (at + entryHead + size ≤ length (now out)) × EntryWritable (now body) count ⌝ }
+    ensures { λ r. ⌜ (r ≡ at + entryHead + size)
         × (now (out .exit) ≡ sets (now (out .entry)) at (entryBytes (joinedItem hwpid (stepsIn count (now (body .entry)))))) ⌝ }
 {
     let step = step_at(body, 0);
@@ -120,9 +120,9 @@ pub fn write_entry_at(
     at: usize,
 ) -> usize
     requires { ⌜ (stepLength * (done + steps) ≤ length (now body)) × (0 < steps) × (done + steps ≤ stepsMax) × (size ≤ pdataMax)
-        × (size ≡ length (groupData (stepsIn steps (drop (stepLength * done) (now body))))) × (at + headLength + size ≤ length (now out))
+        × (size ≡ length (groupData (stepsIn steps (drop (stepLength * done) (now body))))) × (at + entryHead + size ≤ length (now out))
         × EntryWritable (drop (stepLength * done) (now body)) steps ⌝ }
-    ensures { λ r. ⌜ (r ≡ at + headLength + size)
+    ensures { λ r. ⌜ (r ≡ at + entryHead + size)
         × (now (out .exit) ≡ sets (now (out .entry)) at (entryBytes (joinedItem hwpid (stepsIn steps (drop (stepLength * done) (now (body .entry))))))) ⌝ }
 {
     let start = STEP_LENGTH * done;

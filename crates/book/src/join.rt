@@ -1,10 +1,10 @@
 // Joining steps into entries.
 use crate::kind::is_lamp;
-use crate::power::BITMAP_LENGTH;
 use crate::step::STEP_LENGTH;
 use crate::step::Step;
 use crate::step::step_at;
 use dpa::number::wide;
+use lights::power::BITMAP_SIZE;
 ghost use mathlib.Core.Path.{_≡_};
 ghost use Prim.Native.Nat.{_+_, _*_, _-_, _≤_, _<_};
 ghost use lib.ListN.{length, drop};
@@ -48,7 +48,7 @@ fn first_size(step: Step) -> usize
 {
     let kind = step.kind;
     if is_lamp(kind) {
-        step_size(kind, step) + BITMAP_LENGTH
+        step_size(kind, step) + BITMAP_SIZE
     } else {
         step_size(kind, step) + ADDRESS_LENGTH
     }

@@ -6,14 +6,12 @@ ghost use mathlib.Core.Path.{_≡_};
 ghost use Prim.Native.Nat.{_+_, _*_, _^_, _≤_, _<_};
 ghost use lib.ListN.{length};
 ghost use lib.Seq.{sets};
+ghost use Rattle.lights.specs.Bits.{bitmapSize};
+ghost use Rattle.lights.specs.Lamp.{maxLevel};
+ghost use Rattle.dpa.specs.Settings.{maxLamps};
 ghost use Rattle.book.specs.Book.{stepsMax, stepLength, stepsIn};
-ghost use Rattle.book.specs.Step.{maxLamps, maxLevel};
-ghost use Rattle.book.specs.EntrySize.{bitmapLength};
 ghost use Rattle.book.specs.Entry.{powerBytes, powersBytes, bitmapOf, bitmapBytes};
 ghost use Rattle.book.specs.Writing.{LampStepsInRange, maxBitmap};
-
-// The bytes of a bitmap.
-pub const BITMAP_LENGTH: usize = 4;
 
 // Bit 7 of a power byte: a time byte follows.
 const TIME_BIT: u8 = 128;
@@ -73,8 +71,8 @@ pub fn bitmap_of(body: &[u8], count: usize) -> u64
 
 // Writes the bytes of a bitmap; returns the position after them.
 pub fn write_bitmap(bitmap: u64, out: &mut [u8], at: usize) -> usize
-    requires { ⌜ at + bitmapLength ≤ length (now out) ⌝ }
-    ensures { λ r. ⌜ (r ≡ at + bitmapLength) × (now (out .exit) ≡ sets (now (out .entry)) at (bitmapBytes bitmap)) ⌝ }
+    requires { ⌜ at + bitmapSize ≤ length (now out) ⌝ }
+    ensures { λ r. ⌜ (r ≡ at + bitmapSize) × (now (out .exit) ≡ sets (now (out .entry)) at (bitmapBytes bitmap)) ⌝ }
 {
     let bytes = [
         (bitmap % 256) as u8,

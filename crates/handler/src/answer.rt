@@ -4,6 +4,7 @@ use dpa::refusal;
 use lights::lamp::LAMPS;
 use lights::lamp::Lamp;
 use node::record::Node;
+use node::record::RAM_SIZE;
 use node::record::ReadOnly;
 use node::record::node_from_parts;
 ghost use mathlib.Core.Path.{_≡_};
@@ -57,7 +58,7 @@ pub fn answer_unhandled(node: Node, refusal: u8) -> RequestAnswer
 }
 
 // Executed: the node is put together again from its parts.
-pub fn answer_handled(fixed: ReadOnly, done: Handled, ram: [u8; 48]) -> RequestAnswer
+pub fn answer_handled(fixed: ReadOnly, done: Handled, ram: [u8; RAM_SIZE]) -> RequestAnswer
     ensures { λ r. ⌜ r ≡ requestAnswer 0 (done .length) (done .report) true (nodeFromParts fixed (done .lamps) ram) ⌝ }
 {
     let lamps = done.lamps;

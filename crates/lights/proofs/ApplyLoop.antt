@@ -1,18 +1,19 @@
 -- The invariant of the loop in `apply`, and how each path through its body keeps it.
 use mathlib.Core.Path.{_≡_, refl, sym, ap, _∙_, subst}
 use mathlib.Core.Bool.{true, cond}
-use mathlib.Core.List.{List, [], _∷_, _++_, append-nil}
+use mathlib.Core.List.{List, _∷_, _++_, append-nil}
 use Prim.Native.Nat.{ℕ, suc, _+_, _-_, _/_, _%_, _^_, _≤_, _<_}
 use native.Mathlib.Omega.{arith}
 use lib.ListN.{length, getD, take, drop, set, length-set}
 use lib.Seq.{drop-drop, getD-drop}
 use lib.Dec.{ltb}
+use Rattle.dpa.specs.Settings.{maxLamps}
 use Rattle.dpa.specs.Lists.{overwriteFront}
 use Rattle.dpa.specs.Reply.{reply, replySeen, replyInBuffer}
 use Rattle.dpa.specs.declared.settings.Settings.{Settings}
 use Rattle.dpa.proofs.Lists.{same-tail-next, same-tail-set, front-written}
 use Rattle.lights.specs.Bits.{bitmapSize, bits, count}
-use Rattle.lights.specs.Lamp.{maxLevel, maxLamps, off, LevelsInRange, actualLevel}
+use Rattle.lights.specs.Lamp.{maxLevel, off, LevelsInRange, actualLevel}
 use Rattle.lights.specs.Lights.{PowerEntries, firstPowerEntry, isValid, prepend, powerEntries, areValid, lampAfter, lampsAfter, levelsBefore, levelsReply}
 use Rattle.lights.proofs.Bits.{bits-length, bits-more, bits-inside, bits-half}
 use Rattle.lights.proofs.PowerEntries.{changesOf, valid-changes, first-valid, valid-prepend, changes-prepend, first-room}

@@ -12,9 +12,9 @@ use lib.Bits.{block-half, block-odd}
 use lib.Count.{ones, ones-step}
 use lib.Dec.{ltb}
 use borrow.Author.Tests.{ltb-true, ltb-false}
+use Rattle.dpa.specs.Settings.{maxLamps}
 use Rattle.dpa.specs.Lists.{Bytes}
 use Rattle.dpa.proofs.Bool.{by-test}
-use Rattle.lights.specs.Lamp.{maxLamps}
 use Rattle.lights.specs.Bits.{bits, count, bitmap, maskOf}
 
 -- the first bit counts if it is 1

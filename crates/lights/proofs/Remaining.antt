@@ -9,9 +9,10 @@ use lib.ListN.{length, getD, take, drop, set, take-append-drop}
 use lib.Seq.{drop-cons, take-suc, take-suc-set, append-snoc, drop-set-lt}
 use lib.Dec.{ltb}
 use borrow.Author.Tests.{lt-ltb, le-ltb}
+use Rattle.dpa.specs.Settings.{maxLamps}
 use Rattle.dpa.specs.declared.settings.Settings.{Settings}
 use Rattle.lights.specs.Bits.{bits}
-use Rattle.lights.specs.Lamp.{maxLamps, off, actualLevel}
+use Rattle.lights.specs.Lamp.{off, actualLevel}
 use Rattle.lights.specs.Lights.{lampAfter, lampsAfter, levelsBefore}
 use Rattle.lights.proofs.Bits.{bits-more}
 use Rattle.lights.specs.declared.apply.Command.{Command}

@@ -6,10 +6,10 @@ use mathlib.Core.Bool.{false}
 use native.Mathlib.Omega.{arith}
 use lib.ListN.{length, drop}
 use borrow.Author.Tests.{lt-ltb, le-ltb, ne-eqb}
+use Rattle.dpa.specs.Settings.{maxLamps}
 use Rattle.dpa.specs.Lists.{Bytes}
 use Rattle.dpa.specs.Reply.{Reply, refused, replySeen, replyInBuffer}
 use Rattle.dpa.specs.declared.settings.Settings.{Settings}
-use Rattle.lights.specs.Lamp.{maxLamps}
 use Rattle.lights.specs.Bits.{bitmapSize, bits, count, bitmap, maskOf}
 use Rattle.lights.specs.Lights.{commandPcmd, enumeratePcmd, powerEntries, areValid, malformedError, levelsBefore, levelsReply, commandOf, changeLamps, enumerateLamps, lightsRequest}
 use Rattle.lights.proofs.Bits.{bits-mask}

@@ -7,11 +7,12 @@ use native.Mathlib.Omega.{arith}
 use lib.ListN.{length, getD, take, drop}
 use lib.Dec.{ltb, eqb}
 use borrow.Author.Tests.{ltb-false}
+use Rattle.dpa.specs.Settings.{maxLamps}
 use Rattle.dpa.specs.Reply.{Harmless, Reply, reply, refused}
 use Rattle.dpa.proofs.Bool.{by-cond}
 use Rattle.dpa.specs.declared.settings.Settings.{Settings}
 use Rattle.lights.specs.Bits.{bitmapSize, count, bitmap, isOne, selected, numberBelow}
-use Rattle.lights.specs.Lamp.{maxLamps, off, lampFits, LampRule, actualLevel}
+use Rattle.lights.specs.Lamp.{off, lampFits, LampRule, actualLevel}
 use Rattle.lights.specs.Lights.{commandPcmd, enumeratePcmd, PowerEntries, allValid, malformed, powerEntries, malformedError, lampsAfter, levelsBefore, levelsReply, changeLamps, enumerateLamps, lightsRequest}
 use Rattle.lights.proofs.Lamps.{fits-test, fits-rule, fits-above, zero-facts}
 use Rattle.lights.proofs.Bits.{count-length}

@@ -10,9 +10,9 @@ use lib.Seq.{getD-append-add, take-all}
 use lib.Dec.{ltb}
 use lib.Count.{ones}
 use borrow.Author.Tests.{ltb-true, ltb-false}
+use Rattle.dpa.specs.Settings.{maxLamps}
 use Rattle.dpa.specs.Lists.{Bytes}
 use Rattle.dpa.proofs.Bool.{by-test}
-use Rattle.lights.specs.Lamp.{maxLamps}
 use Rattle.lights.specs.Bits.{bits, count, bitmap, maskOf, isOne, selected, numberBelow}
 use Rattle.lights.proofs.Bits.{bits-length, bits-mask, ones-count}
 

@@ -8,10 +8,7 @@ use lib.Dec.{leb, ltb, eqb}
 use Rattle.dpa.specs.declared.settings.Settings.{Settings}
 use Rattle.lights.specs.declared.lamp.Lamp.{Lamp}
 
--- the most lamps of a node, the highest level, and the longest timer: 127 minutes
-abbrev pub maxLamps : ℕ
-maxLamps = 32
-
+-- the highest level, and the longest timer: 127 minutes
 abbrev pub maxLevel : ℕ
 maxLevel = 100
 

@@ -120,9 +120,14 @@ levelsBefore s n (suc b ∷ bs) (l ∷ ls) = cond (ltb 0 n) (actualLevel s (l .l
 
 -- ---- the request
 
--- ErrN of a bitmap or power entries that are malformed
+-- the ErrN of each case of a power entry
+abbrev pub powerEntryError : PowerEntry → ℕ
+powerEntryError (Valid e size) = 0
+powerEntryError Invalid = 6
+
+-- a missing bitmap, or power entries of which one is invalid or missing or that do not fill PData
 abbrev pub malformedError : ℕ
-malformedError = 6
+malformedError = powerEntryError Invalid
 
 -- the reply to set, raise and lower
 abbrev pub levelsReply : Settings → Command → List ℕ → List Lamp → PowerEntries → Reply (List Lamp)

@@ -13,9 +13,9 @@ ghost use mathlib.Core.Bool.{true};
 ghost use Prim.Native.Nat.{_≤_};
 ghost use lib.ListN.{length, drop};
 ghost use Rattle.dpa.specs.Reply.{replySeen, replyInBuffer};
-ghost use Rattle.dpa.specs.Settings.{settingsOk};
+ghost use Rattle.dpa.specs.Settings.{settingsOk, maxLamps};
 ghost use Rattle.lights.specs.Bits.{bitmapSize, bits, count};
-ghost use Rattle.lights.specs.Lamp.{maxLamps, LevelsInRange};
+ghost use Rattle.lights.specs.Lamp.{LevelsInRange};
 ghost use Rattle.lights.specs.Lights.{newLevel, lampAfter, powerEntries, areValid, levelsReply};
 
 pub enum Command {

@@ -15,9 +15,9 @@ ghost use Prim.Native.Nat.{_≤_};
 ghost use lib.ListN.{length};
 ghost use Rattle.dpa.specs.Frame.{pdataMax};
 ghost use Rattle.dpa.specs.Reply.{replySeen, replyInBuffer};
-ghost use Rattle.dpa.specs.Settings.{settingsOk};
+ghost use Rattle.dpa.specs.Settings.{settingsOk, maxLamps};
 ghost use Rattle.lights.specs.Bits.{bitmapSize, bits, count, maskOf};
-ghost use Rattle.lights.specs.Lamp.{maxLamps, LevelsInRange};
+ghost use Rattle.lights.specs.Lamp.{LevelsInRange};
 ghost use Rattle.lights.specs.Lights.{commandOf, changeLamps, enumerateLamps, lightsRequest};
 
 // PCMD of each request.

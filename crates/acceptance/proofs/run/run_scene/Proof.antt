@@ -4,7 +4,7 @@ use mathlib.Core.Path.{_≡_, ap, sym, _∙_}
 use borrow.Author.Tests.{not-true, not-false}
 use mathlib.Core.Bool.{true}
 use lib.ListN.{length}
-use Rattle.memory.specs.declared.block.Memory.the-variants.{Eeprom, External}
+use Rattle.memory.specs.declared.block.Memory.the-variants.{Eeprom}
 use Rattle.memory.specs.Block.{sizeOf}
 use Rattle.node.specs.Node.{nodeOk}
 use Rattle.handler.specs.Request.{State, SoundState, state}

@@ -8,7 +8,7 @@ use Rattle.book.specs.declared.step.Step.{Step}
 use Rattle.book.specs.Book.{stepsIn}
 use Rattle.book.specs.Entry.{groupData}
 use Rattle.book.specs.Positions.{stepAt}
-use Rattle.book.specs.Writing.{entryHead}
+use Rattle.book.specs.Writing.{entryHeadBytes}
 use Rattle.book.proofs.Writing.{two-writes, entry-split}
 use Rattle.book.proofs.entry.write_entry.Statement.{statement}
 use Rattle.book.proofs.entry.write_entry.Tie as tie
@@ -22,9 +22,9 @@ returns c =
     let head = w .write-head .ensures in
     let pdata = p .write-pdata .ensures in
     let e = entry-split (s .args .count) (s .args .body .now) (s .args .hwpid) (s .args .size) (s .pre .1) (s .pre .4) in
-    let both = two-writes (s .args .out .now) _ _ (entryHead (stepAt (s .args .body .now) 0 .kind) (s .args .hwpid) (s .args .size))
+    let both = two-writes (s .args .out .now) _ _ (entryHeadBytes (stepAt (s .args .body .now) 0 .kind) (s .args .hwpid) (s .args .size))
     (groupData (stepsIn (s .args .count) (s .args .body .now))) _ _ _ _
-    (head .1 ∙ ap (λ (x : Step). sets (s .args .out .now) (s .args .at) (entryHead (x .kind) (s .args .hwpid) (s .args .size))) (x .step-at .ensures))
+    (head .1 ∙ ap (λ (x : Step). sets (s .args .out .now) (s .args .at) (entryHeadBytes (x .kind) (s .args .hwpid) (s .args .size))) (x .step-at .ensures))
     (head .0) (pdata .1) (pdata .0) e in
     (omega (arith, both .0, ap length e, head .0, pdata .0, s .pre .4), both .1)
 

@@ -6,7 +6,7 @@ use mathlib.Core.Logic.{⊎-elim}
 use Prim.Native.Nat.{_<_}
 use lib.ListN.{length}
 use denote.Ref.{now}
-use Rattle.lights.specs.Lamp.{maxLamps}
+use Rattle.dpa.specs.Settings.{maxLamps}
 use Rattle.lights.proofs.ApplyLoop.{ApplyInput, ApplyLoop, apply-start, apply-end, apply-level-max, apply-inside, apply-out-room, apply-skip, apply-first-valid, apply-pdata-room, apply-implemented, apply-unimplemented}
 use Rattle.lights.proofs.apply.apply.Statement.{statement}
 use Rattle.lights.proofs.apply.apply.Tie as tie

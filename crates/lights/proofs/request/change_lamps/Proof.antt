@@ -6,8 +6,8 @@ use mathlib.Core.Bool.{true}
 use Prim.Native.Nat.{ℕ}
 use lib.ListN.{drop}
 use denote.Ref.{now}
+use Rattle.dpa.specs.Settings.{maxLamps}
 use Rattle.dpa.specs.Lists.{Bytes}
-use Rattle.lights.specs.Lamp.{maxLamps}
 use Rattle.lights.specs.Bits.{bitmapSize, bits, count}
 use Rattle.lights.specs.Lights.{powerEntries, areValid}
 use Rattle.lights.proofs.Replies.{reply-refused, change-no-bitmap, change-malformed, change-applied}

@@ -2,7 +2,7 @@
 use native.Mathlib.Omega.{arith}
 use mathlib.Core.Path.{_≡_}
 use lib.Count.{ones}
-use Rattle.lights.specs.Lamp.{maxLamps}
+use Rattle.dpa.specs.Settings.{maxLamps}
 use Rattle.lights.specs.Bits.{bits, count}
 use Rattle.lights.proofs.Bits.{ones-count, count-le}
 use Rattle.lights.proofs.request.selected_count.Statement.{statement}
