@@ -8,9 +8,9 @@ use crate::fill::write_lengths;
 use batch::entry::CLOSING_ZERO;
 use batch::entry::HEAD;
 use book::entry::write_entry_at;
+use book::write::write_bytes;
 use dpa::frame::Frame;
 use dpa::number::wide;
-use memory::block::copy_in;
 ghost use mathlib.Core.Path.{_≡_};
 ghost use mathlib.Core.List.{_++_};
 ghost use Prim.Native.Nat.{_+_, _*_, _≤_};
@@ -31,10 +31,8 @@ fn write_prefix(header: Frame, front: &[u8], out: &mut [u8], at: usize) -> usize
         × (now (out .exit) ≡ sets (now (out .entry)) at (headerBytes header ++ now (front .entry))) ⌝ }
 {
     let bytes = Frame::header(header.nadr, header.pnum, header.pcmd, header.hwpid);
-    copy_in(out, at, &bytes);
-    let end = at + Frame::HEADER;
-    copy_in(out, end, front);
-    end + front.len()
+    let end = write_bytes(&bytes, out, at);
+    write_bytes(front, out, end)
 }
 
 // Ends the open list and starts the next request if an entry with `pdata` bytes of PData does not fit the list.
