@@ -33,31 +33,31 @@ pub record Done (pcmd a : ℕ) (s : Settings) (request : List ℕ) (steps : List
 
 -- For any two limits, and any PCMD and bytes in front of the list with which a node with settings s executes the list as a batch.
 -- This is asked of readable lists only.
-module _ {entryMost listMost : ℕ} {front : List ℕ} (limits : Limits entryMost listMost front) (pcmd a h : ℕ) (s : Settings)
+module _ {entryMax listMax : ℕ} {front : List ℕ} (limits : Limits entryMax listMax front) (pcmd a h : ℕ) (s : Settings)
     (addressed-to : (a ≡ s .address) ⊎ (a ≡ broadcastNadr)) (hwpid-matches : hwpidMatches s h ≡ true)
     (as-batch : (items : List Item) (st : State) → st .node .settings ≡ s
     → execute (item osPnum pcmd h (front ++ listBytes items)) st ≡ batchRequest (listBytes items) st)
-    (performs : AllPerform h (EntryGroup entryMost)) where
+    (performs : AllPerform h (EntryGroup entryMax)) where
   -- a request with a batch that joining and filling make
-  pub request-done : (groups : List (List Step)) (st : State) (o : List ℕ) → BatchRule entryMost listMost h groups
+  pub request-done : (groups : List (List Step)) (st : State) (o : List ℕ) → BatchRule entryMax listMax h groups
       → SoundState st → st .node .settings ≡ s → longestResponse ≤ length o → Done pcmd a s (requestBytes pcmd front a h groups) (concat groups) st o
   request-done groups st o b k e room =
       let list = listBytes (joinedItems h groups) in
       let own : hwpidMatches (st .node .settings) h ≡ true = ap (λ (n : Settings). hwpidMatches n h) e ∙ hwpid-matches in
       let to : (a ≡ st .node .settings .address) ⊎ (a ≡ broadcastNadr) = subst (λ (n : Settings). (a ≡ n .address) ⊎ (a ≡ broadcastNadr)) (sym e) addressed-to in
-      let executed = as-batch (joinedItems h groups) st e ∙ batch-performs h (EntryGroup entryMost) performs groups st (b .entries) k own in
+      let executed = as-batch (joinedItems h groups) st e ∙ batch-performs h (EntryGroup entryMax) performs groups st (b .entries) k own in
       let length-max = batch-fits limits (frame a osPnum pcmd h) groups b .1 in
       record {
         success =
             subst (λ (n : Settings). Success pcmd a n (requestBytes pcmd front a h groups) st o) e
             (call-succeeds pcmd a h (front ++ list) st o k length-max room to executed
-            (entries-perform h (EntryGroup entryMost) performs groups st (b .entries) k own .0));
+            (entries-perform h (EntryGroup entryMax) performs groups st (b .entries) k own .0));
         after = call-leaves pcmd a h (front ++ list) st o k length-max room to executed;
         sound = call-sound pcmd a h (front ++ list) st o k length-max room to executed;
       }
 
   requests-done : (bs : List (List (List Step))) (buffers : ℕ → List ℕ) (st : State)
-      → All (BatchRule entryMost listMost h) bs → SoundState st → st .node .settings ≡ s → ((k : ℕ) → longestResponse ≤ length (buffers k))
+      → All (BatchRule entryMax listMax h) bs → SoundState st → st .node .settings ≡ s → ((k : ℕ) → longestResponse ≤ length (buffers k))
       → AllSucceed pcmd a s buffers (map (requestBytes pcmd front a h) bs) st
       × (afterCalls buffers (map (requestBytes pcmd front a h) bs) st ≡ machine (concat (concat bs)) st)
   requests-done [] buffers st b k e room = (tt, refl)
@@ -76,12 +76,12 @@ module _ {entryMost listMost : ℕ} {front : List ℕ} (limits : Limits entryMos
   -- the requests of good steps
   pub steps-done : (steps : List Step) (buffers : ℕ → List ℕ) (st : State)
       → All Good steps → SoundState st → st .node .settings ≡ s → ((k : ℕ) → longestResponse ≤ length (buffers k))
-      → MatchesMachine pcmd a buffers (requestsOf entryMost listMost pcmd front a h steps) steps st
+      → MatchesMachine pcmd a buffers (requestsOf entryMax listMax pcmd front a h steps) steps st
   steps-done steps buffers st allValid k e room =
-      let bs = batchesOf entryMost listMost h steps in
+      let bs = batchesOf entryMax listMax h steps in
       let executed = requests-done bs buffers st (batches-rule limits h steps allValid) k e room in
-      let whole : concat (concat bs) ≡ steps = ap concat (filling-keeps entryMost listMost h steps) ∙ joining-keeps entryMost steps in
+      let whole : concat (concat bs) ≡ steps = ap concat (filling-keeps entryMax listMax h steps) ∙ joining-keeps entryMax steps in
       record {
-        calls = subst (λ (n : Settings). AllSucceed pcmd a n buffers (requestsOf entryMost listMost pcmd front a h steps) st) (sym e) (executed .0);
+        calls = subst (λ (n : Settings). AllSucceed pcmd a n buffers (requestsOf entryMax listMax pcmd front a h steps) st) (sym e) (executed .0);
         final = executed .1 ∙ ap (λ (l : List Step). machine l st) whole;
       }

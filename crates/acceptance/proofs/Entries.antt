@@ -76,11 +76,11 @@ module _ (most : ℕ) (limit : most ≤ pdataMax) (s : Step) (ss : List Step) (s
       bytes-perform Eeprom (subst (λ (j : ℕ). Writes j Eeprom) (sym e) writes-eeprom) (omega arith) (k .eeprom-size)))
 
 -- an entry that joining makes, for a profile that the node takes: no error, and the state of its steps done singly
-pub group-performs : {entryMost listMost : ℕ} {front : List ℕ} → Limits entryMost listMost front → (h : ℕ) (group : List Step) (st : State)
-    → EntryGroup entryMost group → SoundState st → hwpidMatches (st .node .settings) h ≡ true
+pub group-performs : {entryMax listMax : ℕ} {front : List ℕ} → Limits entryMax listMax front → (h : ℕ) (group : List Step) (st : State)
+    → EntryGroup entryMax group → SoundState st → hwpidMatches (st .node .settings) h ≡ true
     → (executeEntry (joinedItem h group) st .error ≡ 0) × (executeEntry (joinedItem h group) st .after ≡ machine group st)
 group-performs limits h [] st r k f = absurd r
-group-performs {entryMost} limits h (s ∷ ss) st r k f =
+group-performs {entryMax} limits h (s ∷ ss) st r k f =
     let e = entry-match (joinedItem h (s ∷ ss)) st f in
-    let d = kinds-perform entryMost (omega (arith, limits .list, limits .frame)) s ss st r k in
+    let d = kinds-perform entryMax (omega (arith, limits .list, limits .frame)) s ss st r k in
     (ap (λ (a : Reply State). a .error) e ∙ d .0, ap (λ (a : Reply State). a .after) e ∙ d .1)

@@ -19,28 +19,28 @@ use Rattle.book.proofs.EntryGroups.{EntryGroup, entry-groups}
 use Rattle.scene.specs.Compile.{Limits, fitsBatch, listOf, batchesOf, listLimit}
 
 -- groups that joining makes, in a list of at most `listMost` bytes
-pub record BatchRule (entryMost listMost h : ℕ) (rs : List (List Step)) : Type 0 where
-  pub entries : All (EntryGroup entryMost) rs
-  pub size : length (listOf h rs) ≤ listMost
+pub record BatchRule (entryMax listMax h : ℕ) (rs : List (List Step)) : Type 0 where
+  pub entries : All (EntryGroup entryMax) rs
+  pub size : length (listOf h rs) ≤ listMax
 
-module _ {entryMost listMost : ℕ} {front : List ℕ} (l : Limits entryMost listMost front) (h : ℕ) where
-  batch-one : (r : List Step) → EntryGroup entryMost r → BatchRule entryMost listMost h (r ∷ [])
+module _ {entryMax listMax : ℕ} {front : List ℕ} (l : Limits entryMax listMax front) (h : ℕ) where
+  batch-one : (r : List Step) → EntryGroup entryMax r → BatchRule entryMax listMax h (r ∷ [])
   unfolding entriesBytes entryBytes
   batch-one [] r = absurd r
   batch-one (s ∷ ss) r = record { entries = (r, tt); size = simp length-append (omega (arith, r .2, l .list)) }
 
-  batch-more : (rs : List (List Step)) (r : List Step) → BatchRule entryMost listMost h rs → EntryGroup entryMost r → fitsBatch listMost h rs r ≡ true
-      → BatchRule entryMost listMost h (rs ++ (r ∷ []))
-  batch-more rs r b q f = record { entries = all-snoc (EntryGroup entryMost) rs r (b .entries) q; size = leb-true _ _ f }
+  batch-more : (rs : List (List Step)) (r : List Step) → BatchRule entryMax listMax h rs → EntryGroup entryMax r → fitsBatch listMax h rs r ≡ true
+      → BatchRule entryMax listMax h (rs ++ (r ∷ []))
+  batch-more rs r b q f = record { entries = all-snoc (EntryGroup entryMax) rs r (b .entries) q; size = leb-true _ _ f }
 
   -- each batch of good steps keeps this rule
-  pub batches-rule : (ss : List Step) → All Good ss → All (BatchRule entryMost listMost h) (batchesOf entryMost listMost h ss)
+  pub batches-rule : (ss : List Step) → All Good ss → All (BatchRule entryMax listMax h) (batchesOf entryMax listMax h ss)
   batches-rule ss a =
-      all-group (fitsBatch listMost h) (BatchRule entryMost listMost h) (EntryGroup entryMost) batch-one batch-more (entriesOf entryMost ss)
-      (entry-groups entryMost (l .entry) ss a)
+      all-group (fitsBatch listMax h) (BatchRule entryMax listMax h) (EntryGroup entryMax) batch-one batch-more (entriesOf entryMax ss)
+      (entry-groups entryMax (l .entry) ss a)
 
 -- the limit of an entry alone
-pub entry-limit : {entryMost listMost : ℕ} {front : List ℕ} → Limits entryMost listMost front → EntryLimit entryMost
+pub entry-limit : {entryMax listMax : ℕ} {front : List ℕ} → Limits entryMax listMax front → EntryLimit entryMax
 entry-limit l = record { step = l .entry; frame = omega (arith, l .list, l .frame) }
 
 -- the limits of a batch are possible limits
@@ -48,5 +48,5 @@ pub batch-limits : Limits entryLimit listLimit []
 batch-limits = record { entry = omega arith; list = omega arith; frame = omega arith }
 
 -- filling loses and reorders no entry
-pub filling-keeps : (entryMost listMost h : ℕ) (ss : List Step) → concat (batchesOf entryMost listMost h ss) ≡ entriesOf entryMost ss
-filling-keeps entryMost listMost h ss = concat-group (fitsBatch listMost h) (entriesOf entryMost ss)
+pub filling-keeps : (entryMax listMax h : ℕ) (ss : List Step) → concat (batchesOf entryMax listMax h ss) ≡ entriesOf entryMax ss
+filling-keeps entryMax listMax h ss = concat-group (fitsBatch listMax h) (entriesOf entryMax ss)

@@ -55,24 +55,24 @@ module _ (old : List ℕ) (at : ℕ) (all out : List ℕ) (w : ℕ) (rest : List
 
 -- ---- the loops over the entries of a scene: a list of `size` bytes is open, and step `step` is next. `remaining` gives the bytes
 -- that remain after an open list of a size, when the entries of these groups remain.
-pub record Progress (entryMost listMost : ℕ) (remaining : ℕ → List (List Step) → List ℕ) (ss : List Step) (old : List ℕ) (at step size : ℕ)
+pub record Progress (entryMax listMax : ℕ) (remaining : ℕ → List (List Step) → List ℕ) (ss : List Step) (old : List ℕ) (at step size : ℕ)
     (out : List ℕ) (w : ℕ) : Type 0 where
   pub within : step ≤ length ss
-  pub small : size ≤ listMost
-  pub rest : Remaining old at (remaining 1 (entriesOf entryMost ss)) out w (remaining size (entriesOf entryMost (drop step ss)))
+  pub small : size ≤ listMax
+  pub rest : Remaining old at (remaining 1 (entriesOf entryMax ss)) out w (remaining size (entriesOf entryMax (drop step ss)))
 
-module _ {entryMost listMost : ℕ} {front : List ℕ} (l : Limits entryMost listMost front) (remaining : ℕ → List (List Step) → List ℕ)
+module _ {entryMax listMax : ℕ} {front : List ℕ} (l : Limits entryMax listMax front) (remaining : ℕ → List (List Step) → List ℕ)
     (ss : List Step) (old : List ℕ) (at : ℕ) where
   -- before the first entry
-  pub progress-start : Progress entryMost listMost remaining ss old at 0 1 old at
+  pub progress-start : Progress entryMax listMax remaining ss old at 0 1 old at
   progress-start = record { within = omega arith; small = omega (arith, l .list); rest = remaining-start _ _ _ }
 
-  module _ (step size : ℕ) (out : List ℕ) (w : ℕ) (o : Progress entryMost listMost remaining ss old at step size out w) where
+  module _ (step size : ℕ) (out : List ℕ) (w : ℕ) (o : Progress entryMax listMax remaining ss old at step size out w) where
     -- after an entry of k steps
-    pub progress-more : (k sz : ℕ) → FirstEntry entryMost (drop step ss) k sz → (xs out′ : List ℕ) (w′ size′ : ℕ)
-        → remaining size (entriesOf entryMost (drop step ss)) ≡ xs ++ remaining (nextSize listMost size sz) (entriesOf entryMost (drop (step + k) ss))
-        → out′ ≡ sets out w xs → w′ ≡ w + length xs → size′ ≡ nextSize listMost size sz
-        → Progress entryMost listMost remaining ss old at (step + k) size′ out′ w′
+    pub progress-more : (k sz : ℕ) → FirstEntry entryMax (drop step ss) k sz → (xs out′ : List ℕ) (w′ size′ : ℕ)
+        → remaining size (entriesOf entryMax (drop step ss)) ≡ xs ++ remaining (nextSize listMax size sz) (entriesOf entryMax (drop (step + k) ss))
+        → out′ ≡ sets out w xs → w′ ≡ w + length xs → size′ ≡ nextSize listMax size sz
+        → Progress entryMax listMax remaining ss old at (step + k) size′ out′ w′
     progress-more k sz f xs out′ w′ size′ e eo ew es =
         rw es
         (record {
@@ -82,53 +82,53 @@ module _ {entryMost listMost : ℕ} {front : List ℕ} (l : Limits entryMost lis
         })
 
     -- after the last step only the end of the open list remains
-    pub progress-end : length ss ≤ step → Remaining old at (remaining 1 (entriesOf entryMost ss)) out w (remaining size [])
+    pub progress-end : length ss ≤ step → Remaining old at (remaining 1 (entriesOf entryMax ss)) out w (remaining size [])
     progress-end d =
         let none : drop step ss ≡ [] = drop-of-length-le ss {i = step} d in
         rw none at (o .rest)
 
 -- ---- the next entry, of k steps with sz bytes of PData
-module _ {entryMost listMost : ℕ} {front : List ℕ} (l : Limits entryMost listMost front) (ss : List Step) (old : List ℕ) (at step size : ℕ)
-    (out : List ℕ) (w k sz : ℕ) (f : FirstEntry entryMost (drop step ss) k sz) where
+module _ {entryMax listMax : ℕ} {front : List ℕ} (l : Limits entryMax listMax front) (ss : List Step) (old : List ℕ) (at step size : ℕ)
+    (out : List ℕ) (w k sz : ℕ) (f : FirstEntry entryMax (drop step ss) k sz) where
   -- the length bytes: one more if the entry does not fit the open list
-  module _ (prefix : ℕ) (o : Progress entryMost listMost (remainingLengths listMost prefix) ss old at step size out w) where
+  module _ (prefix : ℕ) (o : Progress entryMax listMax (remainingLengths listMax prefix) ss old at step size out w) where
     abbrev laterLengths : List ℕ
-    laterLengths = remainingLengths listMost prefix (nextSize listMost size sz) (entriesOf entryMost (drop (step + k) ss))
+    laterLengths = remainingLengths listMax prefix (nextSize listMax size sz) (entriesOf entryMax (drop (step + k) ss))
 
     -- which has room
-    pub lengths-room : at + length (remainingLengths listMost prefix 1 (entriesOf entryMost ss)) ≤ length old
-        → w + length (separatorLength listMost prefix size sz) ≤ length out
+    pub lengths-room : at + length (remainingLengths listMax prefix 1 (entriesOf entryMax ss)) ≤ length old
+        → w + length (separatorLength listMax prefix size sz) ≤ length out
     lengths-room =
-        remaining-room old at _ out w _ (o .rest) (separatorLength listMost prefix size sz) laterLengths (lengths-next entryMost listMost ss step k sz f prefix size)
+        remaining-room old at _ out w _ (o .rest) (separatorLength listMax prefix size sz) laterLengths (lengths-next entryMax listMax ss step k sz f prefix size)
 
     -- and after which the loop goes on
-    pub lengths-more : (out′ : List ℕ) (w′ size′ : ℕ) → out′ ≡ sets out w (separatorLength listMost prefix size sz)
-        → w′ ≡ w + length (separatorLength listMost prefix size sz) → size′ ≡ nextSize listMost size sz
-        → Progress entryMost listMost (remainingLengths listMost prefix) ss old at (step + k) size′ out′ w′
+    pub lengths-more : (out′ : List ℕ) (w′ size′ : ℕ) → out′ ≡ sets out w (separatorLength listMax prefix size sz)
+        → w′ ≡ w + length (separatorLength listMax prefix size sz) → size′ ≡ nextSize listMax size sz
+        → Progress entryMax listMax (remainingLengths listMax prefix) ss old at (step + k) size′ out′ w′
     lengths-more out′ w′ size′ =
-        progress-more l (remainingLengths listMost prefix) ss old at step size out w o k sz f (separatorLength listMost prefix size sz) out′ w′ size′
-        (lengths-next entryMost listMost ss step k sz f prefix size)
+        progress-more l (remainingLengths listMax prefix) ss old at step size out w o k sz f (separatorLength listMax prefix size sz) out′ w′ size′
+        (lengths-next entryMax listMax ss step k sz f prefix size)
 
   -- the requests: the separator, then the entry
-  module _ (prefix : List ℕ) (h : ℕ) (o : Progress entryMost listMost (remainingBytes listMost prefix h) ss old at step size out w) where
+  module _ (prefix : List ℕ) (h : ℕ) (o : Progress entryMax listMax (remainingBytes listMax prefix h) ss old at step size out w) where
     abbrev separator : List ℕ
-    separator = separatorBytes listMost prefix size sz
+    separator = separatorBytes listMax prefix size sz
 
     abbrev entry : List ℕ
     entry = entryBytes (joinedItem h (take k (drop step ss)))
 
     abbrev laterBytes : List ℕ
-    laterBytes = remainingBytes listMost prefix h (nextSize listMost size sz) (entriesOf entryMost (drop (step + k) ss))
+    laterBytes = remainingBytes listMax prefix h (nextSize listMax size sz) (entriesOf entryMax (drop (step + k) ss))
 
     -- the separator has room
-    pub separator-room : at + length (remainingBytes listMost prefix h 1 (entriesOf entryMost ss)) ≤ length old → w + length separator ≤ length out
-    separator-room = remaining-room old at _ out w _ (o .rest) separator (entry ++ laterBytes) (bytes-next entryMost listMost ss step k sz f prefix h size)
+    pub separator-room : at + length (remainingBytes listMax prefix h 1 (entriesOf entryMax ss)) ≤ length old → w + length separator ≤ length out
+    separator-room = remaining-room old at _ out w _ (o .rest) separator (entry ++ laterBytes) (bytes-next entryMax listMax ss step k sz f prefix h size)
 
     module _ (out′ : List ℕ) (w′ : ℕ) (eo : out′ ≡ sets out w separator) (ew : w′ ≡ w + length separator) where
       -- and so has the entry
-      pub entry-room : at + length (remainingBytes listMost prefix h 1 (entriesOf entryMost ss)) ≤ length old → w′ + 5 + sz ≤ length out′
+      pub entry-room : at + length (remainingBytes listMax prefix h 1 (entriesOf entryMax ss)) ≤ length old → w′ + 5 + sz ≤ length out′
       entry-room c =
-          let x = remaining-more old at _ out w _ (o .rest) separator (entry ++ laterBytes) out′ w′ (bytes-next entryMost listMost ss step k sz f prefix h size) eo ew in
+          let x = remaining-more old at _ out w _ (o .rest) separator (entry ++ laterBytes) out′ w′ (bytes-next entryMax listMax ss step k sz f prefix h size) eo ew in
           omega (
             arith,
             remaining-room old at _ out′ w′ _ x entry laterBytes refl c,
@@ -137,13 +137,13 @@ module _ {entryMost listMost : ℕ} {front : List ℕ} (l : Limits entryMost lis
           )
 
       -- after both the loop goes on
-      pub bytes-more : (out″ : List ℕ) (w″ size′ : ℕ) → out″ ≡ sets out′ w′ entry → w″ ≡ w′ + 5 + sz → size′ ≡ nextSize listMost size sz
-          → Progress entryMost listMost (remainingBytes listMost prefix h) ss old at (step + k) size′ out″ w″
+      pub bytes-more : (out″ : List ℕ) (w″ size′ : ℕ) → out″ ≡ sets out′ w′ entry → w″ ≡ w′ + 5 + sz → size′ ≡ nextSize listMax size sz
+          → Progress entryMax listMax (remainingBytes listMax prefix h) ss old at (step + k) size′ out″ w″
       bytes-more out″ w″ size′ fo fw =
           let n : w″ ≡ w′ + length entry = omega (arith, entry-length (joinedItem h (take k (drop step ss))), f .fits) in
           let both = two-writes out out′ out″ separator entry (separator ++ entry) w w′ w″ eo ew fo n refl in
-          progress-more l (remainingBytes listMost prefix h) ss old at step size out w o k sz f (separator ++ entry) out″ w″ size′
-          (bytes-next entryMost listMost ss step k sz f prefix h size ∙ sym (append-assoc separator entry laterBytes)) (both .1) (both .0)
+          progress-more l (remainingBytes listMax prefix h) ss old at step size out w o k sz f (separator ++ entry) out″ w″ size′
+          (bytes-next entryMax listMax ss step k sz f prefix h size ∙ sym (append-assoc separator entry laterBytes)) (both .1) (both .0)
 
 -- ---- the whole output
 set-sets : (l : List ℕ) (c i : ℕ) (xs : List ℕ) → set (sets l (suc i) xs) 0 c ≡ sets (set l 0 c) (suc i) xs

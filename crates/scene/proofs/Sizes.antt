@@ -52,17 +52,17 @@ abbrev pub FrameSized : List ℕ → Type 0
 FrameSized r = (headerSize ≤ length r) × (length r ≤ longestFrame)
 
 -- every request of a scene fits a frame
-module _ {entryMost listMost : ℕ} {front : List ℕ} (l : Limits entryMost listMost front) (header : Frame) where
-  pub batch-fits : (rs : List (List Step)) → BatchRule entryMost listMost (header .hwpid) rs → FrameSized (requestWith header front rs)
+module _ {entryMax listMax : ℕ} {front : List ℕ} (l : Limits entryMax listMax front) (header : Frame) where
+  pub batch-fits : (rs : List (List Step)) → BatchRule entryMax listMax (header .hwpid) rs → FrameSized (requestWith header front rs)
   batch-fits rs b =
       let n = request-length header front rs in
       let s = b .size in
       let f = l .frame in
       (omega arith, omega arith)
 
-  pub requests-fit : (ss : List Step) → All Good ss → All FrameSized (map (requestWith header front) (batchesOf entryMost listMost (header .hwpid) ss))
-  requests-fit ss g = each (batchesOf entryMost listMost (header .hwpid) ss) (batches-rule l (header .hwpid) ss g)
+  pub requests-fit : (ss : List Step) → All Good ss → All FrameSized (map (requestWith header front) (batchesOf entryMax listMax (header .hwpid) ss))
+  requests-fit ss g = each (batchesOf entryMax listMax (header .hwpid) ss) (batches-rule l (header .hwpid) ss g)
     where
-      each : (bs : List (List (List Step))) → All (BatchRule entryMost listMost (header .hwpid)) bs → All FrameSized (map (requestWith header front) bs)
+      each : (bs : List (List (List Step))) → All (BatchRule entryMax listMax (header .hwpid)) bs → All FrameSized (map (requestWith header front) bs)
       each [] a = tt
       each (b ∷ bs) a = (batch-fits b (a .0), each bs (a .1))

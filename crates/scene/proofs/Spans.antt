@@ -55,19 +55,19 @@ group-some limit [] q = absurd q
 group-some limit (s ∷ ss) q = (omega arith, q .2)
 
 -- byte m and the one after it are the span of the first entry of these steps, and the later spans follow
-pub record NextSpan (entryMost : ℕ) (xs : List Step) (spans : List ℕ) (m : ℕ) : Type 0 where
+pub record NextSpan (entryMax : ℕ) (xs : List Step) (spans : List ℕ) (m : ℕ) : Type 0 where
   pub in-range : m + 1 < length spans
-  pub entry : FirstEntry entryMost xs (getD spans m 0) (getD spans (m + 1) 0)
-  pub rest : StartsWithSpans entryMost (drop (getD spans m 0) xs) (drop (m + 2) spans)
+  pub entry : FirstEntry entryMax xs (getD spans m 0) (getD spans (m + 1) 0)
+  pub rest : StartsWithSpans entryMax (drop (getD spans m 0) xs) (drop (m + 2) spans)
 
 -- the first group that joining makes is the first entry
-module _ (entryMost : ℕ) (min : 6 ≤ entryMost) (xs : List Step) (good : All Good xs) where
-  first-entry : (r : List Step) (rs : List (List Step)) → entriesOf entryMost xs ≡ r ∷ rs → FirstEntry entryMost xs (length r) (length (groupData r))
+module _ (entryMax : ℕ) (min : 6 ≤ entryMax) (xs : List Step) (good : All Good xs) where
+  first-entry : (r : List Step) (rs : List (List Step)) → entriesOf entryMax xs ≡ r ∷ rs → FirstEntry entryMax xs (length r) (length (groupData r))
   first-entry r rs e =
-      let c = group-first (joins entryMost) xs r rs e in
+      let c = group-first (joins entryMax) xs r rs e in
       let t = take-length (c .count) xs in
-      let all : All (EntryGroup entryMost) (r ∷ rs) = rw e at (entry-groups entryMost min xs good) in
-      let q = group-some entryMost r (all .0) in
+      let all : All (EntryGroup entryMax) (r ∷ rs) = rw e at (entry-groups entryMax min xs good) in
+      let q = group-some entryMax r (all .0) in
       let same : take (length r) xs ≡ r = ap (λ (l : List Step). take (length l) xs) (c .first) ∙ t .0 ∙ sym (c .first) in
       let rest : drop (length r) xs ≡ drop (c .count) xs = ap (λ (l : List Step). drop (length l) xs) (c .first) ∙ t .1 in
       record {
@@ -80,18 +80,18 @@ module _ (entryMost : ℕ) (min : 6 ≤ entryMost) (xs : List Step) (good : All 
         );
         small = q .1;
         fits = ap (λ (l : List Step). length (groupData l)) (sym same);
-        first = e ∙ ap₂ (λ (l : List Step) (ls : List (List Step)). l ∷ ls) (sym same) (c .rest ∙ ap (entriesOf entryMost) (sym rest));
+        first = e ∙ ap₂ (λ (l : List Step) (ls : List (List Step)). l ∷ ls) (sym same) (c .rest ∙ ap (entriesOf entryMax) (sym rest));
       }
 
   module _ (spans : List ℕ) (m : ℕ) (unused : List ℕ) (some : 0 < length xs) where
-    span-from : (es : List (List Step)) → entriesOf entryMost xs ≡ es → drop m spans ≡ spanBytes es ++ unused → NextSpan entryMost xs spans m
-    span-from [] e q = absurd (omega (arith, ap length (sym (joining-keeps entryMost xs) ∙ ap concat e)))
+    span-from : (es : List (List Step)) → entriesOf entryMax xs ≡ es → drop m spans ≡ spanBytes es ++ unused → NextSpan entryMax xs spans m
+    span-from [] e q = absurd (omega (arith, ap length (sym (joining-keeps entryMax xs) ∙ ap concat e)))
     span-from (r ∷ rs) e q =
         let f = first-entry r rs e in
         let z : m + 0 ≡ m = add-zero m in
         let a : getD spans m 0 ≡ length r = sym (ap (λ (i : ℕ). getD spans i 0) z) ∙ sym (getD-drop m spans 0 0) ∙ ap (λ (l : List ℕ). getD l 0 0) q in
         let b : getD spans (m + 1) 0 ≡ length (groupData r) = sym (getD-drop m spans 1 0) ∙ ap (λ (l : List ℕ). getD l 1 0) q in
-        let n : rs ≡ entriesOf entryMost (drop (length r) xs) = ap (drop 1) (sym e ∙ f .first) in
+        let n : rs ≡ entriesOf entryMax (drop (length r) xs) = ap (drop 1) (sym e ∙ f .first) in
         record {
           in-range = omega (arith, ap length q, length-drop m spans);
           entry = rw (a, b) f;
@@ -99,41 +99,41 @@ module _ (entryMost : ℕ) (min : 6 ≤ entryMost) (xs : List Step) (good : All 
         }
 
   -- the span at byte m, where the spans of these steps start
-  pub next-span : (spans : List ℕ) (m : ℕ) → 0 < length xs → StartsWithSpans entryMost xs (drop m spans) → NextSpan entryMost xs spans m
-  next-span spans m some t = span-from spans m (t .unused) some (entriesOf entryMost xs) refl (t .starts)
+  pub next-span : (spans : List ℕ) (m : ℕ) → 0 < length xs → StartsWithSpans entryMax xs (drop m spans) → NextSpan entryMax xs spans m
+  next-span spans m some t = span-from spans m (t .unused) some (entriesOf entryMax xs) refl (t .starts)
 
 -- ---- the loop of write_lengths: the spans of the steps before `step` are in the first m bytes
 abbrev pub SpansWritten : ℕ → List Step → List ℕ → ℕ → List ℕ → ℕ → Type 0
-SpansWritten entryMost ss old step spans m = Remaining old 0 (spanBytes (entriesOf entryMost ss)) spans m (spanBytes (entriesOf entryMost (drop step ss)))
+SpansWritten entryMax ss old step spans m = Remaining old 0 (spanBytes (entriesOf entryMax ss)) spans m (spanBytes (entriesOf entryMax (drop step ss)))
 
 spans-length : (es : List (List Step)) → length (spanBytes es) ≡ 2 * length es
 spans-length [] = refl
 spans-length (r ∷ rs) = omega (arith, spans-length rs)
 
 -- two bytes for each step are enough
-spans-room : (entryMost : ℕ) (ss : List Step) → length (spanBytes (entriesOf entryMost ss)) ≤ 2 * length ss
-spans-room entryMost ss = omega (arith, spans-length (entriesOf entryMost ss), length-group (joins entryMost) ss)
+spans-room : (entryMax : ℕ) (ss : List Step) → length (spanBytes (entriesOf entryMax ss)) ≤ 2 * length ss
+spans-room entryMax ss = omega (arith, spans-length (entriesOf entryMax ss), length-group (joins entryMax) ss)
 
-module _ (entryMost : ℕ) (ss : List Step) (old : List ℕ) (step : ℕ) (spans : List ℕ) (m : ℕ) (l : SpansWritten entryMost ss old step spans m) where
-  module _ (k sz : ℕ) (f : FirstEntry entryMost (drop step ss) k sz) where
-    spans-next : spanBytes (entriesOf entryMost (drop step ss)) ≡ (k ∷ sz ∷ []) ++ spanBytes (entriesOf entryMost (drop (step + k) ss))
-    spans-next = ap spanBytes (entries-next entryMost 0 ss step k sz f) ∙ rw (length-take-le k (drop step ss) (f .within), ← (f .fits))
+module _ (entryMax : ℕ) (ss : List Step) (old : List ℕ) (step : ℕ) (spans : List ℕ) (m : ℕ) (l : SpansWritten entryMax ss old step spans m) where
+  module _ (k sz : ℕ) (f : FirstEntry entryMax (drop step ss) k sz) where
+    spans-next : spanBytes (entriesOf entryMax (drop step ss)) ≡ (k ∷ sz ∷ []) ++ spanBytes (entriesOf entryMax (drop (step + k) ss))
+    spans-next = ap spanBytes (entries-next entryMax 0 ss step k sz f) ∙ rw (length-take-le k (drop step ss) (f .within), ← (f .fits))
 
     -- the next span has room
     pub span-room : m + 2 ≤ 2 * length ss
-    span-room = omega (arith, l .end, ap length spans-next, spans-room entryMost ss)
+    span-room = omega (arith, l .end, ap length spans-next, spans-room entryMax ss)
 
     -- and after it the loop goes on
-    pub spans-more : SpansWritten entryMost ss old (step + k) (set (set spans m k) (m + 1) sz) (m + 2)
+    pub spans-more : SpansWritten entryMax ss old (step + k) (set (set spans m k) (m + 1) sz) (m + 2)
     spans-more =
         remaining-more old 0 _ spans m _ l (k ∷ sz ∷ []) _ _ (m + 2) spans-next (ap (λ (i : ℕ). set (set spans m k) i sz) (add-one m)) refl
 
   -- after the last step the bytes start with all spans
-  pub spans-end : length ss ≤ step → 2 * length ss ≤ length old → StartsWithSpans entryMost ss spans
+  pub spans-end : length ss ≤ step → 2 * length ss ≤ length old → StartsWithSpans entryMax ss spans
   spans-end d h =
       let none : drop step ss ≡ [] = drop-of-length-le ss {i = step} d in
-      let e : sets old 0 (spanBytes (entriesOf entryMost ss)) ≡ sets spans m (spanBytes (entriesOf entryMost [])) = rw none at (l .bytes) in
+      let e : sets old 0 (spanBytes (entriesOf entryMax ss)) ≡ sets spans m (spanBytes (entriesOf entryMax [])) = rw none at (l .bytes) in
       record {
-        unused = drop (0 + length (spanBytes (entriesOf entryMost ss))) old;
-        starts = sym e ∙ sets-eq (spanBytes (entriesOf entryMost ss)) old 0 (omega (arith, spans-room entryMost ss));
+        unused = drop (0 + length (spanBytes (entriesOf entryMax ss))) old;
+        starts = sym e ∙ sets-eq (spanBytes (entriesOf entryMax ss)) old 0 (omega (arith, spans-room entryMax ss));
       }

@@ -39,19 +39,19 @@ listLimit = pdataMax
 
 -- whether a list stays within `listMost` with one more entry
 abbrev pub fitsBatch : ℕ → ℕ → List (List Step) → List Step → Bool
-fitsBatch listMost h groups group = leb (length (listOf h (groups ++ (group ∷ [])))) listMost
+fitsBatch listMax h groups group = leb (length (listOf h (groups ++ (group ∷ [])))) listMax
 
 -- the batches of a scene, each a list of entries, filled greedily from the left
 abbrev pub batchesOf : ℕ → ℕ → ℕ → List Step → List (List (List Step))
-batchesOf entryMost listMost h ss = group (fitsBatch listMost h) (entriesOf entryMost ss)
+batchesOf entryMax listMax h ss = group (fitsBatch listMax h) (entriesOf entryMax ss)
 
 -- ---- requests
 
 -- the limits, and the bytes in front of the lists: an entry has room for a step, a list for an entry, and a frame for a list
-pub record Limits (entryMost listMost : ℕ) (front : List ℕ) : Type 0 where
-  pub entry : oneStepMax ≤ entryMost
-  pub list : emptyList + entrySize entryMost ≤ listMost
-  pub frame : length front + listMost ≤ pdataMax
+pub record Limits (entryMax listMax : ℕ) (front : List ℕ) : Type 0 where
+  pub entry : oneStepMax ≤ entryMax
+  pub list : emptyList + entrySize entryMax ≤ listMax
+  pub frame : length front + listMax ≤ pdataMax
 
 -- a request: the header, the bytes in front of the list, the list
 abbrev pub requestWith : Frame → List ℕ → List (List Step) → List ℕ
@@ -63,7 +63,7 @@ requestBytes pcmd front a h groups = requestWith (frame a osPnum pcmd h) front g
 
 -- the requests of a scene within two limits, with any PCMD and any bytes in front of the lists
 abbrev pub requestsOf : ℕ → ℕ → ℕ → List ℕ → ℕ → ℕ → List Step → List (List ℕ)
-requestsOf entryMost listMost pcmd front a h ss = map (requestBytes pcmd front a h) (batchesOf entryMost listMost h ss)
+requestsOf entryMax listMax pcmd front a h ss = map (requestBytes pcmd front a h) (batchesOf entryMax listMax h ss)
 
 -- the batch requests of a scene for address a and profile h
 abbrev pub sceneRequests : ℕ → ℕ → List Step → List (List ℕ)

@@ -22,19 +22,19 @@ requestsWith limits header front ss = map (requestWith header front) (batchesOf 
 
 -- whether the list has room for the entry
 abbrev pub fitsList : ℕ → ℕ → ℕ → Bool
-fitsList listMost size pdata = leb (size + entrySize pdata) listMost
+fitsList listMax size pdata = leb (size + entrySize pdata) listMax
 
 -- size of the list that the entry goes into: the open list, or a new one
 unfoldable pub nextSize : ℕ → ℕ → ℕ → ℕ
-nextSize listMost size pdata = cond (fitsList listMost size pdata) (size + entrySize pdata) (emptyList + entrySize pdata)
+nextSize listMax size pdata = cond (fitsList listMax size pdata) (size + entrySize pdata) (emptyList + entrySize pdata)
 
 -- bytes written before the entry: none, or the open list's closing zero and the prefix of the next request
 unfoldable pub separatorBytes : ℕ → List ℕ → ℕ → ℕ → List ℕ
-separatorBytes listMost prefix size pdata = cond (fitsList listMost size pdata) [] (closingZero ∷ prefix)
+separatorBytes listMax prefix size pdata = cond (fitsList listMax size pdata) [] (closingZero ∷ prefix)
 
 -- the length byte of the open list's request if the entry does not fit, where a request has `prefix` bytes before its list
 unfoldable pub separatorLength : ℕ → ℕ → ℕ → ℕ → List ℕ
-separatorLength listMost prefix size pdata = cond (fitsList listMost size pdata) [] ((size + prefix) ∷ [])
+separatorLength listMax prefix size pdata = cond (fitsList listMax size pdata) [] ((size + prefix) ∷ [])
 
 -- ---- spans: what the first pass keeps about each entry for the second, its number of steps and the size of its PData
 abbrev pub spanBytes : List (List Step) → List ℕ
@@ -46,6 +46,6 @@ abbrev pub maxSpanBytes : ℕ
 maxSpanBytes = 2 * stepsMax
 
 -- the bytes start with the spans of these steps' entries
-pub record StartsWithSpans (entryMost : ℕ) (ss : List Step) (bytes : List ℕ) : Type 0 where
+pub record StartsWithSpans (entryMax : ℕ) (ss : List Step) (bytes : List ℕ) : Type 0 where
   pub unused : List ℕ
-  pub starts : bytes ≡ spanBytes (entriesOf entryMost ss) ++ unused
+  pub starts : bytes ≡ spanBytes (entriesOf entryMax ss) ++ unused
