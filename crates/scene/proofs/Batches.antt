@@ -18,7 +18,7 @@ use Rattle.book.proofs.Faults.{Good}
 use Rattle.book.proofs.EntryGroups.{EntryGroup, entry-groups}
 use Rattle.scene.specs.Compile.{Limits, fitsBatch, listOf, batchesOf, listLimit}
 
--- groups that joining makes, in a list of at most `listMost` bytes
+-- groups that joining makes, in a list of at most `listMax` bytes
 pub record BatchRule (entryMax listMax h : ℕ) (rs : List (List Step)) : Type 0 where
   pub entries : All (EntryGroup entryMax) rs
   pub size : length (listOf h rs) ≤ listMax

@@ -37,7 +37,7 @@ emptyList = 1
 abbrev pub listLimit : ℕ
 listLimit = pdataMax
 
--- whether a list stays within `listMost` with one more entry
+-- whether a list stays within `listMax` with one more entry
 abbrev pub fitsBatch : ℕ → ℕ → List (List Step) → List Step → Bool
 fitsBatch listMax h groups group = leb (length (listOf h (groups ++ (group ∷ [])))) listMax
 
