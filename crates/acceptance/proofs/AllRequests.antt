@@ -21,7 +21,7 @@ use Rattle.book.proofs.Faults.{Good}
 use Rattle.book.proofs.EntryGroups.{EntryGroup, joining-keeps}
 use Rattle.scene.proofs.Batches.{BatchRule, batches-rule, filling-keeps}
 use Rattle.scene.proofs.Sizes.{batch-fits}
-use Rattle.acceptance.specs.Condition3.{Success, AllSucceed, afterCalls, MatchesMachine}
+use Rattle.acceptance.specs.SceneTheorem.{Success, AllSucceed, afterCalls, MatchesMachine}
 use Rattle.acceptance.proofs.Batches.{AllPerform, entries-perform, batch-performs}
 use Rattle.acceptance.proofs.OneRequest.{call-leaves, call-sound, call-succeeds}
 

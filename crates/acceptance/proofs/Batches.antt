@@ -19,7 +19,7 @@ use Rattle.book.specs.Entry.{joinedItem}
 use Rattle.scene.specs.Compile.{joinedItems}
 use Rattle.book.proofs.MachineLaws.{machine-append, machine-stays}
 
--- an outcome without an error, PData or a report of its own
+-- an outcome without an error, data or a report
 abbrev pub noErrorOutcome : State → List ℕ → Outcome
 noErrorOutcome end errors = outcome (reply end 0 []) errors noReport
 
@@ -27,14 +27,14 @@ noErrorOutcome end errors = outcome (reply end 0 []) errors noReport
 abbrev pub Performs : ℕ → List Step → State → Type 0
 Performs h group st = (executeEntry (joinedItem h group) st .error ≡ 0) × (executeEntry (joinedItem h group) st .after ≡ machine group st)
 
--- so do the entries of all groups of a kind, at any sound node that accepts the profile
+-- so do the entries of all groups with property `Valid`, on any sound node that accepts the profile
 abbrev pub AllPerform : ℕ → (List Step → Type 0) → Type 0
-AllPerform h EntryGroup =
-    (group : List Step) (st : State) → EntryGroup group → SoundState st → hwpidMatches (st .node .settings) h ≡ true → Performs h group st
+AllPerform h Valid =
+    (group : List Step) (st : State) → Valid group → SoundState st → hwpidMatches (st .node .settings) h ≡ true → Performs h group st
 
-module _ (h : ℕ) (EntryGroup : List Step → Type 0) (performs : AllPerform h EntryGroup) where
+module _ (h : ℕ) (Valid : List Step → Type 0) (performs : AllPerform h Valid) where
   -- all entries in order
-  pub entries-perform : (groups : List (List Step)) (st : State) → All EntryGroup groups → SoundState st → hwpidMatches (st .node .settings) h ≡ true
+  pub entries-perform : (groups : List (List Step)) (st : State) → All Valid groups → SoundState st → hwpidMatches (st .node .settings) h ≡ true
       → All (λ (e : ℕ). e ≡ 0) (errorsOf entryError entryAfter (joinedItems h groups) st)
       × (runItems entryAfter (joinedItems h groups) st ≡ machine (concat groups) st)
   unfolding runItems errorsOf
@@ -47,7 +47,7 @@ module _ (h : ℕ) (EntryGroup : List Step → Type 0) (performs : AllPerform h 
       ((first .0, rest .0), rest .1 ∙ ap (machine (concat rs)) (first .1) ∙ sym (machine-append r (concat rs) st))
 
   -- a batch request of these entries
-  pub batch-performs : (groups : List (List Step)) (st : State) → All EntryGroup groups → SoundState st → hwpidMatches (st .node .settings) h ≡ true
+  pub batch-performs : (groups : List (List Step)) (st : State) → All Valid groups → SoundState st → hwpidMatches (st .node .settings) h ≡ true
       → batchRequest (listBytes (joinedItems h groups)) st
       ≡ noErrorOutcome (machine (concat groups) st) (errorsOf entryError entryAfter (joinedItems h groups) st)
   batch-performs groups st a k f =

@@ -17,6 +17,7 @@ use Rattle.handler.specs.Request.{State, SoundState, memoryOf, hwpidMatches, pe
 use Rattle.node.proofs.Nodes.{node-lamps, node-ram}
 use Rattle.handler.proofs.BatchEntries.{entry-match}
 use Rattle.book.specs.declared.step.Step.{Step}
+use Rattle.book.specs.Step.{ramKind, eepromKind}
 use Rattle.book.specs.Machine.{machine}
 use Rattle.book.specs.Entry.{entryData, pnumOf, pcmdOf, joinedItem}
 use Rattle.book.specs.Join.{follows}
@@ -27,55 +28,58 @@ use Rattle.acceptance.proofs.Lamps.{LampGroup, entry-lamp-group}
 use Rattle.acceptance.proofs.Memories.{Writes, writes-ram, writes-eeprom, ByteGroup, entry-byte-group}
 
 -- the targets of joined lamp steps ascend
-lamp-group : (k : ℕ) → k < 3 → (p : Step) (ss : List Step) → p .kind ≡ k → Linked p ss → LampGroup k (suc (p .target)) ss
+lamp-group : (k : ℕ) → k < ramKind → (p : Step) (ss : List Step) → p .kind ≡ k → Linked p ss → LampGroup k (suc (p .target)) ss
 unfolding follows
 lamp-group k h p [] e l = tt
 lamp-group k h p (s ∷ ss) e l =
     let same : s .kind ≡ k = eqb-true _ _ (and-left _ _ (l .1)) ∙ e in
-    let up : p .target < s .target = ltb-true _ _ (rw (e, lt-ltb k 3 h) at (and-right (eqb (s .kind) (p .kind)) _ (l .1))) in
+    let up : p .target < s .target = ltb-true _ _ (rw (e, lt-ltb k ramKind h) at (and-right (eqb (s .kind) (p .kind)) _ (l .1))) in
     (l .0, same, up, lamp-group k h s ss same (l .2))
 
 -- those of memory steps are adjacent
-byte-group : (k : ℕ) → 3 ≤ k → (p : Step) (ss : List Step) → p .kind ≡ k → Linked p ss → ByteGroup k (suc (p .target)) ss
+byte-group : (k : ℕ) → ramKind ≤ k → (p : Step) (ss : List Step) → p .kind ≡ k → Linked p ss → ByteGroup k (suc (p .target)) ss
 unfolding follows
 byte-group k h p [] e l = tt
 byte-group k h p (s ∷ ss) e l =
     let same : s .kind ≡ k = eqb-true _ _ (and-left _ _ (l .1)) ∙ e in
-    let next : s .target ≡ suc (p .target) = eqb-true _ _ (rw (e, le-ltb k 3 h) at (and-right (eqb (s .kind) (p .kind)) _ (l .1))) in
+    let next : s .target ≡ suc (p .target) = eqb-true _ _ (rw (e, le-ltb k ramKind h) at (and-right (eqb (s .kind) (p .kind)) _ (l .1))) in
     (l .0, same, next, rw next at (byte-group k h s ss same (l .2)))
 
 -- no error, and this state
 abbrev Leaves : State → Reply State → Type 0
 Leaves st a = (a .error ≡ 0) × (a .after ≡ st)
 
-module _ (most : ℕ) (limit : most ≤ pdataMax) (s : Step) (ss : List Step) (st : State) (r : EntryGroup most (s ∷ ss)) where
+module _ (limit : ℕ) (fits-frame : limit ≤ pdataMax) (s : Step) (ss : List Step) (st : State) (r : EntryGroup limit (s ∷ ss)) where
   abbrev done : Reply State
   done = peripheralRequest (pnumOf (s .kind)) (pcmdOf (s .kind)) (entryData s ss) st
 
-  lamps-perform : s .kind < 3 → SoundState st → Leaves (machine (s ∷ ss) st) done
+  -- a lamp entry
+  lamps-perform : s .kind < ramKind → SoundState st → Leaves (machine (s ∷ ss) st) done
   unfolding entryData
   lamps-perform h k =
       let q : LampGroup (s .kind) 0 (s ∷ ss) = (r .0, refl, omega arith, lamp-group (s .kind) h s ss refl (r .1)) in
-      rw (lt-ltb (s .kind) 3 h, entry-lamp-group (s .kind) h (s ∷ ss) st (node-lamps (st .node) (k .node-ok)) q) (refl, refl)
+      rw (lt-ltb (s .kind) ramKind h, entry-lamp-group (s .kind) h (s ∷ ss) st (node-lamps (st .node) (k .node-ok)) q) (refl, refl)
 
-  bytes-perform : (m : Memory) → Writes (s .kind) m → 3 ≤ s .kind → length (memoryOf m st) ≡ sizeOf m → Leaves (machine (s ∷ ss) st) done
+  -- a memory entry
+  bytes-perform : (m : Memory) → Writes (s .kind) m → ramKind ≤ s .kind → length (memoryOf m st) ≡ sizeOf m → Leaves (machine (s ∷ ss) st) done
   unfolding entryData
   bytes-perform m w h size =
       let q : ByteGroup (s .kind) (s .target) (s ∷ ss) = (r .0, refl, refl, byte-group (s .kind) h s ss refl (r .1)) in
-      let length-max = rw (le-ltb (s .kind) 3 h) at (r .2) in
-      rw (le-ltb (s .kind) 3 h, entry-byte-group (s .kind) m w (s .target) s ss st size (omega arith) q) (refl, refl)
+      let length-max = rw (le-ltb (s .kind) ramKind h) at (r .2) in
+      rw (le-ltb (s .kind) ramKind h, entry-byte-group (s .kind) m w (s .target) s ss st size (omega arith) q) (refl, refl)
 
+  -- an entry of any kind
   kinds-perform : SoundState st → Leaves (machine (s ∷ ss) st) done
   kinds-perform k =
-      by-test (ltb (s .kind) 3) (λ t. lamps-perform (ltb-true (s .kind) 3 t) k)
-      (λ t. by-test (eqb (s .kind) 3)
-      (λ u. let e : s .kind ≡ 3 = eqb-true (s .kind) 3 u in
-      bytes-perform Ram (subst (λ (j : ℕ). Writes j Ram) (sym e) writes-ram) (ltb-false (s .kind) 3 t) (node-ram (st .node) (k .node-ok)))
-      (λ u. let h : 3 < s .kind = omega (arith, ltb-false (s .kind) 3 t, eqb-false (s .kind) 3 u) in
-      let e : s .kind ≡ 4 = eeprom-good s (r .0) h .0 in
+      by-test (ltb (s .kind) ramKind) (λ t. lamps-perform (ltb-true (s .kind) ramKind t) k)
+      (λ t. by-test (eqb (s .kind) ramKind)
+      (λ u. let e : s .kind ≡ ramKind = eqb-true (s .kind) ramKind u in
+      bytes-perform Ram (subst (λ (j : ℕ). Writes j Ram) (sym e) writes-ram) (ltb-false (s .kind) ramKind t) (node-ram (st .node) (k .node-ok)))
+      (λ u. let h : ramKind < s .kind = omega (arith, ltb-false (s .kind) ramKind t, eqb-false (s .kind) ramKind u) in
+      let e : s .kind ≡ eepromKind = eeprom-good s (r .0) h .0 in
       bytes-perform Eeprom (subst (λ (j : ℕ). Writes j Eeprom) (sym e) writes-eeprom) (omega arith) (k .eeprom-size)))
 
--- an entry that joining makes, for a profile that the node takes: no error, and the state of its steps done singly
+-- an entry that joining makes, for a profile that the node accepts: no error, and the state that the step machine reaches
 pub group-performs : {entryMax listMax : ℕ} {front : List ℕ} → Limits entryMax listMax front → (h : ℕ) (group : List Step) (st : State)
     → EntryGroup entryMax group → SoundState st → hwpidMatches (st .node .settings) h ≡ true
     → (executeEntry (joinedItem h group) st .error ≡ 0) × (executeEntry (joinedItem h group) st .after ≡ machine group st)

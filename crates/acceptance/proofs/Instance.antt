@@ -14,16 +14,17 @@ use Rattle.memory.specs.Block.{sizeOf}
 use Rattle.batch.specs.Batch.{entryBytes, entriesBytes}
 use Rattle.lights.specs.declared.lamp.Lamp.{Lamp}
 use Rattle.lights.specs.Lamp.{lamp, off, lampOk, lampZero, lampFits}
+use Rattle.lights.specs.Lights.{timeOk}
 use Rattle.node.specs.Node.{shapeOk, lampsOk, nodeOk}
 use Rattle.handler.specs.Request.{State, state, batchPcmd}
 use Rattle.book.specs.Book.{chained, bookOk, sceneOf}
 use Rattle.book.specs.Step.{stepTimeOk, lampFault, byteFault, stepFault}
 use Rattle.book.specs.Machine.{timeFormed, wellFormed, machineLevel, machineSeconds, machineLamps, machineEffect, machineStep, machine}
 use Rattle.book.specs.Entry.{powerBytes, entryData, pnumOf, pcmdOf}
-use Rattle.book.specs.Join.{follows, entryLimit}
-use Rattle.scene.specs.Compile.{listLimit, batchesOf, sceneRequests}
+use Rattle.book.specs.Join.{follows}
+use Rattle.scene.specs.Compile.{batchesOf, entryLimit, listLimit, sceneRequests}
 use Rattle.scene.specs.Call.{minOutput, requestsIn, compileFor}
-use Rattle.acceptance.specs.Condition3.{Addressable, SceneRule, Given, MatchesMachine, afterCalls}
+use Rattle.acceptance.specs.SceneTheorem.{Addressable, SceneRule, Given, MatchesMachine, afterCalls}
 use Rattle.acceptance.proofs.Refusals.{compile-refusals}
 use Rattle.acceptance.proofs.Scenes.{condition-3}
 
@@ -36,6 +37,7 @@ nodeWith lamps ram eeprom =
       ram = replicate 44 0xAA ++ ram;
     }) (replicate 190 0x55 ++ eeprom) (replicate (sizeOf External) 0x11)
 
+-- the node before the scene
 abbrev before : State
 before =
     nodeWith (lamp 30 90 ∷ lamp 0 0 ∷ lamp 100 7620 ∷ lamp 15 0 ∷ lamp 1 1 ∷ [])
@@ -71,7 +73,7 @@ given-all = let g = given-own in record { sound = g .sound; room = g .room; addr
 
 -- the scene has no fault
 pub faultless : SceneRule book 1
-unfolding bookOk chained sceneOf stepFault lampFault byteFault stepTimeOk
+unfolding bookOk chained sceneOf stepFault lampFault byteFault stepTimeOk timeOk
 faultless =
     record {
       well-formed = refl;
@@ -110,7 +112,7 @@ machine-leaves = refl
 pub done-own : MatchesMachine batchPcmd 7 buffers (sceneRequests 7 0x2471 (sceneOf book 1)) (sceneOf book 1) before
 done-own = condition-3 .requests before buffers book 1 7 0x2471 given-own faultless
 
--- at broadcast
+-- for broadcast
 pub done-all : MatchesMachine batchPcmd broadcastNadr buffers (sceneRequests broadcastNadr anyHwpid (sceneOf book 1)) (sceneOf book 1) before
 done-all = condition-3 .requests before buffers book 1 broadcastNadr anyHwpid given-all faultless
 
@@ -118,7 +120,7 @@ done-all = condition-3 .requests before buffers book 1 broadcastNadr anyHwpid gi
 pub buffer-own : MatchesMachine batchPcmd 7 buffers (requestsIn (compileFor book 1 7 0x2471 out .buffer)) (sceneOf book 1) before
 buffer-own = condition-3 .buffer before buffers book 1 7 0x2471 out given-own (accepted 7 0x2471 (inl (omega arith, omega arith)))
 
--- at broadcast
+-- for broadcast
 pub buffer-all : MatchesMachine batchPcmd broadcastNadr buffers (requestsIn (compileFor book 1 broadcastNadr anyHwpid out .buffer)) (sceneOf book 1) before
 buffer-all = condition-3 .buffer before buffers book 1 broadcastNadr anyHwpid out given-all (accepted broadcastNadr anyHwpid (inr refl))
 

@@ -10,13 +10,15 @@ use lib.Dec.{ltb, eqb}
 use lib.Pow.{pow-mono}
 use borrow.Author.Tests.{lt-ltb, le-ltb, ltb-true, ltb-false, eqb-true, eqb-false, le-leb, ne-eqb}
 use Rattle.dpa.specs.Number.{low, high}
+use Rattle.dpa.specs.Pnum.{lightsPnum}
+use Rattle.dpa.specs.Settings.{maxLamps}
 use Rattle.dpa.specs.Lists.{Bytes}
 use Rattle.dpa.specs.Reply.{reply, mapState}
 use Rattle.dpa.specs.declared.settings.Settings.{Settings}
 use Rattle.dpa.proofs.Bool.{by-test}
-use Rattle.lights.specs.Bits.{bits, count, bitmap}
-use Rattle.lights.specs.Lamp.{off}
-use Rattle.lights.specs.Lights.{powerOk, timeOk, secondsOf, change, allValid, powerEntries, newLevel, lampAfter, lampsAfter, levelsBefore, changeLamps, lightsRequest}
+use Rattle.lights.specs.Bits.{bitmapSize, bits, count, bitmap}
+use Rattle.lights.specs.Lamp.{maxLevel, off}
+use Rattle.lights.specs.Lights.{bit7, keepPower, powerOk, timeOk, secondsOf, change, allValid, powerEntries, newLevel, lampAfter, lampsAfter, levelsBefore, changeLamps, lightsRequest}
 use Rattle.lights.proofs.Bits.{bits-mask}
 use Rattle.lights.specs.declared.apply.Command.{Command}
 use Rattle.lights.specs.declared.apply.Command.the-variants.{Set, Raise, Lower}
@@ -26,7 +28,7 @@ use Rattle.node.specs.Node.{withLamps}
 use Rattle.handler.specs.Request.{State, withNode, peripheralRequest}
 use Rattle.handler.proofs.Peripherals.{peripheral-lights}
 use Rattle.book.specs.declared.step.Step.{Step}
-use Rattle.book.specs.Step.{stepTimeOk}
+use Rattle.book.specs.Step.{ramKind, stepTimeOk}
 use Rattle.book.specs.Machine.{machineLevel, machineSeconds, machineLamp, machineLamps, machineEffect, machineStep, machine}
 use Rattle.book.specs.Entry.{bitmapOf, bitmapBytes, powerBytes, powersBytes, pnumOf, pcmdOf}
 use Rattle.book.proofs.Faults.{Good, LampGood, lamp-good, good-formed}
@@ -48,10 +50,10 @@ digit-zero n m h e =
     rw (q, r)
 
 module _ {A : Type 0} (target : A → ℕ) where
-  -- targets that ascend from i and are below 32
+  -- targets that ascend from i and are numbers of lamps
   abbrev pub Ascending : ℕ → List A → Type 0
   Ascending i [] = Unit {0}
-  Ascending i (s ∷ ss) = (i ≤ target s) × (target s < 32) × Ascending (suc (target s)) ss
+  Ascending i (s ∷ ss) = (i ≤ target s) × (target s < maxLamps) × Ascending (suc (target s)) ss
 
   -- the number whose 1 bits are the targets, lamp i having the lowest bit
   abbrev pub maskFrom : ℕ → List A → ℕ
@@ -80,7 +82,7 @@ module _ {A : Type 0} (target : A → ℕ) where
       digit-zero n (maskFrom i (s ∷ ss)) (maskFrom (suc i) (s ∷ ss)) (mask-double i (target s) (s ∷ ss) h (le-refl (target s), a .1, a .2))
 
   -- as many 1 bits as targets
-  pub mask-count : (n i : ℕ) (ss : List A) → n + i ≡ 32 → Ascending i ss → count (bits n (maskFrom i ss)) ≡ length ss
+  pub mask-count : (n i : ℕ) (ss : List A) → n + i ≡ maxLamps → Ascending i ss → count (bits n (maskFrom i ss)) ≡ length ss
   unfolding bits
   mask-count zero i [] h a = refl
   mask-count zero i (s ∷ ss) h a = absurd (omega (arith, a .0, a .1))
@@ -92,14 +94,14 @@ module _ {A : Type 0} (target : A → ℕ) where
       (λ t. let l : i < target s = omega (arith, eqb-false (target s) i t, a .0) in
       ap count (digits-later n i s ss l a) ∙ mask-count n (suc i) (s ∷ ss) (omega arith) (l, a .1, a .2))
 
-  -- the mask fits 32 bits
-  mask-room : (ss : List A) (j : ℕ) → Ascending j ss → j ≤ 32 → maskFrom 0 ss + 2 ^ j ≤ 2 ^ 32
+  -- the mask has a bit for each lamp at most
+  mask-room : (ss : List A) (j : ℕ) → Ascending j ss → j ≤ maxLamps → maskFrom 0 ss + 2 ^ j ≤ 2 ^ maxLamps
   mask-room [] j a h = omega (arith, pow-mono h)
   mask-room (s ∷ ss) j a h =
       rw (sub-zero (target s)) (omega (arith, pow-mono (a .0), mask-room ss (suc (target s)) (a .2) (a .1), two-pow-succ (target s)))
 
-  -- and is below 2 ^ 32
-  pub mask-max : (ss : List A) → Ascending 0 ss → maskFrom 0 ss < 2 ^ 32
+  -- and is below that
+  pub mask-max : (ss : List A) → Ascending 0 ss → maskFrom 0 ss < 2 ^ maxLamps
   mask-max ss a = omega (arith, mask-room ss 0 a (omega arith))
 
   module _ (change : A → LampChange) (c : Command) where
@@ -130,7 +132,7 @@ module _ {A : Type 0} (target : A → ℕ) where
         ∙ all-later n i (suc (target s)) ss l (applyOne (n - 1) (suc i) s ls) (omega (arith, a .0)) (a .2)
 
     -- changing all lamps at once is changing them one after another
-    pub lamps-one-by-one : (m n i : ℕ) (ss : List A) (ls : List Lamp) → m + i ≡ 32 → length ls ≡ m → Ascending i ss
+    pub lamps-one-by-one : (m n i : ℕ) (ss : List A) (ls : List Lamp) → m + i ≡ maxLamps → length ls ≡ m → Ascending i ss
         → lampsAfter c n (bits m (maskFrom i ss)) (map change ss) ls ≡ applyAll n i ss ls
     unfolding lampsAfter bits
     lamps-one-by-one zero n i [] ls h k a = refl
@@ -168,25 +170,25 @@ four-bytes a b d e p q r s (suc (suc (suc (suc i)))) = omega arith
 
 -- the bitmap of a number's four bytes
 pub bitmap-bytes : (m a b d e : ℕ) (rest : List ℕ) → a < 256 → b < 256 → d < 256 → e < 256
-    → m ≡ a + 256 * b + 65536 * (d + 256 * e) → bitmap (a ∷ b ∷ d ∷ e ∷ rest) ≡ bits 32 m
+    → m ≡ a + 256 * b + 65536 * (d + 256 * e) → bitmap (a ∷ b ∷ d ∷ e ∷ rest) ≡ bits maxLamps m
 unfolding bitmap
 bitmap-bytes m a b d e rest p q r s w =
-    sym (bits-mask (a ∷ b ∷ d ∷ e ∷ []) (four-bytes a b d e p q r s)) ∙ ap (bits 32) (sym w)
+    sym (bits-mask (a ∷ b ∷ d ∷ e ∷ []) (four-bytes a b d e p q r s)) ∙ ap (bits maxLamps) (sym w)
 
 -- a power without a time, before valid power entries
-pub entry-level : (n v : ℕ) (xs : List ℕ) (es : List LampChange) → v ≤ 100 → powerEntries n xs ≡ allValid es → powerEntries (suc n) (v ∷ xs) ≡ allValid (change v 0 ∷ es)
+pub entry-level : (n v : ℕ) (xs : List ℕ) (es : List LampChange) → v ≤ maxLevel → powerEntries n xs ≡ allValid es → powerEntries (suc n) (v ∷ xs) ≡ allValid (change v 0 ∷ es)
 unfolding powerOk
 entry-level n v xs es h e =
-    let q : v % 128 ≡ v = omega arith in
-    rw (q, le-leb v 100 h, lt-ltb v 128 (omega arith), e)
+    let q : v % bit7 ≡ v = omega arith in
+    rw (q, le-leb v maxLevel h, lt-ltb v bit7 (omega arith), e)
 
 -- a power with a time
-pub entry-timed : (n v t : ℕ) (xs : List ℕ) (es : List LampChange) → v ≤ 100 → timeOk t ≡ true → powerEntries n xs ≡ allValid es
-    → powerEntries (suc n) ((v + 128) ∷ t ∷ xs) ≡ allValid (change v (secondsOf t) ∷ es)
+pub entry-timed : (n v t : ℕ) (xs : List ℕ) (es : List LampChange) → v ≤ maxLevel → timeOk t ≡ true → powerEntries n xs ≡ allValid es
+    → powerEntries (suc n) ((v + bit7) ∷ t ∷ xs) ≡ allValid (change v (secondsOf t) ∷ es)
 unfolding powerOk
 entry-timed n v t xs es h k e =
-    let q : (v + 128) % 128 ≡ v = omega arith in
-    rw (q, le-leb v 100 h, le-ltb (v + 128) 128 (omega arith), k, e)
+    let q : (v + bit7) % bit7 ≡ v = omega arith in
+    rw (q, le-leb v maxLevel h, le-ltb (v + bit7) bit7 (omega arith), k, e)
 
 -- ---- steps
 
@@ -209,7 +211,7 @@ commandOf (suc zero) = Raise
 commandOf (suc (suc k)) = Lower
 
 -- the step machine's level and seconds are those of the request
-machine-level : (k level value : ℕ) → k < 3 → machineLevel k level value ≡ newLevel (commandOf k) level value
+machine-level : (k level value : ℕ) → k < ramKind → machineLevel k level value ≡ newLevel (commandOf k) level value
 unfolding machineLevel
 machine-level zero level value h = refl
 machine-level (suc zero) level value h = omega arith
@@ -223,20 +225,20 @@ machine-seconds time level =
     (λ t. let z : time ≡ 0 = eqb-true time 0 t in rw z (by-test (eqb level 0) (λ u. rw u) (λ u. rw u)))
     (λ t. rw t)
 
-module _ (k : ℕ) (lamp : k < 3) where
+module _ (k : ℕ) (lamp : k < ramKind) where
   parts : (s : Step) → Good s → s .kind ≡ k → LampGood s
   parts s g e = lamp-good s g (omega arith)
 
   machine-lamp : (s : Step) (l : Lamp) → Good s → s .kind ≡ k → machineLamp s l ≡ lampAfter (commandOf k) l (changeOf s .power) (changeOf s .seconds)
   unfolding lampAfter
   machine-lamp s l g e =
-      rw (e, machine-level k (l .level) (s .value) lamp, machine-seconds, ne-eqb (s .value) 127 (omega (arith, parts s g e .value-max)))
+      rw (e, machine-level k (l .level) (s .value) lamp, machine-seconds, ne-eqb (s .value) keepPower (omega (arith, parts s g e .value-max)))
 
   machine-lamp-step : (s : Step) (st : State) → Good s → s .kind ≡ k
       → machineStep s st ≡ withNode st (withLamps (st .node) (applyOne targetOf changeOf (commandOf k) (st .node .settings .«lamp_count») 0 s (st .node .lamps)))
   unfolding machineStep machineEffect machineLamps
   machine-lamp-step s st g e =
-      rw (good-formed s .0 g, machine-lamp s (getD (st .node .lamps) (s .target) off) g e, e, lt-ltb k 3 lamp, sub-zero (s .target))
+      rw (good-formed s .0 g, machine-lamp s (getD (st .node .lamps) (s .target) off) g e, e, lt-ltb k ramKind lamp, sub-zero (s .target))
 
   -- the step machine over a group
   pub machine-lamp-group : (i : ℕ) (ss : List Step) (st : State) → LampGroup k i ss
@@ -253,13 +255,13 @@ module _ (k : ℕ) (lamp : k < 3) where
   bitmap-mask (s ∷ ss) = rw (sub-zero (s .target), bitmap-mask ss)
 
   -- the bitmap of the entry has a 1 bit for each step
-  group-digits : (ss : List Step) (rest : List ℕ) → LampGroup k 0 ss → bitmap (bitmapBytes (bitmapOf ss) ++ rest) ≡ bits 32 (maskFrom targetOf 0 ss)
+  group-digits : (ss : List Step) (rest : List ℕ) → LampGroup k 0 ss → bitmap (bitmapBytes (bitmapOf ss) ++ rest) ≡ bits maxLamps (maskFrom targetOf 0 ss)
   group-digits ss rest r =
       let m = bitmapOf ss in
-      let max : m < 2 ^ 32 = omega (arith, bitmap-mask ss, mask-max targetOf ss (group-ascends 0 ss r)) in
+      let max : m < 2 ^ maxLamps = omega (arith, bitmap-mask ss, mask-max targetOf ss (group-ascends 0 ss r)) in
       bitmap-bytes m (low m) (low (high m)) (low (high (high m))) (low (high (high (high m)))) rest
       (omega arith) (omega arith) (omega arith) (omega arith) (omega arith)
-      ∙ ap (bits 32) (bitmap-mask ss)
+      ∙ ap (bits maxLamps) (bitmap-mask ss)
 
   -- the power bytes are read back as the changes of the steps
   group-entries : (i : ℕ) (ss : List Step) → LampGroup k i ss → powerEntries (length ss) (powersBytes ss) ≡ allValid (map changeOf ss)
@@ -277,7 +279,7 @@ module _ (k : ℕ) (lamp : k < 3) where
   unfolding lightsRequest
   request-command s xs ls = go k lamp
     where
-      go : (j : ℕ) → j < 3 → lightsRequest s j xs ls ≡ changeLamps s (commandOf j) xs ls
+      go : (j : ℕ) → j < ramKind → lightsRequest s j xs ls ≡ changeLamps s (commandOf j) xs ls
       go zero h = refl
       go (suc zero) h = refl
       go (suc (suc zero)) h = refl
@@ -287,27 +289,27 @@ module _ (k : ℕ) (lamp : k < 3) where
       → peripheralRequest (pnumOf k) (pcmdOf k) d st
       ≡ mapState (withNode st) (mapState (withLamps (st .node)) (changeLamps (st .node .settings) (commandOf k) d (st .node .lamps)))
   unfolding pnumOf pcmdOf
-  entry-lights d st = rw (lt-ltb k 3 lamp) (peripheral-lights 0x71 k d st refl ∙ rw (request-command (st .node .settings) d (st .node .lamps)))
+  entry-lights d st = rw (lt-ltb k ramKind lamp) (peripheral-lights lightsPnum k d st refl ∙ rw (request-command (st .node .settings) d (st .node .lamps)))
 
   -- the lights request of a group
-  request-group : (s : Settings) (ss : List Step) (ls : List Lamp) → length ls ≡ 32 → LampGroup k 0 ss
+  request-group : (s : Settings) (ss : List Step) (ls : List Lamp) → length ls ≡ maxLamps → LampGroup k 0 ss
       → changeLamps s (commandOf k) (bitmapBytes (bitmapOf ss) ++ powersBytes ss) ls
-      ≡ reply (applyAll targetOf changeOf (commandOf k) (s .«lamp_count») 0 ss ls) 0 (levelsBefore s (s .«lamp_count») (bits 32 (maskFrom targetOf 0 ss)) ls)
+      ≡ reply (applyAll targetOf changeOf (commandOf k) (s .«lamp_count») 0 ss ls) 0 (levelsBefore s (s .«lamp_count») (bits maxLamps (maskFrom targetOf 0 ss)) ls)
   unfolding changeLamps
   request-group s ss ls full r =
       let a = group-ascends 0 ss r in
       rw (
-        le-ltb (suc (suc (suc (suc (length (powersBytes ss)))))) 4 (omega arith),
+        le-ltb (suc (suc (suc (suc (length (powersBytes ss)))))) bitmapSize (omega arith),
         group-digits ss (powersBytes ss) r,
-        mask-count targetOf 32 0 ss refl a,
+        mask-count targetOf maxLamps 0 ss refl a,
         group-entries 0 ss r,
-        lamps-one-by-one targetOf changeOf (commandOf k) 32 (s .«lamp_count») 0 ss ls refl full a,
+        lamps-one-by-one targetOf changeOf (commandOf k) maxLamps (s .«lamp_count») 0 ss ls refl full a,
       )
 
   -- the entry of a group: no error, and the state that the step machine reaches
-  pub entry-lamp-group : (ss : List Step) (st : State) → length (st .node .lamps) ≡ 32 → LampGroup k 0 ss
+  pub entry-lamp-group : (ss : List Step) (st : State) → length (st .node .lamps) ≡ maxLamps → LampGroup k 0 ss
       → peripheralRequest (pnumOf k) (pcmdOf k) (bitmapBytes (bitmapOf ss) ++ powersBytes ss) st
-      ≡ reply (machine ss st) 0 (levelsBefore (st .node .settings) (st .node .settings .«lamp_count») (bits 32 (maskFrom targetOf 0 ss)) (st .node .lamps))
+      ≡ reply (machine ss st) 0 (levelsBefore (st .node .settings) (st .node .settings .«lamp_count») (bits maxLamps (maskFrom targetOf 0 ss)) (st .node .lamps))
   entry-lamp-group ss st full r =
       entry-lights (bitmapBytes (bitmapOf ss) ++ powersBytes ss) st
       ∙ rw (request-group (st .node .settings) ss (st .node .lamps) full r, machine-lamp-group 0 ss st r)

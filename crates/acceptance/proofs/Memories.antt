@@ -8,22 +8,26 @@ use lib.Seq.{sets}
 use Rattle.dpa.specs.Reply.{reply}
 use Rattle.memory.specs.declared.block.Memory.{Memory}
 use Rattle.memory.specs.declared.block.Memory.the-variants.{Eeprom, Ram}
-use Rattle.memory.specs.Block.{sizeOf, longestOf, addressBytes, writeCommand}
+use Rattle.memory.specs.Block.{memoryPnum, sizeOf, longestOf, addressBytes, writeCommand}
 use Rattle.memory.proofs.Blocks.{BlockFits}
 use Rattle.memory.proofs.Overwrite.{overwrite-sets}
 use Rattle.memory.proofs.Requests.{write-byte-address}
 use Rattle.handler.specs.Request.{State, memoryOf, withMemory, memoryRequestOnState, peripheralRequest}
 use Rattle.handler.proofs.Peripherals.{memory-same, peripheral-memory}
 use Rattle.book.specs.declared.step.Step.{Step}
+use Rattle.book.specs.Step.{ramKind, eepromKind}
 use Rattle.book.specs.Machine.{machineEffect, machineStep, machine}
 use Rattle.book.specs.Entry.{values, pnumOf, pcmdOf}
+use Rattle.book.specs.EntrySize.{addressLength}
 use Rattle.book.proofs.Faults.{Good, ram-good, eeprom-good, good-formed}
 
+-- the bytes that were put into a memory
 bytes-with : (m : Memory) (st : State) (bytes : List ℕ) → memoryOf m (withMemory m st bytes) ≡ bytes
 bytes-with Memory.Eeprom st bytes = refl
 bytes-with Memory.Ram st bytes = refl
 bytes-with Memory.External st bytes = refl
 
+-- the last bytes that were put into a memory replace earlier ones
 with-with : (m : Memory) (st : State) (first bytes : List ℕ) → withMemory m (withMemory m st first) bytes ≡ withMemory m st bytes
 with-with Memory.Eeprom st first bytes = refl
 with-with Memory.Ram st first bytes = refl
@@ -34,29 +38,29 @@ pub record Writes (k : ℕ) (m : Memory) : Type 0 where
   pub in-range : (s : Step) → Good s → s .kind ≡ k → s .target < sizeOf m
   pub step : (s : Step) (st : State) → Good s → s .kind ≡ k → machineStep s st ≡ withMemory m st (set (memoryOf m st) (s .target) (s .value))
   pub entry : (d : List ℕ) (st : State) → peripheralRequest (pnumOf k) (pcmdOf k) d st ≡ memoryRequestOnState m (writeCommand m) d st
-  pub address : addressBytes m ≡ 1
-  pub block : (n : ℕ) → n ≤ 55 → n ≤ sizeOf m → n ≤ longestOf m
+  pub address : addressBytes m ≡ addressLength
+  pub block : (n : ℕ) → n ≤ longestOf Eeprom → n ≤ sizeOf m → n ≤ longestOf m
 
--- kind 3 writes RAM
-pub writes-ram : Writes 3 Ram
+-- a step of kind RAM writes RAM
+pub writes-ram : Writes ramKind Ram
 unfolding machineStep machineEffect pnumOf pcmdOf
 writes-ram =
     record {
       in-range = λ s g e. ram-good s g e .target-max;
       step = λ s st g e. rw (good-formed s .0 g, e);
-      entry = λ d st. peripheral-memory 5 1 d st Ram refl;
+      entry = λ d st. peripheral-memory (memoryPnum Ram) (writeCommand Ram) d st Ram refl;
       address = refl;
       block = λ n h l. l;
     }
 
--- kind 4 writes the EEPROM
-pub writes-eeprom : Writes 4 Eeprom
+-- a step of kind EEPROM writes EEPROM
+pub writes-eeprom : Writes eepromKind Eeprom
 unfolding machineStep machineEffect pnumOf pcmdOf
 writes-eeprom =
     record {
       in-range = λ s g e. eeprom-good s g (omega arith) .1 .target-max;
       step = λ s st g e. rw (good-formed s .0 g, e);
-      entry = λ d st. peripheral-memory 3 1 d st Eeprom refl;
+      entry = λ d st. peripheral-memory (memoryPnum Eeprom) (writeCommand Eeprom) d st Eeprom refl;
       address = refl;
       block = λ n h l. h;
     }
@@ -80,7 +84,7 @@ module _ (k : ℕ) (m : Memory) (w : Writes k m) where
 
   -- the entry of a group: no error, and the state that the step machine reaches
   pub entry-byte-group : (i : ℕ) (s : Step) (ss : List Step) (st : State)
-      → length (memoryOf m st) ≡ sizeOf m → length (values (s ∷ ss)) ≤ 55 → ByteGroup k i (s ∷ ss)
+      → length (memoryOf m st) ≡ sizeOf m → length (values (s ∷ ss)) ≤ longestOf Eeprom → ByteGroup k i (s ∷ ss)
       → peripheralRequest (pnumOf k) (pcmdOf k) (i ∷ values (s ∷ ss)) st ≡ reply (machine (s ∷ ss) st) 0 []
   entry-byte-group i s ss st size length-max r =
       let d = values (s ∷ ss) in

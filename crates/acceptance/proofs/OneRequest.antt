@@ -23,7 +23,7 @@ use Rattle.handler.specs.Request.{State, SoundState, frameItem, noReport, Outco
 use Rattle.node.proofs.Nodes.{node-settings}
 use Rattle.handler.proofs.Calls.{frame-broadcast, frame-unicast, call-accepted}
 use Rattle.handler.proofs.Soundness.{execute-sound}
-use Rattle.acceptance.specs.Condition3.{Success}
+use Rattle.acceptance.specs.SceneTheorem.{Success}
 use Rattle.acceptance.proofs.Batches.{noErrorOutcome}
 
 -- a sound state, a frame of a valid size and a response buffer with room: the call is not refused

@@ -10,7 +10,7 @@ use Rattle.handler.specs.Request.{State, handleRequest}
 use Rattle.scene.specs.Call.{splitBy, requestsIn, lengths, output}
 use Rattle.book.specs.Group.{concat}
 use Rattle.scene.proofs.Outputs.{lengths-length}
-use Rattle.acceptance.specs.Condition3.{afterCalls}
+use Rattle.acceptance.specs.SceneTheorem.{afterCalls}
 use Rattle.acceptance.specs.RunScene.{zeroBuffer, totalLength, CompleteOutput}
 
 -- the bytes hold the first request, of the first length n

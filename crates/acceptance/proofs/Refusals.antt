@@ -21,7 +21,7 @@ use Rattle.book.proofs.Faults.{Good, no-bad}
 use Rattle.scene.specs.Compile.{sceneRequests}
 use Rattle.scene.specs.Call.{CompileResult, output, minOutput, refusedWith, outputInBuffer, addressOk, compileSteps, compileScene, compileFor}
 use Rattle.scene.proofs.Outputs.{Faultless, compile-written, compile-refused}
-use Rattle.acceptance.specs.Condition3.{Addressable, NoFault, SceneRule, FirstBad, Refusals}
+use Rattle.acceptance.specs.SceneTheorem.{Addressable, NoFault, SceneRule, FirstBad, Refusals}
 
 -- ---- the faults, and the tests of the call
 
@@ -100,7 +100,7 @@ rule-faultless b k r =
 
 -- ---- the call
 
--- two different numbers are not equal
+-- rules out a case: its number is another one
 no : {F X : Type 0} {m n : ℕ} → eqb m n ≡ false → F → m ≡ n → X
 no {m} {n} t f e = absurd (eqb-false m n t e)
 

@@ -7,7 +7,7 @@ use Prim.Native.Nat.{ℕ, suc}
 use native.Mathlib.Omega.{arith}
 use lib.Dec.{eqb}
 use lib.ListN.{length, drop}
-use borrow.Author.Tests.{eq-eqb, ne-eqb, eqb-true}
+use borrow.Author.Tests.{eq-eqb, ne-eqb, eqb-true, eqb-false}
 use Rattle.dpa.proofs.Bool.{by-cond}
 use Rattle.memory.specs.declared.block.Memory.the-variants.{Eeprom, External}
 use Rattle.memory.specs.Block.{sizeOf}
@@ -19,7 +19,7 @@ use Rattle.book.specs.Machine.{machine}
 use Rattle.scene.specs.Compile.{sceneRequests}
 use Rattle.scene.specs.Call.{CompileResult, output, requestsIn, compileFor}
 use Rattle.scene.proofs.Outputs.{compile-refused}
-use Rattle.acceptance.specs.Condition3.{Given, afterCalls}
+use Rattle.acceptance.specs.SceneTheorem.{Given, afterCalls}
 use Rattle.acceptance.specs.RunScene.{zeroBuffer, CompleteOutput, SceneResult, result, afterCompile, runScene}
 use Rattle.acceptance.proofs.Refusals.{accepted-answer, compile-refusals}
 use Rattle.acceptance.proofs.Scenes.{buffer-theorem}
@@ -47,10 +47,14 @@ module _ (book : List ℕ) (k : ℕ) (st : State) (out : List ℕ) where
       unfolding runScene
       run-external n = rw (ok, eq-eqb (length (st .eeprom)) (sizeOf Eeprom) e, ne-eqb (length (st .external)) (sizeOf External) n)
 
+-- the result of compiling for the node's own address and profile
+abbrev compileOwn : List ℕ → ℕ → State → List ℕ → CompileResult
+compileOwn book k st out = compileFor book k (st .node .settings .address) (st .node .settings .hwpid) out
+
 -- the tests are passed: the state is sound, and c is the result of compiling for the node
 pub record Compiled (book : List ℕ) (k : ℕ) (st : State) (out : List ℕ) (c : CompileResult) : Type 0 where
   pub sound : SoundState st
-  pub result-is : c ≡ compileFor book k (st .node .settings .address) (st .node .settings .hwpid) out
+  pub result-is : c ≡ compileOwn book k st out
 
 module _ {book : List ℕ} {k : ℕ} {st : State} {out : List ℕ} {c : CompileResult} (p : Compiled book k st out c) where
   compiled-first : runScene book k st out ≡ afterCompile c st (machine (sceneOf book k) st)
@@ -66,7 +70,7 @@ module _ {book : List ℕ} {k : ℕ} {st : State} {out : List ℕ} {c : CompileR
   run-refused n = sym (compiled-first ∙ rw (ne-eqb (c .refusal) 0 n))
 
   module _ (z : c .refusal ≡ 0) where
-    accepted : compileFor book k (st .node .settings .address) (st .node .settings .hwpid) out .refusal ≡ 0
+    accepted : compileOwn book k st out .refusal ≡ 0
     accepted = sym (ap (λ (d : CompileResult). d .refusal) (p .result-is)) ∙ z
 
     -- the buffer holds all requests
@@ -98,40 +102,33 @@ calls-sound buffers (f ∷ fs) st r =
     calls-sound (λ i. buffers (suc i)) fs (handleRequest f st (buffers 0) .after) (request-sound f st (buffers 0) r)
 
 module _ (book : List ℕ) (k : ℕ) (st : State) (out : List ℕ) where
-  abbrev Unchanged : SceneResult → Type 0
-  Unchanged r = (r .refusal ≡ 0 → ⊥) → (r .after ≡ st) × (r .out ≡ out)
+  -- a property of results holds for every call if it holds where the node or a memory is refused, where the compiler refuses, and
+  -- for the state that the step machine reaches
+  run-cases : (P : SceneResult → Type 0) → ((refusal : ℕ) → P (result refusal 0 st out))
+      → (let c = compileOwn book k st out in (c .refusal ≡ 0 → ⊥) → P (result (c .refusal) (c .step) st (c .buffer)))
+      → (let c = compileOwn book k st out in c .refusal ≡ 0 → P (result 0 0 (machine (sceneOf book k) st) (c .buffer)))
+      → P (runScene book k st out)
+  unfolding runScene afterCompile
+  run-cases P refused not-compiled done =
+      by-cond P (nodeOk (st .node)) _ _
+      (λ _. by-cond P (eqb (length (st .eeprom)) (sizeOf Eeprom)) _ _
+      (λ _. by-cond P (eqb (length (st .external)) (sizeOf External)) _ _
+      (λ _. by-cond P (eqb (compileOwn book k st out .refusal) 0) _ _ (λ z. done (eqb-true _ _ z)) (λ n. not-compiled (eqb-false _ _ n)))
+      (λ _. refused 4))
+      (λ _. refused 4))
+      (λ _. refused 1)
 
   -- a refused call leaves the node, both memories and the buffer unchanged
   pub scene-refused : (runScene book k st out .refusal ≡ 0 → ⊥) → (runScene book k st out .after ≡ st) × (runScene book k st out .out ≡ out)
-  unfolding runScene afterCompile
   scene-refused =
-      let a = st .node .settings .address in
-      let h = st .node .settings .hwpid in
-      by-cond Unchanged (nodeOk (st .node)) _ _
-      (λ _. by-cond Unchanged (eqb (length (st .eeprom)) (sizeOf Eeprom)) _ _
-      (λ _. by-cond Unchanged (eqb (length (st .external)) (sizeOf External)) _ _
-      (λ _. by-cond Unchanged (eqb (compileFor book k a h out .refusal) 0) _ _
-      (λ _ n. absurd (n refl))
-      (λ _ n. (refl, compile-refused book k a h out n .1)))
-      (λ _ _. (refl, refl)))
-      (λ _ _. (refl, refl)))
+      run-cases (λ (r : SceneResult). (r .refusal ≡ 0 → ⊥) → (r .after ≡ st) × (r .out ≡ out))
       (λ _ _. (refl, refl))
+      (λ n _. (refl, compile-refused book k (st .node .settings .address) (st .node .settings .hwpid) out n .1))
+      (λ _ n. absurd (n refl))
 
   -- running a scene keeps a state sound
   pub scene-sound : SoundState st → SoundState (runScene book k st out .after)
-  unfolding runScene afterCompile
-  scene-sound r =
-      let a = st .node .settings .address in
-      let h = st .node .settings .hwpid in
-      let c = compileFor book k a h out in
-      let Sound : SceneResult → Type 0 = λ (x : SceneResult). SoundState (x .after) in
-      by-cond Sound (nodeOk (st .node)) _ _
-      (λ _. by-cond Sound (eqb (length (st .eeprom)) (sizeOf Eeprom)) _ _
-      (λ _. by-cond Sound (eqb (length (st .external)) (sizeOf External)) _ _
-      (λ _. by-cond Sound (eqb (c .refusal) 0) _ _
-      (λ z. subst SoundState (buffer-theorem st (λ _. zeroBuffer) book k a h out (own-given st r) (eqb-true _ _ z) .final)
-      (calls-sound (λ _. zeroBuffer) (requestsIn (c .buffer)) st r))
-      (λ _. r))
-      (λ _. r))
-      (λ _. r))
-      (λ _. r)
+  scene-sound s =
+      run-cases (λ (r : SceneResult). SoundState (r .after)) (λ _. s) (λ _. s)
+      (λ z. subst SoundState (buffer-theorem st (λ _. zeroBuffer) book k (st .node .settings .address) (st .node .settings .hwpid) out (own-given st s) z .final)
+      (calls-sound (λ _. zeroBuffer) (requestsIn (compileOwn book k st out .buffer)) st s))

@@ -15,7 +15,7 @@ use Rattle.handler.proofs.Outcomes.{execute-os, os-batch}
 use Rattle.book.specs.Book.{sceneOf}
 use Rattle.scene.proofs.Batches.{batch-limits}
 use Rattle.scene.proofs.Outputs.{buffer-back}
-use Rattle.acceptance.specs.Condition3.{MatchesMachine, SceneTheorem, BufferTheorem, Condition3}
+use Rattle.acceptance.specs.SceneTheorem.{MatchesMachine, SceneTheorem, BufferTheorem, Condition3}
 use Rattle.acceptance.proofs.Entries.{group-performs}
 use Rattle.acceptance.proofs.AllRequests.{steps-done}
 use Rattle.acceptance.proofs.Refusals.{addressable, no-fault-good, rule-faultless, compile-refusals}

@@ -1,3 +1,3 @@
-pub mod Condition3
+pub mod SceneTheorem
 pub mod Examples
 pub mod RunScene

@@ -39,6 +39,7 @@ pub record SceneResult : Type 0 where
 abbrev pub sceneResult : SceneAnswer → List ℕ → List ℕ → List ℕ → SceneResult
 sceneResult r e x o = record { refusal = r .refusal; step = r .step; after = state (r .node) e x; out = o }
 
+-- a result from its parts
 abbrev pub result : ℕ → ℕ → State → List ℕ → SceneResult
 result refusal step st out = record { refusal = refusal; step = step; after = st; out = out }
 

@@ -13,7 +13,7 @@ ghost use Prim.Native.Nat.{_≤_};
 ghost use lib.ListN.{length};
 ghost use Rattle.scene.specs.Call.{splitBy, requestsIn};
 ghost use Rattle.handler.specs.Request.{state, handleRequest};
-ghost use Rattle.acceptance.specs.Condition3.{afterCalls};
+ghost use Rattle.acceptance.specs.SceneTheorem.{afterCalls};
 ghost use Rattle.acceptance.specs.RunScene.{zeroBuffer, totalLength, CompleteOutput, runScene, sceneResult};
 
 // `step` is the number of the bad step with refusal 8, and 0 otherwise. `node` is the node afterwards.
@@ -34,7 +34,7 @@ fn handle_one(node: Node, frame: &[u8], eeprom: &mut [u8], external: &mut [u8]) 
     handled.node
 }
 
-// Handles requests that follow one another, with these lengths.
+// Handles requests that follow one another in the bytes, each of the length that its length byte gives.
 fn handle_all(
     node: Node,
     lengths: &[u8],
@@ -64,6 +64,7 @@ fn handle_output(node: Node, output: &[u8], eeprom: &mut [u8], external: &mut [u
     handle_all(node, &output[1..start], &output[start..], eeprom, external)
 }
 
+// What `run_scene` returns.
 fn answer(refusal: u8, step: u8, node: Node) -> SceneAnswer
     ensures { λ r. ⌜ r ≡ record { refusal = refusal; step = step; node = node } ⌝ }
 {

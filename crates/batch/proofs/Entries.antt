@@ -51,20 +51,20 @@ module _ (s : List ℕ) (h : 0 < length s) where
   pub next-short : 0 < getD s 0 0 → getD s 0 0 < entryHead → nextEntry s ≡ Fault shortReason 0
   unfolding nextEntry
   next-short p z =
-      simp (ne-eqb (length s) 0 (omega arith), ne-eqb (getD s 0 0) 0 (omega arith), lt-ltb (getD s 0 0) entryHead z)
+      simp (ne-eqb (length s) 0 (omega arith), ne-eqb (getD s 0 0) closingZero (omega arith), lt-ltb (getD s 0 0) entryHead z)
 
   -- a length past the end
   pub next-past-end : entryHead ≤ getD s 0 0 → length s < getD s 0 0 → nextEntry s ≡ Fault pastEndReason 0
   unfolding nextEntry
   next-past-end p z =
-      simp (ne-eqb (length s) 0 (omega arith), ne-eqb (getD s 0 0) 0 (omega arith), le-ltb (getD s 0 0) entryHead p, lt-ltb (length s) (getD s 0 0) z)
+      simp (ne-eqb (length s) 0 (omega arith), ne-eqb (getD s 0 0) closingZero (omega arith), le-ltb (getD s 0 0) entryHead p, lt-ltb (length s) (getD s 0 0) z)
 
 -- a length from the head's size to the end: an entry
 pub next-complete : (s : List ℕ) → entryHead ≤ getD s 0 0 → getD s 0 0 ≤ length s
     → nextEntry s ≡ Entry (getD s 0 0) (getD s 1 0) (getD s 2 0) (wordAt s 3)
 unfolding nextEntry
 next-complete s p z =
-    simp (ne-eqb (length s) 0 (omega arith), ne-eqb (getD s 0 0) 0 (omega arith), le-ltb (getD s 0 0) entryHead p, le-ltb (length s) (getD s 0 0) z)
+    simp (ne-eqb (length s) 0 (omega arith), ne-eqb (getD s 0 0) closingZero (omega arith), le-ltb (getD s 0 0) entryHead p, le-ltb (length s) (getD s 0 0) z)
 
 -- what each case says about the bytes; a fault is one only if the list is not at its end
 abbrev pub NextFacts : List ℕ → NextEntry → Type 0
@@ -80,11 +80,11 @@ module _ (s : List ℕ) where
       by-cond (NextFacts s) (eqb (length s) 0) _ _ (λ n o. unclosed refl (omega (arith, eqb-true (length s) 0 n))) λ n.
       by-cond (NextFacts s) (eqb (getD s 0 0) closingZero) _ _
       (λ z o.
-      let g = eqb-true (getD s 0 0) 0 z in
+      let g = eqb-true (getD s 0 0) closingZero z in
       trailing refl (omega arith) (omega (arith, eqb-false (length s) 0 n, zero-not-at-end s o g)) g)
       λ z.
       by-cond (NextFacts s) (ltb (getD s 0 0) entryHead) _ _
-      (λ p o. short refl (omega (arith, eqb-false (length s) 0 n)) (omega (arith, eqb-false (getD s 0 0) 0 z)) (ltb-true _ _ p))
+      (λ p o. short refl (omega (arith, eqb-false (length s) 0 n)) (omega (arith, eqb-false (getD s 0 0) closingZero z)) (ltb-true _ _ p))
       λ p.
       by-cond (NextFacts s) (ltb (length s) (getD s 0 0)) _ _
       (λ q o. pastEnd refl (omega (arith, eqb-false (length s) 0 n)) (ltb-false _ _ p) (omega (arith, ltb-true (length s) (getD s 0 0) q)))

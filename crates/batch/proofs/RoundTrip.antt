@@ -99,7 +99,7 @@ list-bytes (i ∷ is) z =
 
 -- ---- read, then written
 
-head-bytes : (s : List ℕ) → entryHead ≤ length s → take entryHead s ≡ getD s 0 0 ∷ getD s 1 0 ∷ getD s 2 0 ∷ getD s 3 0 ∷ getD s 4 closingZero ∷ []
+head-bytes : (s : List ℕ) → entryHead ≤ length s → take entryHead s ≡ getD s 0 0 ∷ getD s 1 0 ∷ getD s 2 0 ∷ getD s 3 0 ∷ getD s 4 0 ∷ []
 head-bytes [] h = absurd (omega arith)
 head-bytes (a ∷ []) h = absurd (omega arith)
 head-bytes (a ∷ b ∷ []) h = absurd (omega arith)

@@ -32,9 +32,13 @@ entryHead = 5
 abbrev pub closingZero : ℕ
 closingZero = 0
 
--- an entry: its length including this byte, PNUM, PCMD, HWPID, PData
+-- the head of an entry with `size` bytes of PData: the entry's length including this byte, PNUM, PCMD, HWPID
+abbrev pub headBytes : ℕ → ℕ → ℕ → ℕ → List ℕ
+headBytes size pnum pcmd hwpid = (entryHead + size) ∷ pnum ∷ pcmd ∷ low hwpid ∷ high hwpid ∷ []
+
+-- an entry: its head, then its PData
 unfoldable pub entryBytes : Item → List ℕ
-entryBytes i = (entryHead + length (i .pdata)) ∷ i .pnum ∷ i .pcmd ∷ low (i .hwpid) ∷ high (i .hwpid) ∷ i .pdata
+entryBytes i = headBytes (length (i .pdata)) (i .pnum) (i .pcmd) (i .hwpid) ++ i .pdata
 
 unfoldable pub entriesBytes : List Item → List ℕ
 entriesBytes [] = []

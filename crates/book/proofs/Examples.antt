@@ -11,14 +11,16 @@ use Rattle.book.specs.Step.{setKind, raiseKind, lowerKind}
 use Rattle.book.specs.Machine.{timeFormed, wellFormed, machineLevel, machineSeconds, machineLamps, machineEffect, machineStep, machine}
 use Rattle.book.specs.Examples.{freshState, book}
 
--- one lamp with step 10: set 15, +6, -10, -9, -100, +0; the machine starts from the requested level, not the actual one
+-- a step on lamp 0 without a time
 abbrev step : ℕ → ℕ → Step
 step kind value = record { kind = kind; target = 0; value = value; time = 0 }
 
+-- the requested level of lamp 0 after each step
 abbrev levels : List Step → State → List ℕ
 levels [] st = []
 levels (s ∷ ss) st = getD (machineStep s st .node .lamps) 0 off .level ∷ levels ss (machineStep s st)
 
+-- one lamp, dimming step 10: set 15, +6, -10, -9, -100, +0; the machine starts from the requested level, not from the actual one
 pub machine-table :
     levels (step setKind 15 ∷ step raiseKind 6 ∷ step lowerKind 10 ∷ step lowerKind 9 ∷ step lowerKind 100 ∷ step raiseKind 0 ∷ []) (freshState 1 10) ≡ 15 ∷ 21 ∷ 11 ∷ 2 ∷ 0 ∷ 0 ∷ []
 unfolding timeFormed wellFormed machineLevel machineSeconds machineLamps machineEffect machineStep

@@ -9,6 +9,7 @@ use native.Mathlib.Omega.{arith}
 use lib.Dec.{ltb, leb, eqb}
 use borrow.Author.Tests.{eqb-true, eqb-false, eq-eqb, ne-eqb, ltb-true, ltb-false, leb-true, leb-false, lt-ltb, le-ltb, lt-leb, le-leb}
 use Rattle.lights.specs.Lamp.{maxLevel}
+use Rattle.lights.specs.Lights.{timeOk}
 use Rattle.dpa.specs.Settings.{maxLamps}
 use Rattle.dpa.proofs.Bool.{by-test, both, and-left, and-right, else-taken, then-taken}
 use Rattle.memory.specs.Block.{sizeOf}
@@ -16,8 +17,9 @@ use Rattle.memory.specs.declared.block.Memory.the-variants.{Eeprom, Ram}
 use Rattle.dpa.specs.Lists.{All}
 use Rattle.book.specs.declared.step.Step.{Step}
 use Rattle.book.specs.Step.{ramKind, eepromKind, isLamp, noFault, kindFault, targetFault, valueFault, timeFault, stepTimeOk, lampFault, byteFault, stepFault, goodStep, firstBadFrom}
-use Rattle.book.specs.Machine.{timeFormed, lampFormed, byteFormed, wellFormed}
+use Rattle.book.specs.Machine.{secondsBit, timeFormed, lampFormed, byteFormed, wellFormed}
 
+-- a step that the compiler accepts
 abbrev pub Good : Step → Type 0
 Good s = goodStep s ≡ true
 
@@ -72,11 +74,11 @@ eeprom-good s g h =
 -- ---- the step machine's rule agrees
 
 time-agrees : (t : ℕ) → timeFormed t ≡ stepTimeOk t
-unfolding timeFormed stepTimeOk
+unfolding timeFormed stepTimeOk timeOk
 time-agrees t =
-    by-test (eqb (t % 128) 0)
-    (λ z. rw (z, le-ltb 0 (t % 128) (omega (arith, eqb-true (t % 128) 0 z))))
-    (λ n. rw (n, lt-ltb 0 (t % 128) (omega (arith, eqb-false (t % 128) 0 n))))
+    by-test (eqb (t % secondsBit) 0)
+    (λ z. rw (z, le-ltb 0 (t % secondsBit) (omega (arith, eqb-true (t % secondsBit) 0 z))))
+    (λ n. rw (n, lt-ltb 0 (t % secondsBit) (omega (arith, eqb-false (t % secondsBit) 0 n))))
 
 lamp-formed : (s : Step) → LampGood s → lampFormed s ≡ true
 lamp-formed s p = both (both (lt-ltb _ _ (p .target-max)) (le-leb _ _ (p .value-max))) (time-agrees (s .time) ∙ p .time-valid)

@@ -54,7 +54,7 @@ module _ {A : Type 0} (fits : List A → A → Bool) where
     all-group [] qs = tt
     all-group (x ∷ xs) qs = all-grow (x ∷ []) xs (one x (qs .0)) (qs .1)
 
-  -- ---- a loop along a list: the current group is the first k elements
+  -- ---- a loop along a list
 
   -- the first element starts a group
   pub group-start : (xs : List A) → 0 < length xs → group fits xs ≡ grow fits (take 1 xs) (drop 1 xs)
@@ -65,6 +65,7 @@ module _ {A : Type 0} (fits : List A → A → Bool) where
   pub grow-fits : (cur : List A) (x : A) (xs : List A) → fits cur x ≡ true → grow fits cur (x ∷ xs) ≡ grow fits (cur ++ (x ∷ [])) xs
   grow-fits cur x xs e = rw e
 
+  -- so does element k, if the current group is the first k elements
   pub take-fits : (d : A) (xs : List A) (k : ℕ) → k < length xs → fits (take k xs) (getD xs k d) ≡ true
       → grow fits (take k xs) (drop k xs) ≡ grow fits (take (suc k) xs) (drop (suc k) xs)
   take-fits d xs k h e = rw (drop-cons xs k d h, take-suc xs k d h, e)
@@ -73,6 +74,7 @@ module _ {A : Type 0} (fits : List A → A → Bool) where
   pub grow-not-fits : (cur : List A) (x : A) (xs : List A) → fits cur x ≡ false → grow fits cur (x ∷ xs) ≡ cur ∷ group fits (x ∷ xs)
   grow-not-fits cur x xs e = rw e
 
+  -- so does element k, if the current group is the first k elements
   pub take-not-fits : (d : A) (xs : List A) (k : ℕ) → k < length xs → fits (take k xs) (getD xs k d) ≡ false
       → grow fits (take k xs) (drop k xs) ≡ take k xs ∷ group fits (drop k xs)
   take-not-fits d xs k h e = rw (drop-cons xs k d h, e)

@@ -12,9 +12,10 @@ use Rattle.batch.specs.Batch.{entryBytes}
 use Rattle.book.specs.declared.step.Step.{Step}
 use Rattle.book.specs.Book.{stepLength, stepOf, stepsIn}
 use Rattle.book.specs.Step.{isLamp}
+use Rattle.lights.specs.Lights.{bit7}
 use Rattle.book.specs.Entry.{bytesOf, powerBytes, powersBytes, values, bitmapOf, bitmapBytes, joinedItem, entryData, groupData}
 use Rattle.book.specs.Positions.{stepAt}
-use Rattle.book.specs.Writing.{maxBitmap, entryHeadBytes}
+use Rattle.book.specs.Writing.{lampBitBound, entryHeadBytes}
 use Rattle.book.proofs.Records.{records-next, records-taken, records-all}
 use Rattle.book.proofs.Positions.{steps-length}
 
@@ -90,11 +91,11 @@ bitmap-append (s ∷ ss) x = rw (bitmap-append ss x) (omega arith)
 
 -- m is the bitmap of the first i steps
 abbrev pub BitmapOfFirst : ℕ → List ℕ → ℕ → ℕ → Type 0
-BitmapOfFirst n a i m = (i ≤ n) × (m ≡ bitmapOf (take i (stepsIn n a))) × (m ≤ maxBitmap * i)
+BitmapOfFirst n a i m = (i ≤ n) × (m ≡ bitmapOf (take i (stepsIn n a))) × (m ≤ lampBitBound * i)
 
 -- step i is added
 pub bitmap-next : (n : ℕ) (a : List ℕ) (i m : ℕ) (x : Step) (p : ℕ) → BitmapOfFirst n a i m → i < n → x ≡ stepAt a i → p ≡ 2 ^ (x .target)
-    → p ≤ maxBitmap → BitmapOfFirst n a (i + 1) (m + p)
+    → p ≤ lampBitBound → BitmapOfFirst n a (i + 1) (m + p)
 bitmap-next n a i m x p q h ex ep small =
     let e : bitmapOf (take (i + 1) (stepsIn n a)) ≡ bitmapOf (take i (stepsIn n a)) + 2 ^ (x .target)
     = ap bitmapOf (records-taken stepLength stepOf n a i h) ∙ bitmap-append (take i (stepsIn n a)) (stepAt a i) ∙ rw ex in
@@ -112,7 +113,7 @@ unfolding powerBytes
 power-untimed x e = rw (eq-eqb (x .time) 0 e)
 
 -- the power bytes of a step with a time
-pub power-timed : (x : Step) → (x .time ≡ 0 → ⊥) → powerBytes x ≡ (x .value + 128) ∷ x .time ∷ []
+pub power-timed : (x : Step) → (x .time ≡ 0 → ⊥) → powerBytes x ≡ (x .value + bit7) ∷ x .time ∷ []
 unfolding powerBytes
 power-timed x e = rw (ne-eqb (x .time) 0 e)
 

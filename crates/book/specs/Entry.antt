@@ -5,8 +5,9 @@ use Prim.Native.Nat.{ℕ, _+_, _^_}
 use lib.Dec.{eqb}
 use Rattle.dpa.specs.Number.{low, high}
 use Rattle.dpa.specs.Pnum.{lightsPnum}
+use Rattle.lights.specs.Lights.{bit7}
 use Rattle.memory.specs.declared.block.Memory.the-variants.{Eeprom, Ram}
-use Rattle.memory.specs.Block.{memoryPnum}
+use Rattle.memory.specs.Block.{memoryPnum, writeCommand}
 use Rattle.batch.specs.Batch.{Item, item}
 use Rattle.book.specs.declared.step.Step.{Step}
 use Rattle.book.specs.Step.{ramKind, isLamp}
@@ -25,13 +26,15 @@ abbrev pub bytesOf : (Step → List ℕ) → List Step → List ℕ
 bytesOf f [] = []
 bytesOf f (s ∷ ss) = f s ++ bytesOf f ss
 
--- the power byte of a lamp step, and its time byte if it has one; bit 7 of the power byte marks a time
+-- the power byte of a lamp step, and its time byte if it has one
 unfoldable pub powerBytes : Step → List ℕ
-powerBytes s = cond (eqb (s .time) 0) (s .value ∷ []) ((s .value + 128) ∷ s .time ∷ [])
+powerBytes s = cond (eqb (s .time) 0) (s .value ∷ []) ((s .value + bit7) ∷ s .time ∷ [])
 
+-- the power and time bytes of lamp steps
 abbrev pub powersBytes : List Step → List ℕ
 powersBytes ss = bytesOf powerBytes ss
 
+-- the value byte of a memory step, and the value bytes of memory steps
 abbrev pub valueByte : Step → List ℕ
 valueByte s = s .value ∷ []
 
@@ -45,21 +48,23 @@ entryData s ss =
     (bitmapBytes (bitmapOf (s ∷ ss)) ++ powersBytes (s ∷ ss))
     (s .target ∷ values (s ∷ ss))
 
+-- the PData of the entry of a group of joined steps
 abbrev pub groupData : List Step → List ℕ
 groupData [] = []
 groupData (s ∷ ss) = entryData s ss
 
+-- the kind of a group: all its steps have the kind of the first
 abbrev pub kindOf : List Step → ℕ
 kindOf [] = 0
 kindOf (s ∷ ss) = s .kind
 
--- lights, RAM or EEPROM
+-- the peripheral of a step kind: lights, RAM or EEPROM
 unfoldable pub pnumOf : ℕ → ℕ
 pnumOf k = cond (isLamp k) lightsPnum (cond (eqb k ramKind) (memoryPnum Ram) (memoryPnum Eeprom))
 
--- the lights command has the number of the step's kind; a memory's command is write
+-- the command of a step kind: the lights commands have the numbers of the kinds, a memory's command is its write
 unfoldable pub pcmdOf : ℕ → ℕ
-pcmdOf k = cond (isLamp k) k 0x01
+pcmdOf k = cond (isLamp k) k (cond (eqb k ramKind) (writeCommand Ram) (writeCommand Eeprom))
 
 -- the entry of a group of joined steps, with HWPID h
 abbrev pub joinedItem : ℕ → List Step → Item

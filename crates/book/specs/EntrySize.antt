@@ -12,23 +12,24 @@ use Rattle.book.specs.Step.{isLamp}
 use Rattle.book.specs.Entry.{groupData}
 use Rattle.book.specs.Join.{follows, entriesOf}
 
--- the bytes of a step in a lamp entry, and in an entry of kind k
+-- the PData size of a step in a lamp entry, and in an entry of kind k
 unfoldable pub powerSize : Step → ℕ
 powerSize s = cond (eqb (s .time) 0) 1 2
 
 unfoldable pub stepSize : ℕ → Step → ℕ
 stepSize k s = cond (isLamp k) (powerSize s) 1
 
--- a memory entry's PData starts with an address; a lamp entry's with a bitmap (`bitmapSize`)
+-- size of the address at the front of a memory entry's PData; a lamp entry's starts with a bitmap (`bitmapSize`)
 abbrev pub addressLength : ℕ
 addressLength = 1
 
--- the PData size of an entry of one step, and the largest such size
+-- the PData size of an entry of one step
 unfoldable pub firstSize : Step → ℕ
 firstSize s = stepSize (s .kind) s + cond (isLamp (s .kind)) bitmapSize addressLength
 
+-- the largest such size: a bitmap, a power byte and a time byte
 abbrev pub oneStepMax : ℕ
-oneStepMax = 6
+oneStepMax = bitmapSize + 2
 
 -- the PData size of an entry of kind k and `size` bytes after x joins it, or 0 if x does not join; p is its last step
 unfoldable pub joinedSize : ℕ → Step → Step → ℕ → ℕ → ℕ

@@ -9,10 +9,7 @@ use Rattle.book.specs.Step.{isLamp}
 use Rattle.book.specs.Entry.{groupData}
 use Rattle.book.specs.Group.{group}
 
--- the most PData bytes of an entry
-abbrev pub entryLimit : ℕ
-entryLimit = 50
-
+-- the last of the steps d ∷ ss
 abbrev pub lastOf : Step → List Step → Step
 lastOf d [] = d
 lastOf d (s ∷ ss) = lastOf s ss

@@ -17,9 +17,13 @@ use Rattle.book.specs.Step.{setKind, raiseKind, ramKind, eepromKind, isL
 
 -- ---- which steps are not bad. The machine has its own rule, independent of the compiler's (`stepFault`).
 
+-- bit 7 of a time: its low seven bits are seconds, not minutes
+abbrev pub secondsBit : ℕ
+secondsBit = 0x80
+
 -- time 0, or a time byte: a nonzero number in the low seven bits
 unfoldable pub timeFormed : ℕ → Bool
-timeFormed t = eqb t 0 || ltb 0 (t % 128)
+timeFormed t = eqb t 0 || ltb 0 (t % secondsBit)
 
 -- a lamp step: target below 32, value at most 100, time 0 or a valid time byte
 abbrev pub lampFormed : Step → Bool
@@ -39,19 +43,19 @@ wellFormed s =
 
 -- ---- the effect of a step
 
--- the requested level: set takes the value, raise adds it up to 100, lower subtracts it down to 0
+-- the new requested level: set takes the value, raise adds it up to 100, lower subtracts it down to 0
 unfoldable pub machineLevel : ℕ → ℕ → ℕ → ℕ
 machineLevel kind level value =
     cond (eqb kind setKind) value
     (cond (eqb kind raiseKind) (min maxLevel (level + value))
     (level - value))
 
--- the seconds: 0 if the time or the new level is 0; up to 7F hex the time is minutes, above it its low seven bits are seconds
+-- the new timer in seconds: 0 if the time or the new level is 0; up to 7F hex the time is minutes, above it its low seven bits are seconds
 unfoldable pub machineSeconds : ℕ → ℕ → ℕ
 machineSeconds time level =
     cond (eqb time 0 || eqb level 0) 0
-    (cond (ltb time 0x80) (60 * time)
-    (time % 128))
+    (cond (ltb time secondsBit) (60 * time)
+    (time % secondsBit))
 
 -- the target lamp after a step
 abbrev pub machineLamp : Step → Lamp → Lamp
@@ -59,7 +63,7 @@ machineLamp s l =
     let v = machineLevel (s .kind) (l .level) (s .value) in
     changed l v (machineSeconds (s .time) v)
 
--- the lamps of a node with `count` lamps after a step; a target from the count up changes nothing
+-- the lamps of a node with `count` lamps after a step; a target at or above the count changes nothing
 unfoldable pub machineLamps : Step → ℕ → List Lamp → List Lamp
 machineLamps s count ls = cond (ltb (s .target) count) (set ls (s .target) (machineLamp s (getD ls (s .target) off))) ls
 

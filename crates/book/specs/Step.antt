@@ -1,16 +1,19 @@
 -- Document 01, "Scenes": the kinds of steps, and which part of a step is bad.
-use mathlib.Core.Bool.{Bool, cond, not, _||_}
+use mathlib.Core.Bool.{Bool, cond, _||_}
 use mathlib.Core.List.{List, [], _∷_}
 use mathlib.Core.Option.{Option, none, some}
-use Prim.Native.Nat.{ℕ, suc, _%_}
+use Prim.Native.Nat.{ℕ, suc}
 use lib.Dec.{ltb, leb, eqb}
 use Rattle.dpa.specs.Settings.{maxLamps}
 use Rattle.lights.specs.Lamp.{maxLevel}
+use Rattle.lights.specs.Lights.{timeOk}
 use Rattle.memory.specs.Block.{sizeOf}
 use Rattle.memory.specs.declared.block.Memory.the-variants.{Eeprom, Ram}
 use Rattle.book.specs.declared.step.Step.{Step}
 
--- ---- kinds: set, raise or lower a lamp; write a byte of RAM or of EEPROM
+-- ---- kinds of steps
+
+-- set, raise or lower a lamp; write a byte of RAM or of EEPROM
 abbrev pub setKind : ℕ
 setKind = 0
 
@@ -46,9 +49,9 @@ valueFault = 3
 abbrev pub timeFault : ℕ
 timeFault = 4
 
--- the time of a lamp step: 0 for none, otherwise any byte but 80 hex
+-- the time of a lamp step: 0 for none, otherwise a valid time byte
 unfoldable pub stepTimeOk : ℕ → Bool
-stepTimeOk t = eqb t 0 || not (eqb (t % 128) 0)
+stepTimeOk t = eqb t 0 || timeOk t
 
 -- the fault of a lamp step
 unfoldable pub lampFault : Step → ℕ
@@ -73,6 +76,7 @@ stepFault s =
     (cond (eqb (s .kind) eepromKind) (byteFault (sizeOf Eeprom) s)
     kindFault))
 
+-- a step that the compiler accepts
 abbrev pub goodStep : Step → Bool
 goodStep s = eqb (stepFault s) noFault
 

@@ -2,11 +2,10 @@
 use mathlib.Core.Bool.{true}
 use mathlib.Core.List.{List, _∷_, []}
 use mathlib.Core.Path.{_≡_}
-use Prim.Native.Nat.{ℕ, _+_, _≤_, _<_}
-use Rattle.batch.specs.Batch.{entryHead}
+use Prim.Native.Nat.{ℕ, _+_, _^_, _≤_, _<_}
+use Rattle.batch.specs.Batch.{headBytes}
 use Rattle.lights.specs.Lamp.{maxLevel}
 use Rattle.dpa.specs.Settings.{maxLamps}
-use Rattle.dpa.specs.Number.{low, high}
 use Rattle.book.specs.Step.{goodStep, isLamp}
 use Rattle.book.specs.Entry.{pnumOf, pcmdOf}
 use Rattle.book.specs.Positions.{stepAt}
@@ -19,9 +18,9 @@ AllStepsGood body n = (i : ℕ) → i < n → goodStep (stepAt body i) ≡ true
 abbrev pub LampStepsInRange : List ℕ → ℕ → Type 0
 LampStepsInRange body n = (i : ℕ) → i < n → (stepAt body i .value ≤ maxLevel) × (stepAt body i .target < maxLamps)
 
--- 2 to the number of lamps: no lamp's bit is larger
-abbrev pub maxBitmap : ℕ
-maxBitmap = 4294967296
+-- no lamp's bit in a bitmap is larger
+abbrev pub lampBitBound : ℕ
+lampBitBound = 2 ^ maxLamps
 
 -- the n steps can be written as one entry: if the first is a lamp step, all are in range
 abbrev pub EntryWritable : List ℕ → ℕ → Type 0
@@ -29,4 +28,4 @@ EntryWritable body n = isLamp (stepAt body 0 .kind) ≡ true → LampStepsInRang
 
 -- the bytes before an entry's PData
 abbrev pub entryHeadBytes : ℕ → ℕ → ℕ → List ℕ
-entryHeadBytes kind h size = (entryHead + size) ∷ pnumOf kind ∷ pcmdOf kind ∷ low h ∷ high h ∷ []
+entryHeadBytes kind h size = headBytes size (pnumOf kind) (pcmdOf kind) h

@@ -9,6 +9,8 @@ use crate::step::step_at;
 use crate::write::write_bytes;
 use batch::entry::HEAD;
 use dpa::pnum;
+use memory::block::Memory;
+use memory::block::write_command;
 ghost use mathlib.Core.Path.{_≡_};
 ghost use Prim.Native.Nat.{_+_, _*_, _≤_, _<_};
 ghost use lib.ListN.{length, drop};
@@ -18,9 +20,6 @@ ghost use Rattle.batch.specs.Batch.{entryBytes, entryHead};
 ghost use Rattle.book.specs.Book.{stepsMax, stepLength, stepsIn};
 ghost use Rattle.book.specs.Entry.{values, groupData, pnumOf, pcmdOf, joinedItem};
 ghost use Rattle.book.specs.Writing.{EntryWritable, entryHeadBytes};
-
-// The write command of RAM and EEPROM.
-const WRITE: u8 = 0x01;
 
 // Writes the values of `count` steps; returns the position after them.
 fn write_values(body: &[u8], count: usize, out: &mut [u8], at: usize) -> usize
@@ -50,11 +49,18 @@ fn pnum_of(kind: u8) -> u8
     }
 }
 
-// The command of a step kind: the lights commands have the kinds' numbers.
+// The command of a step kind: the lights commands have the numbers of the kinds.
 fn pcmd_of(kind: u8) -> u8
     ensures { λ r. ⌜ r ≡ pcmdOf kind ⌝ }
 {
-    if is_lamp(kind) { kind } else { WRITE }
+    if is_lamp(kind) {
+        return kind;
+    }
+    if kind == WRITE_RAM {
+        write_command(Memory::Ram)
+    } else {
+        write_command(Memory::Eeprom)
+    }
 }
 
 // Writes the bytes of an entry before its PData; returns the position after them.
@@ -109,22 +115,22 @@ fn write_entry(
     write_pdata(body, count, out, end)
 }
 
-// The same for the `steps` steps from step `done` on.
+// Writes the entry of the `steps` steps that start at step `first`; returns the position after it.
 pub fn write_entry_at(
     body: &[u8],
-    done: usize,
+    first: usize,
     steps: usize,
     hwpid: u16,
     size: usize,
     out: &mut [u8],
     at: usize,
 ) -> usize
-    requires { ⌜ (stepLength * (done + steps) ≤ length (now body)) × (0 < steps) × (done + steps ≤ stepsMax) × (size ≤ pdataMax)
-        × (size ≡ length (groupData (stepsIn steps (drop (stepLength * done) (now body))))) × (at + entryHead + size ≤ length (now out))
-        × EntryWritable (drop (stepLength * done) (now body)) steps ⌝ }
+    requires { ⌜ (stepLength * (first + steps) ≤ length (now body)) × (0 < steps) × (first + steps ≤ stepsMax) × (size ≤ pdataMax)
+        × (size ≡ length (groupData (stepsIn steps (drop (stepLength * first) (now body))))) × (at + entryHead + size ≤ length (now out))
+        × EntryWritable (drop (stepLength * first) (now body)) steps ⌝ }
     ensures { λ r. ⌜ (r ≡ at + entryHead + size)
-        × (now (out .exit) ≡ sets (now (out .entry)) at (entryBytes (joinedItem hwpid (stepsIn steps (drop (stepLength * done) (now (body .entry))))))) ⌝ }
+        × (now (out .exit) ≡ sets (now (out .entry)) at (entryBytes (joinedItem hwpid (stepsIn steps (drop (stepLength * first) (now (body .entry))))))) ⌝ }
 {
-    let start = STEP_LENGTH * done;
+    let start = STEP_LENGTH * first;
     write_entry(&body[start..], steps, hwpid, size, out, at)
 }

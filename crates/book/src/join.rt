@@ -13,7 +13,7 @@ ghost use Rattle.book.specs.Join.{follows};
 ghost use Rattle.book.specs.EntrySize.{oneStepMax, EntryLimit, stepSize, firstSize, joinedSize, FirstEntry};
 ghost use Rattle.book.specs.Positions.{stepAt};
 
-// The bytes of a memory's address before the values.
+// The size of the address in front of the values: RAM and EEPROM have one-byte addresses.
 const ADDRESS_LENGTH: usize = 1;
 
 // Whether a step may follow `before`, the last step of an entry.
@@ -31,7 +31,7 @@ fn may_follow(before: Step, step: Step) -> bool
     }
 }
 
-// The PData bytes of a step in an entry of a kind.
+// The PData size of a step in an entry of this kind: a power byte, and a time byte if the step has a time; or a value byte.
 fn step_size(kind: u8, step: Step) -> usize
     ensures { λ r. ⌜ (r ≡ stepSize kind step) × (r ≤ 2) ⌝ }
 {
@@ -95,11 +95,11 @@ pub fn first_entry(body: &[u8], count: usize, limit: usize) -> EntrySpan
     EntrySpan { steps, size }
 }
 
-// The entry that starts at step `done`.
-pub fn entry_from(body: &[u8], count: usize, done: usize, limit: usize) -> EntrySpan
-    requires { ⌜ (stepLength * count ≤ length (now body)) × (done < count) × (count ≤ stepsMax) × EntryLimit limit ⌝ }
-    ensures { λ r. ⌜ FirstEntry limit (drop done (stepsIn count (now (body .entry)))) (r .steps) (r .size) ⌝ }
+// The entry that starts at step `first`.
+pub fn entry_from(body: &[u8], count: usize, first: usize, limit: usize) -> EntrySpan
+    requires { ⌜ (stepLength * count ≤ length (now body)) × (first < count) × (count ≤ stepsMax) × EntryLimit limit ⌝ }
+    ensures { λ r. ⌜ FirstEntry limit (drop first (stepsIn count (now (body .entry)))) (r .steps) (r .size) ⌝ }
 {
-    let start = STEP_LENGTH * done;
-    first_entry(&body[start..], count - done, limit)
+    let start = STEP_LENGTH * first;
+    first_entry(&body[start..], count - first, limit)
 }

@@ -2,6 +2,7 @@
 use crate::step::Step;
 use crate::step::step_at;
 use crate::write::write_bytes;
+use lights::power::BIT_7;
 ghost use mathlib.Core.Path.{_≡_};
 ghost use Prim.Native.Nat.{_+_, _*_, _^_, _≤_, _<_};
 ghost use lib.ListN.{length};
@@ -11,10 +12,7 @@ ghost use Rattle.lights.specs.Lamp.{maxLevel};
 ghost use Rattle.dpa.specs.Settings.{maxLamps};
 ghost use Rattle.book.specs.Book.{stepsMax, stepLength, stepsIn};
 ghost use Rattle.book.specs.Entry.{powerBytes, powersBytes, bitmapOf, bitmapBytes};
-ghost use Rattle.book.specs.Writing.{LampStepsInRange, maxBitmap};
-
-// Bit 7 of a power byte: a time byte follows.
-const TIME_BIT: u8 = 128;
+ghost use Rattle.book.specs.Writing.{LampStepsInRange, lampBitBound};
 
 // Writes the power byte of a step, and its time byte if it has one; returns the position after them.
 fn write_power(step: Step, out: &mut [u8], at: usize) -> usize
@@ -25,7 +23,7 @@ fn write_power(step: Step, out: &mut [u8], at: usize) -> usize
         let power = [step.value];
         return write_bytes(&power, out, at);
     }
-    let timed = [step.value + TIME_BIT, step.time];
+    let timed = [step.value + BIT_7, step.time];
     write_bytes(&timed, out, at)
 }
 
@@ -49,12 +47,13 @@ pub fn write_powers(body: &[u8], count: usize, out: &mut [u8], at: usize) -> usi
 // The bitmap of one lamp.
 fn power_of_two(exponent: u8) -> u64
     requires { ⌜ exponent < maxLamps ⌝ }
-    ensures { λ r. ⌜ (r ≡ 2 ^ exponent) × (r ≤ maxBitmap) ⌝ }
+    ensures { λ r. ⌜ (r ≡ 2 ^ exponent) × (r ≤ lampBitBound) ⌝ }
 {
     1u64 << exponent
 }
 
-// The bitmap of `count` lamp steps.
+// The bitmap of `count` lamp steps. It is added up in 64 bits, so that no sum of lamp bits overflows; the steps of an entry have
+// different lamps, so that theirs fits the four bytes that are written.
 pub fn bitmap_of(body: &[u8], count: usize) -> u64
     requires { ⌜ (stepLength * count ≤ length (now body)) × (count ≤ stepsMax) × LampStepsInRange (now body) count ⌝ }
     ensures { λ r. ⌜ r ≡ bitmapOf (stepsIn count (now (body .entry))) ⌝ }

@@ -6,6 +6,7 @@ use crate::kind::is_lamp;
 use dpa::number::wide;
 use dpa::settings::MAX_LAMPS;
 use lights::lamp::MAX_LEVEL;
+use lights::power::time_ok;
 use memory::block::Memory;
 use memory::block::size_of;
 ghost use mathlib.Core.Path.{_≡_};
@@ -34,9 +35,6 @@ pub struct Step {
     pub time: u8,
 }
 
-// Bit 7 of a time byte: its low seven bits are seconds, not minutes.
-const SECONDS_BIT: u8 = 128;
-
 // Step i of a scene's body.
 pub fn step_at(body: &[u8], i: usize) -> Step
     requires { ⌜ stepLength * i + stepLength ≤ length (now body) ⌝ }
@@ -63,10 +61,10 @@ fn lamp_fault(step: Step) -> u8
     if step.time == 0 {
         return fault::NONE;
     }
-    if step.time % SECONDS_BIT == 0 {
-        return fault::TIME;
+    if time_ok(step.time) {
+        return fault::NONE;
     }
-    fault::NONE
+    fault::TIME
 }
 
 // The fault of a step that writes a byte of a memory.

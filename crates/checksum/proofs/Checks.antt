@@ -8,12 +8,13 @@ use lib.Dec.{eqb, ltb}
 use lib.ListN.{length, take, drop, getD, set}
 use borrow.Author.Tests.{lt-ltb, le-ltb, eq-eqb, ne-eqb, ltb-false, eqb-false}
 use Rattle.dpa.specs.Reply.{Reply, refused, replySeen, replyInBuffer}
+use Rattle.dpa.specs.Sizes.{externalSize}
 use Rattle.dpa.proofs.Bool.{by-cond, then-taken, else-taken}
 use Rattle.dpa.proofs.Lists.{set-first}
 use Rattle.checksum.specs.declared.sums.Sums.{Sums}
 use Rattle.checksum.specs.Sums.{sums, start, checksum}
 use Rattle.checksum.specs.declared.check.Image.{Image}
-use Rattle.checksum.specs.Check.{externalSize, pdataLength, imageOf, loadFlag, reservedFlags, blockSize, initialLow, imageError, imageMatches, checkAnswer, codeCheck}
+use Rattle.checksum.specs.Check.{pdataLength, imageOf, loadFlag, reservedFlags, blockSize, initialLow, imageError, imageMatches, checkAnswer, codeCheck}
 
 -- `image_error`, return by return: each law adds a test that was passed
 module _ (i : Image) (f : reservedFlags (i .flags) ≡ false) (n : ℕ) (en : n ≡ i .length) where

@@ -7,12 +7,9 @@ use lib.Dec.{eqb, leb, ltb}
 use Rattle.dpa.specs.Number.{wordAt}
 use Rattle.dpa.specs.Lists.{slice}
 use Rattle.dpa.specs.Reply.{Reply, reply, refused}
+use Rattle.dpa.specs.Sizes.{externalSize}
 use Rattle.checksum.specs.declared.check.Image.{Image}
 use Rattle.checksum.specs.Sums.{sums, start, checksum}
-
--- bytes of external memory
-abbrev pub externalSize : ℕ
-externalSize = 16384
 
 -- bytes of PData
 abbrev pub pdataLength : ℕ
@@ -34,10 +31,11 @@ pluginFlag flags = eqb (flags / 2 % 2) 1
 abbrev pub reservedFlags : ℕ → Bool
 reservedFlags flags = leb 4 flags
 
--- bit 1 set: a multiple of 20, the low sum starts at 3; clear: 64 and 1
+-- the length of an image is a multiple of this: 20 bytes for a plug-in, else 64
 unfoldable pub blockSize : ℕ → ℕ
 blockSize flags = cond (pluginFlag flags) 20 64
 
+-- the low sum before the first byte: 3 for a plug-in, else 1
 unfoldable pub initialLow : ℕ → ℕ
 initialLow flags = cond (pluginFlag flags) 3 1
 

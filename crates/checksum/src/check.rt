@@ -2,15 +2,14 @@
 use crate::sums::image_sums;
 use dpa::number::wide_word;
 use dpa::number::word_of;
+use dpa::sizes::EXTERNAL_SIZE;
 ghost use mathlib.Core.Path.{_≡_};
 ghost use Prim.Native.Nat.{_≤_};
 ghost use lib.ListN.{length};
 ghost use Rattle.dpa.specs.Frame.{pdataMax};
 ghost use Rattle.dpa.specs.Reply.{replySeen, replyInBuffer};
-ghost use Rattle.checksum.specs.Check.{externalSize, pdataLength, loadFlag, pluginFlag, reservedFlags, blockSize, initialLow, imageOf, imageError, imageMatches, codeCheck};
-
-// Bytes of external memory.
-const EXTERNAL_SIZE: usize = 16384;
+ghost use Rattle.dpa.specs.Sizes.{externalSize};
+ghost use Rattle.checksum.specs.Check.{pdataLength, loadFlag, pluginFlag, reservedFlags, blockSize, initialLow, imageOf, imageError, imageMatches, codeCheck};
 
 // Bytes of PData: flags, address, length, checksum.
 const PDATA_LENGTH: usize = 7;

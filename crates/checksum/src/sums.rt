@@ -31,7 +31,7 @@ impl Sums {
         }
     }
 
-    // Adds one byte.
+    // Adds a byte to the low sum, then the new low sum to the high sum.
     pub fn add_byte(self, byte: u8) -> Sums
         ensures { λ r. ⌜ r ≡ addByte self byte ⌝ }
     {
@@ -40,7 +40,6 @@ impl Sums {
         Sums { low, high }
     }
 
-    // Adds a block of bytes.
     pub fn add_block(self, block: &[u8]) -> Sums
         ensures { λ r. ⌜ r ≡ sums self (now (block .entry)) ⌝ }
     {

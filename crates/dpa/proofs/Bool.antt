@@ -13,7 +13,7 @@ pub and-left : (a b : Bool) → (a && b) ≡ true → a ≡ true
 and-left true b e = refl
 and-left false b e = e
 
--- and so is the second
+-- the second test of a true conjunction is true
 pub and-right : (a b : Bool) → (a && b) ≡ true → b ≡ true
 and-right true b e = e
 and-right false b e = cc
@@ -49,7 +49,7 @@ pub else-taken : (b : Bool) (k m n : ℕ) → (k ≡ n → ⊥) → cond b k m �
 else-taken true k m n h e = absurd (h e)
 else-taken false k m n h e = (refl, e)
 
--- and the other way round
+-- a `cond` whose value cannot be its second side took its first one
 pub then-taken : (b : Bool) (k m n : ℕ) → (m ≡ n → ⊥) → cond b k m ≡ n → (b ≡ true) × (k ≡ n)
 then-taken true k m n h e = (refl, e)
 then-taken false k m n h e = absurd (h e)
@@ -61,7 +61,7 @@ pub all-below-next : (i : ℕ) (f : ℕ → Bool) (a b : Bool) → a ≡ allBelo
 unfolding allBelow
 all-below-next i f a b p q = rw (add-one, p, q)
 
--- a test that holds for each number below n
+-- a test that holds for each number below n holds for all of them
 pub all-below-intro : (n : ℕ) (f : ℕ → Bool) → ((k : ℕ) → k < n → f k ≡ true) → allBelow n f ≡ true
 unfolding allBelow
 all-below-intro zero f h = refl
@@ -71,7 +71,7 @@ last-or : (n k : ℕ) (f : ℕ → Bool) (b : Bool) → eqb k n ≡ b → k < su
 last-or n k f true e l p h = rw (eqb-true k n e) p
 last-or n k f false e l p h = h (omega (arith, eqb-false k n e))
 
--- and the other way round
+-- a true test over all numbers below n holds for each of them
 pub all-below-elim : (n : ℕ) (f : ℕ → Bool) → allBelow n f ≡ true → (k : ℕ) → k < n → f k ≡ true
 unfolding allBelow
 all-below-elim zero f h k l = absurd (omega arith)

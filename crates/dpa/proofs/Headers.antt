@@ -23,7 +23,7 @@ pub read-written : (f : Frame) (rest : List ℕ) → headerOf (headerBytes f ++ 
 read-written f rest = simp (word-split (f .nadr), word-split (f .hwpid))
 
 -- the header that was read gives back the first six bytes
-pub written-read : (s : List ℕ) → Bytes s → 6 ≤ length s → headerBytes (headerOf s) ≡ take 6 s
+pub written-read : (s : List ℕ) → Bytes s → headerSize ≤ length s → headerBytes (headerOf s) ≡ take headerSize s
 written-read (a ∷ b ∷ d ∷ e ∷ f ∷ g ∷ rest) h n = simp (low-word a b (h 0), high-word a b (h 0), low-word f g (h 4), high-word f g (h 4))
 written-read [] h n = absurd (omega arith)
 written-read (a ∷ []) h n = absurd (omega arith)

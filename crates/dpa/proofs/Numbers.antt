@@ -12,7 +12,7 @@ word-split x = omega arith
 pub low-word : (a b : ℕ) → a < 256 → low (word a b) ≡ a
 low-word a b h = omega arith
 
--- and so is its high byte
+-- the high byte of a number is the one that it was made of
 pub high-word : (a b : ℕ) → a < 256 → high (word a b) ≡ b
 high-word a b h = omega arith
 

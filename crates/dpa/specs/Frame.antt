@@ -47,11 +47,15 @@ headerOf s = frame (wordAt s 0) (getD s 2 0) (getD s 3 0) (wordAt s 4)
 abbrev pub pdataOf : List ℕ → List ℕ
 pdataOf s = drop headerSize s
 
--- a request has 6 to 62 bytes
+-- the length of a valid request: 6 to 62 bytes
 unfoldable pub frameFits : ℕ → Bool
 frameFits n = leb headerSize n && leb n longestFrame
+
+-- bit 7, which is set in the PCMD of a response
+abbrev pub responseBit : ℕ
+responseBit = 0x80
 
 -- the header of a response: the node's address, PNUM, PCMD with bit 7 set, the node's HWPID, ErrN, DpaValue
 abbrev pub responseHeader : Settings → ℕ → ℕ → ℕ → List ℕ
 responseHeader s pnum pcmd error =
-    headerBytes (frame (s .address) pnum (pcmd % 128 + 128) (s .hwpid)) ++ (error ∷ s .«dpa_value» ∷ [])
+    headerBytes (frame (s .address) pnum (pcmd % responseBit + responseBit) (s .hwpid)) ++ (error ∷ s .«dpa_value» ∷ [])

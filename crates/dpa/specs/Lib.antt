@@ -3,4 +3,5 @@ pub mod Lists
 pub mod Settings
 pub mod Frame
 pub mod Pnum
+pub mod Sizes
 pub mod Reply

@@ -9,7 +9,7 @@ use Rattle.dpa.specs.declared.settings.Settings.{Settings}
 unfoldable pub stepOk : ℕ → Bool
 stepOk s = eqb s 1 || eqb s 2 || eqb s 4 || eqb s 5 || eqb s 10 || eqb s 20 || eqb s 25 || eqb s 50 || eqb s 100
 
--- node addresses: 1 to 239
+-- the highest address that a node can have
 abbrev pub lastAddress : ℕ
 lastAddress = 239
 
@@ -17,6 +17,7 @@ lastAddress = 239
 abbrev pub maxLamps : ℕ
 maxLamps = 32
 
+-- an address that a node can have: 1 to 239
 abbrev pub nodeAddress : ℕ → Bool
 nodeAddress a = leb 1 a && leb a lastAddress
 

@@ -7,6 +7,9 @@ ghost use Prim.Native.Nat.{_≤_};
 ghost use lib.ListN.{length, drop};
 ghost use Rattle.dpa.specs.Frame.{headerSize, responseHeaderSize, frame, headerBytes, headerOf, frameFits, responseHeader};
 
+// Set in the PCMD of a response.
+const RESPONSE_BIT: u8 = 0x80;
+
 pub struct Frame {
     pub nadr: u16,
     pub pnum: u8,
@@ -72,7 +75,12 @@ pub fn write_header(response: &mut [u8], settings: Settings, pnum: u8, pcmd: u8,
     requires { ⌜ responseHeaderSize ≤ length (now response) ⌝ }
     ensures { λ _. ⌜ now (response .exit) ≡ responseHeader settings pnum pcmd error ++ drop responseHeaderSize (now (response .entry)) ⌝ }
 {
-    let header = Frame::header(settings.address, pnum, pcmd % 128 + 128, settings.hwpid);
+    let header = Frame::header(
+        settings.address,
+        pnum,
+        pcmd % RESPONSE_BIT + RESPONSE_BIT,
+        settings.hwpid,
+    );
     bytes::copy(&header, response);
     response[Frame::HEADER] = error;
     response[Frame::HEADER + 1] = settings.dpa_value;

@@ -1,4 +1,5 @@
-// The DPA frame: two-byte numbers, headers, ErrN and refusal numbers, a node's settings, and the reply of a peripheral.
+// What every other crate shares: two-byte numbers, the header of a frame, peripheral, ErrN and refusal numbers, memory sizes,
+// a node's settings, and the reply of a peripheral.
 pub mod error;
 pub mod frame;
 pub mod number;
@@ -6,3 +7,4 @@ pub mod pnum;
 pub mod refusal;
 pub mod reply;
 pub mod settings;
+pub mod sizes;

@@ -17,7 +17,7 @@ pub struct Settings {
     pub step: u8,
 }
 
-// The dimming steps are the divisors of 100.
+// Whether a dimming step is valid: the valid steps are the divisors of 100.
 pub fn step_ok(step: u8) -> bool
     ensures { λ r. ⌜ r ≡ stepOk step ⌝ }
 {
@@ -27,6 +27,7 @@ pub fn step_ok(step: u8) -> bool
     100 % step == 0
 }
 
+// Whether every setting is in its range.
 pub fn settings_ok(settings: Settings) -> bool
     ensures { λ r. ⌜ r ≡ settingsOk settings ⌝ }
 {

@@ -2,20 +2,17 @@
 use mathlib.Core.Path.{_≡_, refl, ap, sym, _∙_}
 use mathlib.Core.List.{List, []}
 use Prim.Native.Nat.{ℕ}
-use lib.Dec.{eqb}
-use lib.ListN.{length}
-use borrow.Author.Tests.{ne-eqb}
 use Rattle.dpa.specs.Reply.{Reply, Harmless, refused, mapState}
-use Rattle.dpa.proofs.Bool.{by-cond}
 use Rattle.memory.proofs.Requests.{request-harmless}
 use Rattle.lights.proofs.Requests as lights
 use Rattle.checksum.specs.Check.{codeCheck}
 use Rattle.checksum.proofs.Checks.{check-harmless}
 use Rattle.batch.specs.Batch.{Item, reading, listError}
 use Rattle.node.specs.Node.{withLamps}
-use Rattle.handler.specs.Request.{State, withNode, memoryOf, withMemory, peripheralRequest, hwpidMatches, executeEntry, loadReport, noReport, Outcome, replyOnly, batchRequest, codeCheckRequest, execute, frameItem, CallResult, unhandledResult, callRefusal, handleRequest}
+use Rattle.handler.specs.Request.{State, withNode, memoryOf, withMemory, peripheralRequest, executeEntry, loadReport, noReport, Outcome, replyOnly, batchRequest, codeCheckRequest, execute, frameItem, CallResult, unhandledResult, callRefusal, handleRequest}
 use Rattle.handler.proofs.Peripherals.{memory-same, peripheral-cases}
-use Rattle.handler.proofs.Outcomes.{os-cases, execute-cases}
+use Rattle.handler.proofs.BatchEntries.{entry-cases}
+use Rattle.handler.proofs.Outcomes.{batch-cases, os-cases, execute-cases}
 use Rattle.handler.proofs.Calls.{call-refused, call-cases}
 
 -- a harmless request to a part of a state is harmless to the state
@@ -32,28 +29,25 @@ peripheral-harmless pnum pcmd d st =
 
 -- an entry of a batch with an error changes nothing and has no data
 pub entry-harmless : (i : Item) (st : State) → Harmless st (executeEntry i st)
-unfolding executeEntry
 entry-harmless i st =
-    by-cond (λ (a : Reply State). Harmless st a) (hwpidMatches (st .node .settings) (i .hwpid)) _ _
-    (λ _. peripheral-harmless (i .pnum) (i .pcmd) (i .pdata) st) (λ _ n. (refl, refl))
+    entry-cases i st (λ (a : Reply State). Harmless st a) (peripheral-harmless (i .pnum) (i .pcmd) (i .pdata) st) (λ n. (refl, refl))
 
 -- a batch that cannot be read runs nothing
 pub batch-unread : (d : List ℕ) (st : State) → (listError (reading d .check) ≡ 0 → ⊥) → (batchRequest d st .after ≡ st) × (batchRequest d st .entries ≡ [])
-unfolding batchRequest
-batch-unread d st n =
-    by-cond (λ (a : Outcome). (a .after ≡ st) × (a .entries ≡ [])) (eqb (length d) 0) _ _ (λ _. (refl, refl))
-    (λ _. rw (ne-eqb (listError (reading d .check)) 0 n) (refl, refl))
+batch-unread d st n = batch-cases (λ (a : Outcome). (a .after ≡ st) × (a .entries ≡ [])) st (λ e. (refl, refl)) d (λ z. absurd (n z))
 
 -- an outcome with an error: nothing changed, no data, no entry ran, nothing to report
 abbrev HarmlessOutcome : State → Outcome → Type 0
 HarmlessOutcome st a = (a .error ≡ 0 → ⊥) → a ≡ replyOnly (refused st (a .error))
 
+-- a code check with an error
 check-outcome-harmless : (d : List ℕ) (st : State) → HarmlessOutcome st (codeCheckRequest d st)
 unfolding codeCheckRequest
 check-outcome-harmless d st n =
     let h = check-harmless (st .external) d n in
     λ j. record { after = st; error = codeCheck (st .external) d .error; bytes = h .1 j; entries = []; report = loadReport (h .0 j) }
 
+-- a request to a peripheral with an error
 peripheral-outcome-harmless : (pnum pcmd : ℕ) (d : List ℕ) (st : State) → HarmlessOutcome st (replyOnly (peripheralRequest pnum pcmd d st))
 peripheral-outcome-harmless pnum pcmd d st n =
     let h = peripheral-harmless pnum pcmd d st n in

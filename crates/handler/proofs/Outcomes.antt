@@ -5,7 +5,7 @@ use mathlib.Core.Bool.{Bool, true, false}
 use Prim.Native.Nat.{ℕ}
 use lib.Dec.{eqb}
 use lib.ListN.{length}
-use borrow.Author.Tests.{eq-eqb, ne-eqb}
+use borrow.Author.Tests.{eq-eqb, ne-eqb, eqb-true}
 use Rattle.dpa.specs.Pnum.{osPnum}
 use Rattle.dpa.specs.Reply.{Reply, SeenReply, replySeen, replyInBuffer, refused}
 use Rattle.dpa.proofs.Bool.{by-cond}
@@ -64,17 +64,22 @@ module _ (i : Item) (st : State) where
     -- any other PNUM
     pub execute-peripheral : (i .pnum ≡ osPnum → ⊥) → execute i st ≡ replyOnly (peripheralRequest (i .pnum) (i .pcmd) (i .pdata) st)
     unfolding execute
-    execute-peripheral p = rw (e, ne-eqb (i .pnum) 2 p)
+    execute-peripheral p = rw (e, ne-eqb (i .pnum) osPnum p)
 
 -- A property of outcomes holds for every request if it holds for each kind of request and for every error.
 module _ (P : Outcome → Type 0) (st : State) (error : (e : ℕ) → P (replyOnly (refused st e))) where
+  -- batches: a list that can be read runs, any other is an error
+  pub batch-cases : (d : List ℕ) → (listError (reading d .check) ≡ 0 → P (batchOutcome (reading d .items) st)) → P (batchRequest d st)
+  unfolding batchRequest
+  batch-cases d runs =
+      by-cond P (eqb (length d) 0) _ _ (λ _. error 5)
+      (λ _. by-cond P (eqb (listError (reading d .check)) 0) _ _ (λ z. runs (eqb-true _ _ z)) (λ _. error (listError (reading d .check))))
+
   -- OS requests: a batch that runs, the code check, an error
   pub os-cases : (pcmd : ℕ) (d : List ℕ) → P (batchOutcome (reading d .items) st) → P (codeCheckRequest d st) → P (osRequest pcmd d st)
-  unfolding osRequest batchRequest
+  unfolding osRequest
   os-cases pcmd d runs check =
-      by-cond P (eqb pcmd batchPcmd) _ _
-      (λ _. by-cond P (eqb (length d) 0) _ _ (λ _. error 5)
-      (λ _. by-cond P (eqb (listError (reading d .check)) 0) _ _ (λ _. runs) (λ _. error (listError (reading d .check)))))
+      by-cond P (eqb pcmd batchPcmd) _ _ (λ _. batch-cases d (λ _. runs))
       (λ _. by-cond P (eqb pcmd codeCheckPcmd) _ _ (λ _. check) (λ _. error 2))
 
   -- all requests: an OS request, a request to a peripheral, an error

@@ -5,7 +5,6 @@ use mathlib.Core.Bool.{true}
 use Prim.Native.Nat.{ℕ}
 use lib.ListN.{length}
 use Rattle.dpa.specs.Reply.{Reply}
-use Rattle.dpa.proofs.Bool.{by-cond}
 use Rattle.memory.specs.declared.block.Memory.{Memory}
 use Rattle.memory.specs.Block.{sizeOf}
 use Rattle.memory.proofs.Requests.{request-length}
@@ -15,8 +14,9 @@ use Rattle.batch.proofs.Running.{items-keep}
 use Rattle.lights.specs.Lights.{lightsRequest}
 use Rattle.node.specs.declared.record.Node.{Node}
 use Rattle.node.specs.Node.{nodeOk, withLamps}
-use Rattle.handler.specs.Request.{State, SoundState, withNode, memoryOf, withMemory, peripheralRequest, hwpidMatches, executeEntry, entryAfter, Outcome, codeCheckRequest, execute, frameItem, CallResult, callRefusal, handleRequest}
+use Rattle.handler.specs.Request.{State, SoundState, withNode, memoryOf, withMemory, peripheralRequest, entryAfter, Outcome, codeCheckRequest, execute, frameItem, CallResult, callRefusal, handleRequest}
 use Rattle.handler.proofs.Peripherals.{peripheral-cases}
+use Rattle.handler.proofs.BatchEntries.{entry-cases}
 use Rattle.handler.proofs.Outcomes.{os-cases, execute-cases}
 use Rattle.handler.proofs.Calls.{call-cases, accepted-sound}
 use Rattle.node.proofs.Nodes.{node-ram, ram-sound, lamps-sound, node-lamps, node-fits}
@@ -31,6 +31,7 @@ lights-sound n pcmd d e =
     lamps-sound n (lightsRequest (n .settings) pcmd d (n .lamps) .after) e (lamps-stay (n .settings) d (n .lamps) pcmd ∙ node-lamps n e)
     (λ k h. request-keeps (n .settings) d (n .lamps) (node-lamps n e) pcmd k (node-fits n e k h))
 
+-- a reply and an outcome that leave a sound state
 abbrev ReplySound : Reply State → Type 0
 ReplySound a = SoundState (a .after)
 
@@ -59,9 +60,7 @@ peripheral-sound pnum pcmd d st h =
 
 -- an entry of a batch keeps the state sound
 pub entry-sound : (i : Item) (st : State) → SoundState st → SoundState (entryAfter i st)
-unfolding executeEntry
-entry-sound i st h =
-    by-cond ReplySound (hwpidMatches (st .node .settings) (i .hwpid)) _ _ (λ _. peripheral-sound (i .pnum) (i .pcmd) (i .pdata) st h) (λ _. h)
+entry-sound i st h = entry-cases i st ReplySound (peripheral-sound (i .pnum) (i .pcmd) (i .pdata) st h) h
 
 -- executing a request keeps the state sound
 pub execute-sound : (i : Item) (st : State) → SoundState st → OutcomeSound (execute i st)

@@ -93,6 +93,7 @@ unfoldable pub executeEntry : Item → State → Reply State
 executeEntry i st =
     cond (hwpidMatches (st .node .settings) (i .hwpid)) (peripheralRequest (i .pnum) (i .pcmd) (i .pdata) st) (refused st 7)
 
+-- the state after an entry, and its ErrN
 abbrev pub entryAfter : Item → State → State
 entryAfter i st = executeEntry i st .after
 

@@ -66,9 +66,10 @@ callResultFromParts fixed handled ram eeprom external response =
 
 -- the struct that the call returns; it has the fields of the report among its own
 abbrev pub requestAnswer : ℕ → ℕ → Report → Bool → Node → RequestAnswer
-requestAnswer refusal length report addressed node =
-    record { refusal = refusal; length = length; load = report .load; addressed = addressed; node = node }
+requestAnswer refusal size report addressed node =
+    record { refusal = refusal; length = size; load = report .load; addressed = addressed; node = node }
 
+-- the report in that struct
 abbrev pub answerReport : RequestAnswer → Report
 answerReport answer = record { load = answer .load }
 

@@ -1,10 +1,10 @@
 // What `handle_request` returns.
 use crate::reply::Report;
 use dpa::refusal;
+use dpa::sizes::RAM_SIZE;
 use lights::lamp::LAMPS;
 use lights::lamp::Lamp;
 use node::record::Node;
-use node::record::RAM_SIZE;
 use node::record::ReadOnly;
 use node::record::node_from_parts;
 ghost use mathlib.Core.Path.{_≡_};
@@ -34,16 +34,16 @@ pub struct Handled {
 // The C struct has the fields of the report among its own.
 fn request_answer(
     refusal: u8,
-    length: usize,
+    size: usize,
     report: Report,
     addressed: bool,
     node: Node,
 ) -> RequestAnswer
-    ensures { λ r. ⌜ r ≡ requestAnswer refusal length report addressed node ⌝ }
+    ensures { λ r. ⌜ r ≡ requestAnswer refusal size report addressed node ⌝ }
 {
     RequestAnswer {
         refusal,
-        length,
+        length: size,
         load: report.load,
         addressed,
         node,

@@ -183,7 +183,7 @@ fn handle_frame(
     answer_unhandled(node, refusal::NONE)
 }
 
-// The refusal of a call.
+// The refusal of a call, tested in the order of the numbers. The parameters after the node are lengths.
 fn request_refusal(node: Node, frame: usize, eeprom: usize, external: usize, response: usize) -> u8
     ensures { λ r. ⌜ r ≡ requestRefusal node frame eeprom external response ⌝ }
 {

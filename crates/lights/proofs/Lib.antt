@@ -6,5 +6,5 @@ pub mod Remaining
 pub mod Replies
 pub mod ApplyLoop
 pub mod EachLamp
-pub mod Rule
+pub mod ValidChanges
 pub mod Requests

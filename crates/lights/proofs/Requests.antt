@@ -20,7 +20,7 @@ use Rattle.lights.proofs.Selected.{bitmap-length, count-selected, rank-
 use Rattle.lights.proofs.PowerEntries.{zeroChange, changesOf, power-entries-length}
 use Rattle.lights.proofs.EachLamp.{lampAfterEntry, lamps-after-at, lamp-unimplemented, lamps-length, levels-before-at}
 use Rattle.lights.proofs.Replies.{levels-length}
-use Rattle.lights.proofs.Rule.{ChangeRule, power-entries-rule, lamp-after-rule}
+use Rattle.lights.proofs.ValidChanges.{ChangeRule, power-entries-rule, lamp-after-rule}
 use Rattle.lights.specs.declared.apply.Command.{Command}
 use Rattle.lights.specs.declared.apply.Command.the-variants.{Set, Raise, Lower}
 use Rattle.lights.specs.declared.lamp.Lamp.{Lamp}

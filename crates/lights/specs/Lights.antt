@@ -26,10 +26,6 @@ enumeratePcmd = 0x3E
 
 -- ---- one power entry
 
--- the top bit of a power byte: a time byte follows; of a time byte: seconds, not minutes
-abbrev pub bit7 : ℕ
-bit7 = 128
-
 -- the power that leaves a lamp unchanged
 abbrev pub keepPower : ℕ
 keepPower = 127
@@ -37,6 +33,10 @@ keepPower = 127
 -- the low seven bits of a power byte: a level, or the power that leaves the lamp unchanged
 unfoldable pub powerOk : ℕ → Bool
 powerOk p = leb p maxLevel || eqb p keepPower
+
+-- the top bit of a power byte: a time byte follows; of a time byte: seconds, not minutes
+abbrev pub bit7 : ℕ
+bit7 = 128
 
 -- a time byte: any but 00 and 80 hex
 unfoldable pub timeOk : ℕ → Bool
@@ -125,7 +125,7 @@ abbrev pub powerEntryError : PowerEntry → ℕ
 powerEntryError (Valid e size) = 0
 powerEntryError Invalid = 6
 
--- a missing bitmap, or power entries of which one is invalid or missing or that do not fill PData
+-- the ErrN of a request with a missing bitmap, or with power entries of which one is invalid or missing or that do not fill PData
 abbrev pub malformedError : ℕ
 malformedError = powerEntryError Invalid
 
@@ -156,10 +156,11 @@ lightsRequest s pcmd xs ls =
 
 -- ---- results of inner functions of the code
 
+-- a power entry is valid if it has no error
 abbrev pub isValid : PowerEntry → Bool
-isValid (Valid e size) = true
-isValid Invalid = false
+isValid entry = eqb (powerEntryError entry) 0
 
+-- all power entries are valid, and they fill PData
 abbrev pub areValid : PowerEntries → Bool
 areValid (allValid es) = true
 areValid malformed = false

@@ -24,7 +24,7 @@ pub struct Lamp {
     pub seconds: u16,
 }
 
-// Whether an implemented lamp has valid values. Written without branches to keep loops over lamps simple.
+// Whether an implemented lamp has valid values. It has no branches, so that a loop over lamps can be vectorized.
 pub fn lamp_ok(lamp: Lamp) -> bool
     ensures { λ r. ⌜ r ≡ lampOk lamp ⌝ }
 {

@@ -15,7 +15,7 @@ pub const BITMAP_SIZE: usize = 4;
 pub const KEEP: u8 = 127;
 
 // In a power byte: a time byte follows. In a time byte: the low bits are seconds, not minutes.
-const BIT_7: u8 = 0x80;
+pub const BIT_7: u8 = 0x80;
 
 // What a power entry changes. Without a time byte the seconds are 0.
 pub struct LampChange {
@@ -45,7 +45,7 @@ fn power_ok(power: u8) -> bool
     power == KEEP
 }
 
-fn time_ok(time: u8) -> bool
+pub fn time_ok(time: u8) -> bool
     ensures { λ r. ⌜ r ≡ timeOk time ⌝ }
 {
     time % BIT_7 != 0
@@ -105,7 +105,7 @@ pub fn power_entries_ok(src: &[u8], n: usize) -> bool
     at == src.len()
 }
 
-// The power entry at an index where a valid one is known to start.
+// The power entry at an index where one is known to be valid: nothing is tested again.
 pub fn valid_power_entry_at(src: &[u8], at: usize) -> ValidPowerEntry
     requires { ⌜ isValid (firstPowerEntry (drop at (now src))) ≡ true ⌝ }
     ensures { λ r. ⌜ firstPowerEntry (drop at (now (src .entry))) ≡ Valid (change (r .power) (r .seconds)) (r .size) ⌝ }

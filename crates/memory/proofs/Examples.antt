@@ -8,6 +8,7 @@ use Rattle.memory.specs.declared.block.Memory.{Memory}
 use Rattle.memory.specs.Block.{blockFault}
 use Rattle.memory.specs.Request.{addressOf, readError, writeError, readRequest, writeRequest, memoryRequest}
 
+-- requests on a memory with any contents
 pub record Examples (mem : List ℕ) : Type 0 where
   -- external memory at 0x3FFF: one byte can be read, two cannot
   pub last-byte : memoryRequest Memory.External 2 (0xFF ∷ 0x3F ∷ 1 ∷ []) mem ≡ reply mem 0 (slice mem 0x3FFF 1)
@@ -20,6 +21,7 @@ pub record Examples (mem : List ℕ) : Type 0 where
   -- a write without data
   pub no-data : memoryRequest Memory.Ram 1 (0 ∷ []) mem ≡ refused mem 5
 
+-- the definitions give these replies
 pub examples : (mem : List ℕ) → Examples mem
 unfolding memoryRequest readRequest writeRequest readError writeError blockFault addressOf
 examples mem = record { last-byte = refl; past-end = refl; empty = refl; empty-at-end = refl; too-long = refl; no-data = refl }

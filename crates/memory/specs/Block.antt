@@ -4,6 +4,7 @@ use mathlib.Core.List.{List, _++_}
 use mathlib.Core.Bool.{cond}
 use lib.ListN.{length, take, drop}
 use lib.Dec.{leb, ltb}
+use Rattle.dpa.specs.Sizes.{eepromSize, ramSize, externalSize}
 use Rattle.memory.specs.declared.block.Memory.{Memory}
 
 -- the PNUM of each memory
@@ -14,9 +15,9 @@ memoryPnum Memory.External = 0x04
 
 -- size in bytes
 abbrev pub sizeOf : Memory → ℕ
-sizeOf Memory.Eeprom = 192
-sizeOf Memory.Ram = 48
-sizeOf Memory.External = 16384
+sizeOf Memory.Eeprom = eepromSize
+sizeOf Memory.Ram = ramSize
+sizeOf Memory.External = externalSize
 
 -- the most bytes that one request reads or writes
 abbrev pub longestOf : Memory → ℕ

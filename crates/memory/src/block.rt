@@ -1,4 +1,7 @@
 // The three memories, and which blocks a request may read or write.
+use dpa::sizes::EEPROM_SIZE;
+use dpa::sizes::EXTERNAL_SIZE;
+use dpa::sizes::RAM_SIZE;
 ghost use mathlib.Core.Path.{_≡_};
 ghost use mathlib.Core.List.{_++_};
 ghost use Prim.Native.Nat.{_+_, _≤_};
@@ -20,13 +23,13 @@ pub fn size_of(memory: Memory) -> usize
     ensures { λ r. ⌜ (r ≡ sizeOf memory) × (r ≤ sizeOf Memory.External) ⌝ }
 {
     match memory {
-        Memory::Eeprom => 192,
-        Memory::Ram => 48,
-        Memory::External => 16384,
+        Memory::Eeprom => EEPROM_SIZE,
+        Memory::Ram => RAM_SIZE,
+        Memory::External => EXTERNAL_SIZE,
     }
 }
 
-// The most bytes that one request reads or writes.
+// The most bytes that one request reads or writes: what fits in PData after the address; for RAM, its size.
 pub fn longest_of(memory: Memory) -> usize
     ensures { λ r. ⌜ (r ≡ longestOf memory) × (r ≤ longestOf Memory.Eeprom) ⌝ }
 {

@@ -1,3 +1,3 @@
 pub mod Maps
 pub mod Nodes
-pub mod TwoBits
+pub mod FrcAnswers

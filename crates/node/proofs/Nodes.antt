@@ -9,13 +9,14 @@ use lib.Dec.{ltb, eqb}
 use borrow.Author.Tests.{eqb-true, eq-eqb, ltb-true, ltb-false}
 use Rattle.dpa.specs.declared.settings.Settings.{Settings}
 use Rattle.dpa.specs.Settings.{maxLamps, settingsOk}
+use Rattle.dpa.specs.Sizes.{ramSize}
 use Rattle.dpa.proofs.Bool.{and-left, and-right, both, by-test, all-below-intro, all-below-elim}
 use Rattle.dpa.proofs.Ranges.{settings-facts}
 use Rattle.lights.specs.declared.lamp.Lamp.{Lamp}
-use Rattle.lights.specs.Lamp.{off, lampFits, LevelsInRange, actualLevel, tickLamp}
+use Rattle.lights.specs.Lamp.{maxLevel, off, lampFits, LevelsInRange, actualLevel, tickLamp}
 use Rattle.lights.proofs.Lamps.{lamp-facts, zero-facts, off-rule, fits-below, fits-above, fits-test, fits-rule, tick-keeps, tick-seconds, tick-ends, tick-level, actual-max, actual-off}
 use Rattle.node.specs.declared.record.Node.{Node}
-use Rattle.node.specs.Node.{ramSize, withLamps, withRam, shapeOk, lampsOk, nodeOk, NodeRule, nodeAnswer, fresh, blank, startOf, actualLevels, levelsOf, tickLamps, tickNode, tickOf}
+use Rattle.node.specs.Node.{withLamps, withRam, shapeOk, lampsOk, nodeOk, NodeRule, nodeAnswer, fresh, blank, startOf, actualLevels, levelsOf, tickLamps, tickNode, tickOf}
 
 -- The node rule, as a test and as facts
 
@@ -170,5 +171,5 @@ module _ (n : Node) (e : nodeOk n ≡ true) where
   levels-length = rw e (length-map (n .lamps) (λ (l : Lamp). actualLevel (n .settings) (l .level)) ∙ node-lamps n e)
 
   -- none is over 100
-  pub levels-max : (k : ℕ) → getD (levelsOf n .levels) k 0 ≤ 100
+  pub levels-max : (k : ℕ) → getD (levelsOf n .levels) k 0 ≤ maxLevel
   levels-max k = rw levels-at (actual-max (n .settings) (node-settings n e) (getD (n .lamps) k off .level) (node-levels-in-range n e k))

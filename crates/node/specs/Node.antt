@@ -8,6 +8,7 @@ use lib.Dec.{eqb}
 use Rattle.dpa.specs.declared.settings.Settings.{Settings}
 use Rattle.dpa.specs.Lists.{allBelow}
 use Rattle.dpa.specs.Settings.{maxLamps, settingsOk}
+use Rattle.dpa.specs.Sizes.{ramSize}
 use Rattle.lights.specs.declared.lamp.Lamp.{Lamp}
 use Rattle.lights.specs.Lamp.{off, LampRule, lampFits, actualLevel, tickLamp}
 use Rattle.node.specs.declared.record.Node.{Node}
@@ -15,15 +16,11 @@ use Rattle.node.specs.declared.record.ReadOnly.{ReadOnly}
 use Rattle.node.specs.declared.record.NodeAnswer.{NodeAnswer}
 use Rattle.node.specs.declared.levels.LevelsAnswer.{LevelsAnswer}
 
--- bytes of RAM
-abbrev pub ramSize : ℕ
-ramSize = 48
-
 -- the part of a node that a request only reads
 abbrev pub readOnlyOf : Node → ReadOnly
 readOnlyOf n = record { settings = n .settings }
 
--- a node made of that part, lamps and RAM
+-- the node with that part, these lamps and these RAM bytes
 abbrev pub nodeFromParts : ReadOnly → List Lamp → List ℕ → Node
 nodeFromParts fixed ls bytes = record { settings = fixed .settings; lamps = ls; ram = bytes }
 

@@ -31,13 +31,10 @@ pub struct FrcAnswer {
     pub value: u8,
 }
 
-fn frc_answer(number: u8, value: u8) -> FrcAnswer
-    ensures { λ r. ⌜ r ≡ frcAnswer number value ⌝ }
+fn frc_answer(refusal: u8, value: u8) -> FrcAnswer
+    ensures { λ r. ⌜ r ≡ frcAnswer refusal value ⌝ }
 {
-    FrcAnswer {
-        refusal: number,
-        value,
-    }
+    FrcAnswer { refusal, value }
 }
 
 fn bit_set(mask: u32, bit: u32) -> bool
@@ -72,6 +69,7 @@ fn asks_lamp(count: u8, command: u8, user_data: &[u8]) -> bool
     user_data[1] % MAX_LAMPS < count
 }
 
+// Whether a lamp is on. A lamp that is stuck on counts too.
 fn is_on(node: Node, index: u8, stuck: u32) -> bool
     requires { ⌜ (nodeOk node ≡ true) × (index < maxLamps) ⌝ }
     ensures { λ r. ⌜ r ≡ isOn node index stuck ⌝ }

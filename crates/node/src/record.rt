@@ -2,6 +2,7 @@
 use dpa::number::wide;
 use dpa::settings::Settings;
 use dpa::settings::settings_ok;
+use dpa::sizes::RAM_SIZE;
 use lights::lamp::LAMPS;
 use lights::lamp::Lamp;
 use lights::lamp::lamp_ok;
@@ -13,9 +14,6 @@ ghost use Rattle.dpa.specs.Lists.{allBelow};
 ghost use Rattle.dpa.specs.Settings.{maxLamps};
 ghost use Rattle.lights.specs.Lamp.{off, lampFits};
 ghost use Rattle.node.specs.Node.{readOnlyOf, nodeFromParts, lampsOk, nodeOk};
-
-// Bytes of RAM.
-pub const RAM_SIZE: usize = 48;
 
 #[repr(C)]
 pub struct Node {
@@ -43,7 +41,7 @@ pub fn read_only(node: Node) -> ReadOnly
     ReadOnly { settings }
 }
 
-// The node made of its parts.
+// The node with the lamps and the RAM that a request left.
 pub fn node_from_parts(fixed: ReadOnly, lamps: [Lamp; LAMPS], ram: [u8; RAM_SIZE]) -> Node
     ensures { λ r. ⌜ r ≡ nodeFromParts fixed lamps ram ⌝ }
 {

@@ -1,10 +1,10 @@
 // Starting a node.
 use crate::record::Node;
 use crate::record::NodeAnswer;
-use crate::record::RAM_SIZE;
 use dpa::refusal;
 use dpa::settings::Settings;
 use dpa::settings::settings_ok;
+use dpa::sizes::RAM_SIZE;
 use lights::lamp::LAMPS;
 use lights::lamp::Lamp;
 ghost use mathlib.Core.Path.{_≡_};

@@ -9,14 +9,14 @@ use borrow.Author.Tests.{leb-true}
 use Rattle.batch.specs.Batch.{entriesBytes, entryBytes}
 use Rattle.dpa.specs.Lists.{All}
 use Rattle.book.specs.declared.step.Step.{Step}
-use Rattle.book.specs.Join.{entriesOf, entryLimit}
+use Rattle.book.specs.Join.{entriesOf}
 use Rattle.book.specs.EntrySize.{EntryLimit}
 use Rattle.book.specs.Group.{concat}
 use Rattle.book.proofs.Groups.{all-group, concat-group}
 use Rattle.dpa.proofs.All.{all-snoc}
 use Rattle.book.proofs.Faults.{Good}
 use Rattle.book.proofs.EntryGroups.{EntryGroup, entry-groups}
-use Rattle.scene.specs.Compile.{Limits, fitsBatch, listOf, batchesOf, listLimit}
+use Rattle.scene.specs.Compile.{Limits, fitsBatch, listOf, batchesOf, entryLimit, listLimit}
 
 -- groups that joining makes, in a list of at most `listMax` bytes
 pub record BatchRule (entryMax listMax h : ℕ) (rs : List (List Step)) : Type 0 where

@@ -5,7 +5,7 @@ use Prim.Native.Nat.{ℕ, suc, _+_, _≤_}
 use native.Mathlib.Omega.{arith}
 use lib.ListN.{length, take, drop, set, length-append, length-drop, drop-of-length-le}
 use lib.Seq.{sets, length-sets, set-comm}
-use Rattle.batch.specs.Batch.{entryBytes}
+use Rattle.batch.specs.Batch.{entryHead, entryBytes}
 use Rattle.batch.proofs.RoundTrip.{entry-length}
 use Rattle.dpa.specs.declared.frame.Frame.{Frame}
 use Rattle.book.specs.declared.step.Step.{Step}
@@ -19,9 +19,9 @@ use Rattle.book.proofs.Writing.{sets-append, two-writes}
 use Rattle.book.proofs.Positions.{steps-length}
 use Rattle.book.proofs.GoodSteps.{good-steps}
 use Rattle.scene.specs.declared.fill.SizeLimits.{SizeLimits}
-use Rattle.scene.specs.Compile.{Limits}
+use Rattle.scene.specs.Compile.{Limits, emptyListSize}
 use Rattle.scene.specs.Call.{lengths, output, minOutput}
-use Rattle.scene.specs.Fill.{requestsWith, nextSize, separatorBytes, separatorLength}
+use Rattle.scene.specs.Fill.{requestsWith, nextSize, separatorBytes, lengthByteIfFull}
 use Rattle.scene.proofs.Remaining.{remainingBytes, remainingLengths, next-small, bytes-next, lengths-next}
 use Rattle.scene.proofs.Outputs.{lengths-length, output-length, output-fits}
 
@@ -59,12 +59,12 @@ pub record Progress (entryMax listMax : ℕ) (remaining : ℕ → List (List Ste
     (out : List ℕ) (w : ℕ) : Type 0 where
   pub within : step ≤ length ss
   pub small : size ≤ listMax
-  pub rest : Remaining old at (remaining 1 (entriesOf entryMax ss)) out w (remaining size (entriesOf entryMax (drop step ss)))
+  pub rest : Remaining old at (remaining emptyListSize (entriesOf entryMax ss)) out w (remaining size (entriesOf entryMax (drop step ss)))
 
 module _ {entryMax listMax : ℕ} {front : List ℕ} (l : Limits entryMax listMax front) (remaining : ℕ → List (List Step) → List ℕ)
     (ss : List Step) (old : List ℕ) (at : ℕ) where
   -- before the first entry
-  pub progress-start : Progress entryMax listMax remaining ss old at 0 1 old at
+  pub progress-start : Progress entryMax listMax remaining ss old at 0 emptyListSize old at
   progress-start = record { within = omega arith; small = omega (arith, l .list); rest = remaining-start _ _ _ }
 
   module _ (step size : ℕ) (out : List ℕ) (w : ℕ) (o : Progress entryMax listMax remaining ss old at step size out w) where
@@ -82,7 +82,7 @@ module _ {entryMax listMax : ℕ} {front : List ℕ} (l : Limits entryMax listMa
         })
 
     -- after the last step only the end of the open list remains
-    pub progress-end : length ss ≤ step → Remaining old at (remaining 1 (entriesOf entryMax ss)) out w (remaining size [])
+    pub progress-end : length ss ≤ step → Remaining old at (remaining emptyListSize (entriesOf entryMax ss)) out w (remaining size [])
     progress-end d =
         let none : drop step ss ≡ [] = drop-of-length-le ss {i = step} d in
         rw none at (o .rest)
@@ -96,17 +96,17 @@ module _ {entryMax listMax : ℕ} {front : List ℕ} (l : Limits entryMax listMa
     laterLengths = remainingLengths listMax prefix (nextSize listMax size sz) (entriesOf entryMax (drop (step + k) ss))
 
     -- which has room
-    pub lengths-room : at + length (remainingLengths listMax prefix 1 (entriesOf entryMax ss)) ≤ length old
-        → w + length (separatorLength listMax prefix size sz) ≤ length out
+    pub lengths-room : at + length (remainingLengths listMax prefix emptyListSize (entriesOf entryMax ss)) ≤ length old
+        → w + length (lengthByteIfFull listMax prefix size sz) ≤ length out
     lengths-room =
-        remaining-room old at _ out w _ (o .rest) (separatorLength listMax prefix size sz) laterLengths (lengths-next entryMax listMax ss step k sz f prefix size)
+        remaining-room old at _ out w _ (o .rest) (lengthByteIfFull listMax prefix size sz) laterLengths (lengths-next entryMax listMax ss step k sz f prefix size)
 
     -- and after which the loop goes on
-    pub lengths-more : (out′ : List ℕ) (w′ size′ : ℕ) → out′ ≡ sets out w (separatorLength listMax prefix size sz)
-        → w′ ≡ w + length (separatorLength listMax prefix size sz) → size′ ≡ nextSize listMax size sz
+    pub lengths-more : (out′ : List ℕ) (w′ size′ : ℕ) → out′ ≡ sets out w (lengthByteIfFull listMax prefix size sz)
+        → w′ ≡ w + length (lengthByteIfFull listMax prefix size sz) → size′ ≡ nextSize listMax size sz
         → Progress entryMax listMax (remainingLengths listMax prefix) ss old at (step + k) size′ out′ w′
     lengths-more out′ w′ size′ =
-        progress-more l (remainingLengths listMax prefix) ss old at step size out w o k sz f (separatorLength listMax prefix size sz) out′ w′ size′
+        progress-more l (remainingLengths listMax prefix) ss old at step size out w o k sz f (lengthByteIfFull listMax prefix size sz) out′ w′ size′
         (lengths-next entryMax listMax ss step k sz f prefix size)
 
   -- the requests: the separator, then the entry
@@ -121,12 +121,12 @@ module _ {entryMax listMax : ℕ} {front : List ℕ} (l : Limits entryMax listMa
     laterBytes = remainingBytes listMax prefix h (nextSize listMax size sz) (entriesOf entryMax (drop (step + k) ss))
 
     -- the separator has room
-    pub separator-room : at + length (remainingBytes listMax prefix h 1 (entriesOf entryMax ss)) ≤ length old → w + length separator ≤ length out
+    pub separator-room : at + length (remainingBytes listMax prefix h emptyListSize (entriesOf entryMax ss)) ≤ length old → w + length separator ≤ length out
     separator-room = remaining-room old at _ out w _ (o .rest) separator (entry ++ laterBytes) (bytes-next entryMax listMax ss step k sz f prefix h size)
 
     module _ (out′ : List ℕ) (w′ : ℕ) (eo : out′ ≡ sets out w separator) (ew : w′ ≡ w + length separator) where
       -- and so has the entry
-      pub entry-room : at + length (remainingBytes listMax prefix h 1 (entriesOf entryMax ss)) ≤ length old → w′ + 5 + sz ≤ length out′
+      pub entry-room : at + length (remainingBytes listMax prefix h emptyListSize (entriesOf entryMax ss)) ≤ length old → w′ + entryHead + sz ≤ length out′
       entry-room c =
           let x = remaining-more old at _ out w _ (o .rest) separator (entry ++ laterBytes) out′ w′ (bytes-next entryMax listMax ss step k sz f prefix h size) eo ew in
           omega (
@@ -137,7 +137,7 @@ module _ {entryMax listMax : ℕ} {front : List ℕ} (l : Limits entryMax listMa
           )
 
       -- after both the loop goes on
-      pub bytes-more : (out″ : List ℕ) (w″ size′ : ℕ) → out″ ≡ sets out′ w′ entry → w″ ≡ w′ + 5 + sz → size′ ≡ nextSize listMax size sz
+      pub bytes-more : (out″ : List ℕ) (w″ size′ : ℕ) → out″ ≡ sets out′ w′ entry → w″ ≡ w′ + entryHead + sz → size′ ≡ nextSize listMax size sz
           → Progress entryMax listMax (remainingBytes listMax prefix h) ss old at (step + k) size′ out″ w″
       bytes-more out″ w″ size′ fo fw =
           let n : w″ ≡ w′ + length entry = omega (arith, entry-length (joinedItem h (take k (drop step ss))), f .fits) in

@@ -19,9 +19,9 @@ use Rattle.book.specs.EntrySize.{FirstEntry}
 use Rattle.book.proofs.Faults.{Good}
 use Rattle.book.proofs.Groups.{grow-fits, grow-not-fits}
 use Rattle.book.proofs.EntryGroups.{EntryGroup, entry-groups, joining-keeps}
-use Rattle.scene.specs.Compile.{Limits, joinedItems, listOf, entrySize, emptyList, fitsBatch, batchesOf}
+use Rattle.scene.specs.Compile.{Limits, joinedItems, listOf, entrySize, emptyListSize, fitsBatch, batchesOf}
 use Rattle.scene.specs.Call.{lengths}
-use Rattle.scene.specs.Fill.{fitsList, nextSize, separatorBytes, separatorLength}
+use Rattle.scene.specs.Fill.{fitsList, nextSize, separatorBytes, lengthByteIfFull}
 use Rattle.scene.proofs.Sizes.{entries-snoc, list-snoc, list-one}
 
 -- all bytes after those of an open list of `size` bytes, when the entries of these groups remain
@@ -36,7 +36,7 @@ abbrev pub remainingLengths : ℕ → ℕ → ℕ → List (List Step) → List 
 remainingLengths listMax prefix size [] = (size + prefix) ∷ []
 remainingLengths listMax prefix size (r ∷ rs) =
     let pdata = length (groupData r) in
-    separatorLength listMax prefix size pdata ++ remainingLengths listMax prefix (nextSize listMax size pdata) rs
+    lengthByteIfFull listMax prefix size pdata ++ remainingLengths listMax prefix (nextSize listMax size pdata) rs
 
 -- a request by its prefix: the header and the bytes in front of the list
 abbrev pub withPrefix : List ℕ → ℕ → List (List Step) → List ℕ
@@ -72,7 +72,7 @@ module _ (listMax : ℕ) (prefix : List ℕ) (h : ℕ) where
   -- and their lengths
   pub grow-lengths : (cur rs : List (List Step)) → lengths (map (withPrefix prefix h) (grow (fitsBatch listMax h) cur rs))
       ≡ remainingLengths listMax (length prefix) (length (listOf h cur)) rs
-  unfolding nextSize separatorLength
+  unfolding nextSize lengthByteIfFull
   grow-lengths cur [] = ap (λ (n : ℕ). n ∷ []) (prefixed-length cur)
   grow-lengths cur (r ∷ rs) =
       by-test (fitsBatch listMax h cur r)
@@ -84,14 +84,14 @@ module _ (listMax : ℕ) (prefix : List ℕ) (h : ℕ) where
 module _ (listMax : ℕ) (prefix : List ℕ) (n size pdata : ℕ) where
   -- nothing separates them
   pub list-open : size + entrySize pdata ≤ listMax
-      → (separatorBytes listMax prefix size pdata ≡ []) × (separatorLength listMax n size pdata ≡ []) × (nextSize listMax size pdata ≡ size + entrySize pdata)
-  unfolding separatorBytes separatorLength nextSize
+      → (separatorBytes listMax prefix size pdata ≡ []) × (lengthByteIfFull listMax n size pdata ≡ []) × (nextSize listMax size pdata ≡ size + entrySize pdata)
+  unfolding separatorBytes lengthByteIfFull nextSize
   list-open h = rw (le-leb (size + entrySize pdata) listMax h) (refl, refl, refl)
 
   -- the list is ended, and a new one takes the entry
   pub list-full : listMax < size + entrySize pdata
-      → (separatorBytes listMax prefix size pdata ≡ closingZero ∷ prefix) × (separatorLength listMax n size pdata ≡ (size + n) ∷ []) × (nextSize listMax size pdata ≡ emptyList + entrySize pdata)
-  unfolding separatorBytes separatorLength nextSize
+      → (separatorBytes listMax prefix size pdata ≡ closingZero ∷ prefix) × (lengthByteIfFull listMax n size pdata ≡ (size + n) ∷ []) × (nextSize listMax size pdata ≡ emptyListSize + entrySize pdata)
+  unfolding separatorBytes lengthByteIfFull nextSize
   list-full h = rw (lt-leb (size + entrySize pdata) listMax h) (refl, refl, refl)
 
 module _ {entryMax listMax : ℕ} {front : List ℕ} (l : Limits entryMax listMax front) where
@@ -115,13 +115,13 @@ module _ {entryMax listMax : ℕ} {front : List ℕ} (l : Limits entryMax listMa
     batches-grow = from-empty (entriesOf entryMax ss) (joining-keeps entryMax ss) (entry-groups entryMax (l .entry) ss good)
 
     -- the requests of a scene, before the first entry is written
-    pub requests-bytes : concat (map (withPrefix prefix h) (batchesOf entryMax listMax h ss)) ≡ prefix ++ remainingBytes listMax prefix h 1 (entriesOf entryMax ss)
+    pub requests-bytes : concat (map (withPrefix prefix h) (batchesOf entryMax listMax h ss)) ≡ prefix ++ remainingBytes listMax prefix h emptyListSize (entriesOf entryMax ss)
     unfolding entriesBytes
     requests-bytes =
         ap (λ (bs : List (List (List Step))). concat (map (withPrefix prefix h) bs)) batches-grow ∙ grow-bytes listMax prefix h [] (entriesOf entryMax ss)
 
     -- and their lengths
-    pub requests-lengths : lengths (map (withPrefix prefix h) (batchesOf entryMax listMax h ss)) ≡ remainingLengths listMax (length prefix) 1 (entriesOf entryMax ss)
+    pub requests-lengths : lengths (map (withPrefix prefix h) (batchesOf entryMax listMax h ss)) ≡ remainingLengths listMax (length prefix) emptyListSize (entriesOf entryMax ss)
     unfolding entriesBytes
     requests-lengths =
         ap (λ (bs : List (List (List Step))). lengths (map (withPrefix prefix h) bs)) batches-grow ∙ grow-lengths listMax prefix h [] (entriesOf entryMax ss)
@@ -140,5 +140,5 @@ module _ (entryMax listMax : ℕ) (ss : List Step) (step k sz : ℕ) (f : FirstE
 
   -- the length bytes that remain
   pub lengths-next : (prefix size : ℕ) → remainingLengths listMax prefix size (entriesOf entryMax (drop step ss))
-      ≡ separatorLength listMax prefix size sz ++ remainingLengths listMax prefix (nextSize listMax size sz) (entriesOf entryMax (drop (step + k) ss))
+      ≡ lengthByteIfFull listMax prefix size sz ++ remainingLengths listMax prefix (nextSize listMax size sz) (entriesOf entryMax (drop (step + k) ss))
   lengths-next prefix size = rw (entries-next, f .fits)

@@ -6,13 +6,13 @@ use native.Mathlib.Omega.{arith}
 use lib.ListN.{length, length-append}
 use Rattle.dpa.specs.declared.frame.Frame.{Frame}
 use Rattle.dpa.specs.Frame.{headerSize, longestFrame}
-use Rattle.batch.specs.Batch.{entryBytes, entriesBytes}
+use Rattle.batch.specs.Batch.{closingZero, entryBytes, entriesBytes}
 use Rattle.dpa.specs.Lists.{All}
 use Rattle.batch.proofs.RoundTrip.{entry-length}
 use Rattle.book.specs.declared.step.Step.{Step}
 use Rattle.book.specs.Entry.{groupData, joinedItem}
 use Rattle.book.proofs.Faults.{Good}
-use Rattle.scene.specs.Compile.{Limits, joinedItems, listOf, entrySize, emptyList, batchesOf, requestWith}
+use Rattle.scene.specs.Compile.{Limits, joinedItems, listOf, entrySize, emptyListSize, batchesOf, requestWith}
 use Rattle.scene.proofs.Batches.{BatchRule, batches-rule}
 
 -- one more entry at the end of a list adds its bytes
@@ -30,15 +30,15 @@ pub list-snoc : (h : ℕ) (rs : List (List Step)) (r : List Step)
 list-snoc h rs r =
     omega (
       arith,
-      length-append (entriesBytes (joinedItems h (rs ++ (r ∷ [])))) (0 ∷ []),
-      length-append (entriesBytes (joinedItems h rs)) (0 ∷ []),
+      length-append (entriesBytes (joinedItems h (rs ++ (r ∷ [])))) (closingZero ∷ []),
+      length-append (entriesBytes (joinedItems h rs)) (closingZero ∷ []),
       ap length (entries-snoc h rs r),
       length-append (entriesBytes (joinedItems h rs)) (entryBytes (joinedItem h r)),
       entry-length (joinedItem h r),
     )
 
 -- size of a list of one entry
-pub list-one : (h : ℕ) (r : List Step) → length (listOf h (r ∷ [])) ≡ emptyList + entrySize (length (groupData r))
+pub list-one : (h : ℕ) (r : List Step) → length (listOf h (r ∷ [])) ≡ emptyListSize + entrySize (length (groupData r))
 unfolding entriesBytes entryBytes
 list-one h r = simp length-append (omega arith)
 
@@ -51,8 +51,8 @@ request-length header front rs = omega (arith, length-append front (listOf (head
 abbrev pub FrameSized : List ℕ → Type 0
 FrameSized r = (headerSize ≤ length r) × (length r ≤ longestFrame)
 
--- every request of a scene fits a frame
 module _ {entryMax listMax : ℕ} {front : List ℕ} (l : Limits entryMax listMax front) (header : Frame) where
+  -- the request of a batch fits a frame
   pub batch-fits : (rs : List (List Step)) → BatchRule entryMax listMax (header .hwpid) rs → FrameSized (requestWith header front rs)
   batch-fits rs b =
       let n = request-length header front rs in
@@ -60,6 +60,7 @@ module _ {entryMax listMax : ℕ} {front : List ℕ} (l : Limits entryMax listMa
       let f = l .frame in
       (omega arith, omega arith)
 
+  -- every request of a scene fits a frame
   pub requests-fit : (ss : List Step) → All Good ss → All FrameSized (map (requestWith header front) (batchesOf entryMax listMax (header .hwpid) ss))
   requests-fit ss g = each (batchesOf entryMax listMax (header .hwpid) ss) (batches-rule l (header .hwpid) ss g)
     where

@@ -14,11 +14,11 @@ use Rattle.book.specs.declared.step.Step.{Step}
 use Rattle.book.specs.Group.{concat, grow, group}
 use Rattle.book.specs.Entry.{groupData}
 use Rattle.book.specs.Join.{joins, entriesOf}
-use Rattle.book.specs.EntrySize.{FirstEntry}
+use Rattle.book.specs.EntrySize.{oneStepMax, FirstEntry}
 use Rattle.book.proofs.Faults.{Good}
 use Rattle.book.proofs.Groups.{length-group}
 use Rattle.book.proofs.EntryGroups.{EntryGroup, entry-groups, joining-keeps}
-use Rattle.scene.specs.Fill.{spanBytes, StartsWithSpans}
+use Rattle.scene.specs.Fill.{spanLength, spanBytes, StartsWithSpans}
 use Rattle.scene.proofs.Remaining.{entries-next}
 use Rattle.scene.proofs.Progress.{Remaining, remaining-more}
 
@@ -58,10 +58,10 @@ group-some limit (s ∷ ss) q = (omega arith, q .2)
 pub record NextSpan (entryMax : ℕ) (xs : List Step) (spans : List ℕ) (m : ℕ) : Type 0 where
   pub in-range : m + 1 < length spans
   pub entry : FirstEntry entryMax xs (getD spans m 0) (getD spans (m + 1) 0)
-  pub rest : StartsWithSpans entryMax (drop (getD spans m 0) xs) (drop (m + 2) spans)
+  pub rest : StartsWithSpans entryMax (drop (getD spans m 0) xs) (drop (m + spanLength) spans)
 
 -- the first group that joining makes is the first entry
-module _ (entryMax : ℕ) (min : 6 ≤ entryMax) (xs : List Step) (good : All Good xs) where
+module _ (entryMax : ℕ) (min : oneStepMax ≤ entryMax) (xs : List Step) (good : All Good xs) where
   first-entry : (r : List Step) (rs : List (List Step)) → entriesOf entryMax xs ≡ r ∷ rs → FirstEntry entryMax xs (length r) (length (groupData r))
   first-entry r rs e =
       let c = group-first (joins entryMax) xs r rs e in
@@ -95,7 +95,7 @@ module _ (entryMax : ℕ) (min : 6 ≤ entryMax) (xs : List Step) (good : All Go
         record {
           in-range = omega (arith, ap length q, length-drop m spans);
           entry = rw (a, b) f;
-          rest = rw a (record { unused = unused; starts = sym (drop-drop 2 m spans) ∙ ap (drop 2) q ∙ ap (λ (ls : List (List Step)). spanBytes ls ++ unused) n });
+          rest = rw a (record { unused = unused; starts = sym (drop-drop spanLength m spans) ∙ ap (drop spanLength) q ∙ ap (λ (ls : List (List Step)). spanBytes ls ++ unused) n });
         }
 
   -- the span at byte m, where the spans of these steps start
@@ -106,12 +106,12 @@ module _ (entryMax : ℕ) (min : 6 ≤ entryMax) (xs : List Step) (good : All Go
 abbrev pub SpansWritten : ℕ → List Step → List ℕ → ℕ → List ℕ → ℕ → Type 0
 SpansWritten entryMax ss old step spans m = Remaining old 0 (spanBytes (entriesOf entryMax ss)) spans m (spanBytes (entriesOf entryMax (drop step ss)))
 
-spans-length : (es : List (List Step)) → length (spanBytes es) ≡ 2 * length es
+spans-length : (es : List (List Step)) → length (spanBytes es) ≡ spanLength * length es
 spans-length [] = refl
 spans-length (r ∷ rs) = omega (arith, spans-length rs)
 
--- two bytes for each step are enough
-spans-room : (entryMax : ℕ) (ss : List Step) → length (spanBytes (entriesOf entryMax ss)) ≤ 2 * length ss
+-- room for one span for each step is enough
+spans-room : (entryMax : ℕ) (ss : List Step) → length (spanBytes (entriesOf entryMax ss)) ≤ spanLength * length ss
 spans-room entryMax ss = omega (arith, spans-length (entriesOf entryMax ss), length-group (joins entryMax) ss)
 
 module _ (entryMax : ℕ) (ss : List Step) (old : List ℕ) (step : ℕ) (spans : List ℕ) (m : ℕ) (l : SpansWritten entryMax ss old step spans m) where
@@ -120,16 +120,16 @@ module _ (entryMax : ℕ) (ss : List Step) (old : List ℕ) (step : ℕ) (spans 
     spans-next = ap spanBytes (entries-next entryMax 0 ss step k sz f) ∙ rw (length-take-le k (drop step ss) (f .within), ← (f .fits))
 
     -- the next span has room
-    pub span-room : m + 2 ≤ 2 * length ss
+    pub span-room : m + spanLength ≤ spanLength * length ss
     span-room = omega (arith, l .end, ap length spans-next, spans-room entryMax ss)
 
     -- and after it the loop goes on
-    pub spans-more : SpansWritten entryMax ss old (step + k) (set (set spans m k) (m + 1) sz) (m + 2)
+    pub spans-more : SpansWritten entryMax ss old (step + k) (set (set spans m k) (m + 1) sz) (m + spanLength)
     spans-more =
-        remaining-more old 0 _ spans m _ l (k ∷ sz ∷ []) _ _ (m + 2) spans-next (ap (λ (i : ℕ). set (set spans m k) i sz) (add-one m)) refl
+        remaining-more old 0 _ spans m _ l (k ∷ sz ∷ []) _ _ (m + spanLength) spans-next (ap (λ (i : ℕ). set (set spans m k) i sz) (add-one m)) refl
 
   -- after the last step the bytes start with all spans
-  pub spans-end : length ss ≤ step → 2 * length ss ≤ length old → StartsWithSpans entryMax ss spans
+  pub spans-end : length ss ≤ step → spanLength * length ss ≤ length old → StartsWithSpans entryMax ss spans
   spans-end d h =
       let none : drop step ss ≡ [] = drop-of-length-le ss {i = step} d in
       let e : sets old 0 (spanBytes (entriesOf entryMax ss)) ≡ sets spans m (spanBytes (entriesOf entryMax [])) = rw none at (l .bytes) in

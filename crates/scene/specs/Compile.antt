@@ -12,7 +12,7 @@ use Rattle.handler.specs.Request.{batchPcmd}
 use Rattle.book.specs.declared.step.Step.{Step}
 use Rattle.book.specs.Entry.{joinedItem}
 use Rattle.book.specs.Group.{group}
-use Rattle.book.specs.Join.{entryLimit, entriesOf}
+use Rattle.book.specs.Join.{entriesOf}
 use Rattle.book.specs.EntrySize.{oneStepMax}
 
 -- ---- entries filled into lists, for any two limits
@@ -30,12 +30,8 @@ abbrev pub entrySize : ℕ → ℕ
 entrySize pdata = entryHead + pdata
 
 -- size of a list without entries: its closing zero
-abbrev pub emptyList : ℕ
-emptyList = 1
-
--- maximum size of a list, its closing zero included
-abbrev pub listLimit : ℕ
-listLimit = pdataMax
+abbrev pub emptyListSize : ℕ
+emptyListSize = 1
 
 -- whether a list stays within `listMax` with one more entry
 abbrev pub fitsBatch : ℕ → ℕ → List (List Step) → List Step → Bool
@@ -50,7 +46,7 @@ batchesOf entryMax listMax h ss = group (fitsBatch listMax h) (entriesOf entryMa
 -- the limits, and the bytes in front of the lists: an entry has room for a step, a list for an entry, and a frame for a list
 pub record Limits (entryMax listMax : ℕ) (front : List ℕ) : Type 0 where
   pub entry : oneStepMax ≤ entryMax
-  pub list : emptyList + entrySize entryMax ≤ listMax
+  pub list : emptyListSize + entrySize entryMax ≤ listMax
   pub frame : length front + listMax ≤ pdataMax
 
 -- a request: the header, the bytes in front of the list, the list
@@ -64,6 +60,16 @@ requestBytes pcmd front a h groups = requestWith (frame a osPnum pcmd h) front g
 -- the requests of a scene within two limits, with any PCMD and any bytes in front of the lists
 abbrev pub requestsOf : ℕ → ℕ → ℕ → List ℕ → ℕ → ℕ → List Step → List (List ℕ)
 requestsOf entryMax listMax pcmd front a h ss = map (requestBytes pcmd front a h) (batchesOf entryMax listMax h ss)
+
+-- ---- batches: the one instance
+
+-- maximum size of an entry's PData
+abbrev pub entryLimit : ℕ
+entryLimit = 50
+
+-- maximum size of a list, its closing zero included: it is the PData of its request
+abbrev pub listLimit : ℕ
+listLimit = pdataMax
 
 -- the batch requests of a scene for address a and profile h
 abbrev pub sceneRequests : ℕ → ℕ → List Step → List (List ℕ)

@@ -12,7 +12,7 @@ use Rattle.book.specs.Book.{stepsMax}
 use Rattle.book.specs.Entry.{groupData}
 use Rattle.book.specs.Join.{entriesOf}
 use Rattle.scene.specs.declared.fill.SizeLimits.{SizeLimits}
-use Rattle.scene.specs.Compile.{requestWith, batchesOf, entrySize, emptyList}
+use Rattle.scene.specs.Compile.{requestWith, batchesOf, entrySize, emptyListSize}
 
 -- the requests of steps within these limits, with this header and these bytes in front of each list
 abbrev pub requestsWith : SizeLimits → Frame → List ℕ → List Step → List (List ℕ)
@@ -26,24 +26,30 @@ fitsList listMax size pdata = leb (size + entrySize pdata) listMax
 
 -- size of the list that the entry goes into: the open list, or a new one
 unfoldable pub nextSize : ℕ → ℕ → ℕ → ℕ
-nextSize listMax size pdata = cond (fitsList listMax size pdata) (size + entrySize pdata) (emptyList + entrySize pdata)
+nextSize listMax size pdata = cond (fitsList listMax size pdata) (size + entrySize pdata) (emptyListSize + entrySize pdata)
 
 -- bytes written before the entry: none, or the open list's closing zero and the prefix of the next request
 unfoldable pub separatorBytes : ℕ → List ℕ → ℕ → ℕ → List ℕ
 separatorBytes listMax prefix size pdata = cond (fitsList listMax size pdata) [] (closingZero ∷ prefix)
 
 -- the length byte of the open list's request if the entry does not fit, where a request has `prefix` bytes before its list
-unfoldable pub separatorLength : ℕ → ℕ → ℕ → ℕ → List ℕ
-separatorLength listMax prefix size pdata = cond (fitsList listMax size pdata) [] ((size + prefix) ∷ [])
+unfoldable pub lengthByteIfFull : ℕ → ℕ → ℕ → ℕ → List ℕ
+lengthByteIfFull listMax prefix size pdata = cond (fitsList listMax size pdata) [] ((size + prefix) ∷ [])
 
 -- ---- spans: what the first pass keeps about each entry for the second, its number of steps and the size of its PData
+
+-- size of a span
+abbrev pub spanLength : ℕ
+spanLength = 2
+
+-- the spans of the entries of these groups
 abbrev pub spanBytes : List (List Step) → List ℕ
 spanBytes [] = []
 spanBytes (group ∷ groups) = length group ∷ length (groupData group) ∷ spanBytes groups
 
--- room for the spans of a scene: two bytes for each step
+-- room for the spans of a scene: it has no more entries than steps
 abbrev pub maxSpanBytes : ℕ
-maxSpanBytes = 2 * stepsMax
+maxSpanBytes = spanLength * stepsMax
 
 -- the bytes start with the spans of these steps' entries
 pub record StartsWithSpans (entryMax : ℕ) (ss : List Step) (bytes : List ℕ) : Type 0 where

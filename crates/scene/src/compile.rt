@@ -37,6 +37,7 @@ pub struct CompileAnswer {
     pub length: usize,
 }
 
+// A refusal: nothing was written.
 fn refused(refusal: u8, step: u8) -> CompileAnswer
     ensures { λ r. ⌜ r ≡ record { refusal = refusal; step = step; length = 0 } ⌝ }
 {
@@ -47,6 +48,7 @@ fn refused(refusal: u8, step: u8) -> CompileAnswer
     }
 }
 
+// Whether a scene can be compiled for this address: a node's, or the broadcast address.
 fn address_ok(address: u16) -> bool
     ensures { λ r. ⌜ r ≡ addressOk address ⌝ }
 {
@@ -59,7 +61,7 @@ fn address_ok(address: u16) -> bool
     address <= LAST_ADDRESS
 }
 
-// Compiles the steps of a scene.
+// Compiles the steps of a scene. A bad step is refused before an output buffer that is too small.
 fn compile_steps(
     body: &[u8],
     count: usize,

@@ -13,7 +13,7 @@ ghost use Rattle.book.specs.Book.{stepsMax, stepLength, stepsIn};
 ghost use Rattle.book.specs.Writing.{AllStepsGood};
 ghost use Rattle.scene.specs.Compile.{Limits};
 ghost use Rattle.scene.specs.Call.{lengths};
-ghost use Rattle.scene.specs.Fill.{requestsWith, nextSize, separatorLength, maxSpanBytes, StartsWithSpans};
+ghost use Rattle.scene.specs.Fill.{requestsWith, nextSize, lengthByteIfFull, maxSpanBytes, StartsWithSpans};
 
 // Maximum size of an entry's PData, and of a list with its closing zero.
 pub struct SizeLimits {
@@ -22,7 +22,7 @@ pub struct SizeLimits {
 }
 
 // Size of a list without entries: its closing zero.
-pub const EMPTY_LIST: usize = 1;
+pub const EMPTY_LIST_SIZE: usize = 1;
 
 // The list that the next entry goes into: where its next byte is written, and its size with the closing zero.
 pub struct OpenList {
@@ -30,11 +30,11 @@ pub struct OpenList {
     pub size: usize,
 }
 
-// Bytes of a span: an entry's number of steps, and the size of its PData.
-pub const SPAN: usize = 2;
+// Size of a span: an entry's number of steps, and the size of its PData.
+pub const SPAN_LENGTH: usize = 2;
 
 // Room for the spans of a scene: it has no more entries than steps.
-pub const MAX_SPAN_BYTES: usize = SPAN * STEPS_MAX;
+pub const MAX_SPAN_BYTES: usize = SPAN_LENGTH * STEPS_MAX;
 
 // Writes the length byte of the open list's request if an entry with `pdata` bytes of PData does not fit the list.
 // A request has `prefix` bytes before its list.
@@ -46,9 +46,9 @@ fn next_length(
     out: &mut [u8],
     at: usize,
 ) -> OpenList
-    requires { ⌜ (size ≤ limit) × (pdata ≤ pdataMax) × (prefix + limit ≤ longestFrame) × (at + length (separatorLength limit prefix size pdata) ≤ length (now out)) ⌝ }
-    ensures { λ r. ⌜ (r .at ≡ at + length (separatorLength limit prefix size pdata)) × (r .size ≡ nextSize limit size pdata)
-        × (now (out .exit) ≡ sets (now (out .entry)) at (separatorLength limit prefix size pdata)) ⌝ }
+    requires { ⌜ (size ≤ limit) × (pdata ≤ pdataMax) × (prefix + limit ≤ longestFrame) × (at + length (lengthByteIfFull limit prefix size pdata) ≤ length (now out)) ⌝ }
+    ensures { λ r. ⌜ (r .at ≡ at + length (lengthByteIfFull limit prefix size pdata)) × (r .size ≡ nextSize limit size pdata)
+        × (now (out .exit) ≡ sets (now (out .entry)) at (lengthByteIfFull limit prefix size pdata)) ⌝ }
 {
     let entry = HEAD + pdata;
     if size + entry <= limit {
@@ -60,11 +60,12 @@ fn next_length(
     out[at] = (size + prefix) as u8;
     OpenList {
         at: at + 1,
-        size: EMPTY_LIST + entry,
+        size: EMPTY_LIST_SIZE + entry,
     }
 }
 
 // Writes one length byte for each request, and the span of each entry, so that the second pass need not join the steps again.
+// Returns the position after the length bytes.
 pub fn write_lengths(
     body: &[u8],
     count: usize,
@@ -86,14 +87,14 @@ pub fn write_lengths(
     }
     let prefix = Frame::HEADER + front.len();
     let mut step: usize = 0;
-    let mut size = EMPTY_LIST;
+    let mut size = EMPTY_LIST_SIZE;
     let mut end = at;
     let mut index: usize = 0;
     while step < count {
         let span = entry_from(body, count, step, limits.entry);
         spans[index] = span.steps as u8;
         spans[index + 1] = span.size as u8;
-        index = index + SPAN;
+        index = index + SPAN_LENGTH;
         let list = next_length(limits.list, prefix, size, span.size, out, end);
         size = list.size;
         end = list.at;

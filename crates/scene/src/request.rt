@@ -1,8 +1,8 @@
 // The second pass: writes the requests of a scene after their length bytes.
-use crate::fill::EMPTY_LIST;
+use crate::fill::EMPTY_LIST_SIZE;
 use crate::fill::MAX_SPAN_BYTES;
 use crate::fill::OpenList;
-use crate::fill::SPAN;
+use crate::fill::SPAN_LENGTH;
 use crate::fill::SizeLimits;
 use crate::fill::write_lengths;
 use batch::entry::CLOSING_ZERO;
@@ -24,7 +24,7 @@ ghost use Rattle.scene.specs.Compile.{Limits};
 ghost use Rattle.scene.specs.Call.{output, minOutput};
 ghost use Rattle.scene.specs.Fill.{requestsWith, nextSize, separatorBytes, StartsWithSpans};
 
-// Writes what a request starts with: its header, and the bytes in front of its list.
+// Writes what a request starts with: its header, and the bytes in front of its list. Returns the position after them.
 fn write_prefix(header: Frame, front: &[u8], out: &mut [u8], at: usize) -> usize
     requires { ⌜ at + length (headerBytes header ++ now front) ≤ length (now out) ⌝ }
     ensures { λ r. ⌜ (r ≡ at + length (headerBytes header ++ now (front .entry)))
@@ -62,11 +62,11 @@ fn next_list(
     let end = write_prefix(header, front, out, at + 1);
     OpenList {
         at: end,
-        size: EMPTY_LIST + entry,
+        size: EMPTY_LIST_SIZE + entry,
     }
 }
 
-// Writes the requests one after another, with the entries that the spans give.
+// Writes the requests one after another, with the entries that the spans give; returns the position after them.
 fn write_requests(
     body: &[u8],
     count: usize,
@@ -87,13 +87,13 @@ fn write_requests(
         return at;
     }
     let mut end = write_prefix(header, front, out, at);
-    let mut size = EMPTY_LIST;
+    let mut size = EMPTY_LIST_SIZE;
     let mut step: usize = 0;
     let mut index: usize = 0;
     while step < count {
         let steps = wide(spans[index]);
         let pdata = wide(spans[index + 1]);
-        index = index + SPAN;
+        index = index + SPAN_LENGTH;
         let list = next_list(limits.list, header, front, size, pdata, out, end);
         size = list.size;
         end = write_entry_at(body, step, steps, header.hwpid, pdata, out, list.at);

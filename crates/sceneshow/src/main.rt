@@ -1,23 +1,23 @@
 // Reads a scene book from standard input, runs scene 0 on a fresh node and prints its lamps.
 use acceptance::run::run_scene;
+use book::locations::LOCATION_LENGTH;
+use book::locations::SCENES_MAX;
+use book::step::STEP_LENGTH;
+use book::step::STEPS_MAX;
 use dpa::refusal;
 use dpa::settings::Settings;
+use dpa::sizes::EEPROM_SIZE;
+use dpa::sizes::EXTERNAL_SIZE;
 use libc::STDIN_FILENO;
 use libc::STDOUT_FILENO;
 use lights::lamp::Lamp;
 use node::levels::actual_levels;
 use node::record::Node;
 use node::start::start;
+use scene::compile::MIN_OUTPUT;
 
-// The longest book: a count, and for each of 16 scenes a location of 3 bytes and 64 steps of 4 bytes.
-const LONGEST_BOOK: usize = 1 + 16 * (3 + 64 * 4);
-
-const EEPROM: usize = 192;
-
-const EXTERNAL: usize = 16384;
-
-// Room for the longest compiled scene.
-const OUTPUT: usize = 4096;
+// The longest book: the number of scenes, and for each scene its location and its steps.
+const LONGEST_BOOK: usize = 1 + SCENES_MAX * (LOCATION_LENGTH + STEPS_MAX * STEP_LENGTH);
 
 fn print(s: &[u8]) {
     io::write_all(STDOUT_FILENO, s);
@@ -48,7 +48,7 @@ fn print_lamps(node: Node) {
     print_lamp(2, node.lamps[2], actual.levels[2]);
 }
 
-// The node has address 1, three lamps and step 1; its memories are zeros.
+// Runs scene 0 and prints the lamps. The node has address 1, three lamps and dimming step 1; its memories are zeros.
 fn run_book(book: &[u8]) {
     let settings = Settings {
         address: 1,
@@ -58,9 +58,9 @@ fn run_book(book: &[u8]) {
         step: 1,
     };
     let started = start(settings);
-    let mut eeprom = [0u8; EEPROM];
-    let mut external = [0u8; EXTERNAL];
-    let mut out = [0u8; OUTPUT];
+    let mut eeprom = [0u8; EEPROM_SIZE];
+    let mut external = [0u8; EXTERNAL_SIZE];
+    let mut out = [0u8; MIN_OUTPUT];
     let answer = run_scene(started.node, book, 0, &mut eeprom, &mut external, &mut out);
     if answer.refusal != refusal::NONE {
         print_refusal(answer.refusal);
@@ -69,6 +69,7 @@ fn run_book(book: &[u8]) {
     print_lamps(answer.node);
 }
 
+// A longer input is read by one byte more than a book can have, and refused.
 fn main() {
     let mut book = [0u8; LONGEST_BOOK + 1];
     let n = io::read_full(STDIN_FILENO, &mut book);

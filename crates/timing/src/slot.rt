@@ -40,11 +40,11 @@ pub struct SendAnswer {
     pub milliseconds: u32,
 }
 
-fn send_answer(number: u8, milliseconds: u32) -> SendAnswer
-    ensures { λ r. ⌜ r ≡ sendAnswer number milliseconds ⌝ }
+fn send_answer(refusal: u8, milliseconds: u32) -> SendAnswer
+    ensures { λ r. ⌜ r ≡ sendAnswer refusal milliseconds ⌝ }
 {
     SendAnswer {
-        refusal: number,
+        refusal,
         milliseconds,
     }
 }

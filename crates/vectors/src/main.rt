@@ -3,6 +3,8 @@ use dpa::frame::Frame;
 use dpa::number::wide;
 use dpa::pnum;
 use dpa::settings::Settings;
+use dpa::sizes::EEPROM_SIZE;
+use dpa::sizes::EXTERNAL_SIZE;
 use handler::request::handle_request;
 use libc::STDOUT_FILENO;
 use lights::lamp::Lamp;
@@ -13,10 +15,6 @@ use node::start::start;
 use timing::confirm::confirm;
 use timing::slot::Network;
 use timing::slot::earliest_send;
-
-const EEPROM_SIZE: usize = 192;
-
-const EXTERNAL_SIZE: usize = 16384;
 
 fn print_text(s: &[u8]) {
     io::write_all(STDOUT_FILENO, s);

@@ -34,6 +34,14 @@ module _ (t : ℕ) where
   abbrev start : handle-all-lts.After-wide (calls t) (handle-all-at t) handle-all.Post → handle-all-lts.Start (calls t) (handle-all-at t) handle-all.Post
   start w = w .before .before .before .before .before .before .before
 
+  -- where that byte is read, from where the later requests are passed on
+  abbrev read : handle-all-lts.After-handle-all-arg (calls t) (handle-all-at t) handle-all.Post → handle-all-lts.After-wide (calls t) (handle-all-at t) handle-all.Post
+  read c = c .before .before .before .before .before .before .before .before .before
+
+  -- the first call, from where the others are done
+  abbrev one : handle-all-lts.After-handle-all (calls t) (handle-all-at t) handle-all.Post → handle-all-lts.After-handle-one (calls t) (handle-all-at t) handle-all.Post
+  one r = r .before .before .before .before .before .before .before .before .before
+
   -- the bytes hold the first request
   covered : (w : handle-all-lts.After-wide (calls t) (handle-all-at t) handle-all.Post) → w .wide .result ≤ length (start w .args .requests .now)
   covered w = first-covered (start w .args .lengths .now) (start w .args .requests .now) (w .before .before .if1 .left) (w .wide .ensures .0) (start w .pre .1)
@@ -47,17 +55,13 @@ module _ (t : ℕ) where
   slice-aggregate-handle-one c = sym (length-take-le (c .before .wide .result) _ (covered (c .before)))
 
   sub-handle-all-2 : handle-all-lts.Need-sub-handle-all-2 (calls t) (handle-all-at t) handle-all.Post
-  sub-handle-all-2 c = covered (c .before .before .before .before .before .before .before .before .before)
+  sub-handle-all-2 c = covered (read c)
 
   handle-all-requires : handle-all-lts.Need-handle-all-requires (calls t) (handle-all-at t) handle-all.Post
   handle-all-requires c κs =
-      let w = c .before .before .before .before .before .before .before .before .before .before .before .before in
+      let w = read (c .before .before .before) in
       let a = start w .args in
       (simp (length-take, length-drop) (omega arith), rest-covered (a .lengths .now) (a .requests .now) (w .before .before .if1 .left) (w .wide .ensures .0) (start w .pre .1))
-
-  -- the first call, from where the others are done
-  abbrev one : handle-all-lts.After-handle-all (calls t) (handle-all-at t) handle-all.Post → handle-all-lts.After-handle-one (calls t) (handle-all-at t) handle-all.Post
-  one r = r .before .before .before .before .before .before .before .before .before
 
   same-length : handle-all-lts.Need-same-length (calls t) (handle-all-at t) handle-all.Post
   same-length c = let r = c .before .before .before .before in r .handle-all .kept .1 .1 .1 .0 ∙ one r .handle-one .kept .1 .1 .0
@@ -78,5 +82,5 @@ pub +handle-all-spec : {M : Type 1} → statement M
     handle-all.Post (returns t) (λ c. search needs) (λ c κs. tt)
     (slice-aggregate-handle-one t) (λ c κs. tt) (λ c. search needs)
     (λ c. search needs) (λ c. search needs) (sub-handle-all-2 t)
-    (λ c. covered t (c .before .before .before .before .before .before .before .before .before)) (λ c. search needs) (handle-all-requires t)
+    (λ c. covered t (read t c)) (λ c. search needs) (handle-all-requires t)
     (same-length t) (same-length-2 t) (returns-2 t)

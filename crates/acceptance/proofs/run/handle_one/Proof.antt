@@ -5,8 +5,12 @@ use Rattle.handler.specs.Request.{CallResult}
 use Rattle.acceptance.proofs.run.handle_one.Statement.{statement}
 use Rattle.acceptance.proofs.run.handle_one.Tie as tie
 
+-- the call of `handle_request`, from the return
+abbrev call : tie.After-result → tie.After-handle-request
+call c = c .before .before .before .before .before .before
+
 returns : tie.Need-returns
-returns c = ap (λ (r : CallResult). r .after) (c .before .before .before .before .before .before .handle-request .ensures)
+returns c = ap (λ (r : CallResult). r .after) (call c .handle-request .ensures)
 
 pub handle-one-spec : {M : Type 1} → statement M
 handle-one-spec =

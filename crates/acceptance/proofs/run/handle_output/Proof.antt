@@ -4,7 +4,7 @@ use mathlib.Core.Path.{ap, _∙_}
 use mathlib.Core.List.{List}
 use Prim.Native.Nat.{ℕ}
 use Rattle.handler.specs.Request.{state}
-use Rattle.acceptance.specs.Condition3.{afterCalls}
+use Rattle.acceptance.specs.SceneTheorem.{afterCalls}
 use Rattle.acceptance.specs.RunScene.{zeroBuffer}
 use Rattle.acceptance.proofs.OutputRequests.{parts-covered, parts-requests}
 use Rattle.acceptance.proofs.run.handle_output.Statement.{statement}
@@ -21,9 +21,10 @@ handle-all-requires c κs =
 
 returns : tie.Need-returns
 returns c =
-    let w = c .before .before .before .before .before .before .before .before .before in
+    let call = c .before .before .before .before in
+    let w = call .before .before .before .before .before in
     let a = start w .args in
-    c .before .before .before .before .handle-all .ensures
+    call .handle-all .ensures
     ∙ ap (λ (rs : List (List ℕ)). afterCalls (λ _. zeroBuffer) rs (state (a .node) (a .eeprom .now) (a .external .now))) (parts-requests (a .output .now) (w .wide .ensures .0))
 
 pub handle-output-spec : {M : Type 1} → statement M

@@ -18,16 +18,26 @@ use Rattle.acceptance.proofs.run.run_scene.Tie as tie
 abbrev stateAt : tie.Start → State
 stateAt s = state (s .args .node) (s .args .eeprom .now) (s .args .external .now)
 
+-- the start, from where the node is tested, where EEPROM has its size, and where all tests are passed
+abbrev tested : tie.After-node-ok → tie.Start
+tested c = c .before .before .before .before .before
+
+abbrev eeprom-start : tie.Else2 → tie.Start
+eeprom-start c = tested (c .before .before .before)
+
+abbrev start : tie.Else3 → tie.Start
+start c = eeprom-start (c .before .before)
+
+-- the call of `compile`, from where it is not refused
+abbrev compile-call : tie.Else4 → tie.After-compile
+compile-call c = c .before .before .before .before
+
 -- what the tests on the way have shown
-node-sound : (c : tie.Else1) → nodeOk (c .before .before .before .before .before .before .args .node) ≡ true
+node-sound : (c : tie.Else1) → nodeOk (tested (c .before) .args .node) ≡ true
 node-sound c = sym (c .before .node-ok .ensures) ∙ not-false _ (c .if1 .left)
 
-eeprom-size : (c : tie.Else2) → length (c .before .before .before .before .before .before .before .before .args .eeprom .now) ≡ sizeOf Eeprom
+eeprom-size : (c : tie.Else2) → length (eeprom-start c .args .eeprom .now) ≡ sizeOf Eeprom
 eeprom-size c = c .if2 .left ∙ c .before .size-of .ensures .0
-
--- the start, from where all tests are passed
-abbrev start : tie.Else3 → tie.Start
-start c = c .before .before .before .before .before .before .before .before .before .before
 
 sound : (c : tie.Else3) → SoundState (stateAt (start c))
 sound c =
@@ -43,14 +53,14 @@ compiled k = record { sound = sound (k .before .before .before); result-is = k .
 
 returns : tie.Need-returns
 returns c =
-    let s = c .before .before .before .before .before .before .before in
+    let s = tested (c .before .before) in
     let a = s .args in
     ap (λ (r : SceneAnswer). sceneResult r (a .eeprom .now) (a .external .now) (a .out .now)) (c .answer .ensures)
     ∙ run-unsound (a .book .now) (a .scene) (stateAt s) (a .out .now) (sym (c .before .before .node-ok .ensures) ∙ not-true _ (c .before .if1 .taken))
 
 returns-2 : tie.Need-returns-2
 returns-2 c =
-    let s = c .before .before .before .before .before .before .before .before .before in
+    let s = tested (c .before .before .before .before) in
     let a = s .args in
     ap (λ (r : SceneAnswer). sceneResult r (a .eeprom .now) (a .external .now) (a .out .now)) (c .answer2 .ensures)
     ∙ run-eeprom (a .book .now) (a .scene) (stateAt s) (a .out .now) (node-sound (c .before .before .before))
@@ -58,7 +68,7 @@ returns-2 c =
 
 returns-3 : tie.Need-returns-3
 returns-3 c =
-    let s = c .before .before .before .before .before .before .before .before .before .before .before in
+    let s = eeprom-start (c .before .before .before) in
     let a = s .args in
     ap (λ (r : SceneAnswer). sceneResult r (a .eeprom .now) (a .external .now) (a .out .now)) (c .answer3 .ensures)
     ∙ run-external (a .book .now) (a .scene) (stateAt s) (a .out .now) (node-sound (c .before .before .before .before .before)) (eeprom-size (c .before .before .before))
@@ -72,14 +82,17 @@ returns-4 c =
     ∙ run-refused (compiled k) (c .before .if4 .taken)
 
 handle-output-requires : tie.Need-handle-output-requires
-handle-output-requires c κs = run-complete (compiled (c .before .before .before .before .before .before .before)) (c .before .before .before .if4 .left)
+handle-output-requires c κs =
+    let e = c .before .before .before in
+    run-complete (compiled (compile-call e)) (e .if4 .left)
 
 returns-5 : tie.Need-returns-5
 returns-5 c =
     let o = c .before .before .before .before .before in
-    let k = o .before .before .before .before .before .before .before .before in
+    let e = o .before .before .before .before in
+    let k = compile-call e in
     ap (λ (r : SceneAnswer). sceneResult r (o .handle-output .last .1 .1 .0) (o .handle-output .last .1 .1 .1 .0) (k .compile .last .1 .1 .1 .1 .0)) (c .answer5 .ensures)
-    ∙ run-done (compiled k) (o .before .before .before .before .if4 .left) _ (o .handle-output .ensures)
+    ∙ run-done (compiled k) (e .if4 .left) _ (o .handle-output .ensures)
 
 pub run-scene-spec : {M : Type 1} → statement M
 run-scene-spec =

@@ -2,6 +2,8 @@
 use borrow.Author.Needs.{needs}
 use native.Mathlib.Omega.{arith}
 use mathlib.Core.Path.{sym}
+use mathlib.Core.List.{List}
+use Prim.Native.Nat.{ℕ}
 use Rattle.batch.proofs.Entries.{next-unclosed, next-trailing, next-short, next-past-end, next-complete}
 use Rattle.batch.proofs.entry.next_entry.Statement.{statement}
 use Rattle.batch.proofs.entry.next_entry.Tie as tie
@@ -18,10 +20,12 @@ returns-3 c = sym (next-short _ (omega arith) (omega arith) (omega arith))
 returns-4 : tie.Need-returns-4
 returns-4 c = sym (next-past-end _ (omega arith) (omega arith) (omega arith))
 
+-- the bytes, from the last call
+abbrev bytes : tie.After-word-of → List ℕ
+bytes c = c .before .before .before .before .before .before .before .before .before .before .before .before .before .args .s .now
+
 returns-5 : tie.Need-returns-5
-returns-5 c =
-    let s = c .before .before .before .before .before .before .before .before .before .before .before .before .before .args .s .now in
-    cc (next-complete s (omega arith) (omega arith))
+returns-5 c = cc (next-complete (bytes c) (omega arith) (omega arith))
 
 pub next-entry-spec : {M : Type 1} → statement M
 next-entry-spec =

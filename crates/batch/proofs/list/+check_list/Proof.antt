@@ -39,7 +39,11 @@ calls t = (at-end-reads.Asked, at-end-reads.Learnt, next-entry-reads.Asked, next
 abbrev AfterFirst : ℕ → Type 0
 AfterFirst t = check-list-lts.After-first (calls t) (check-list-at t) check-list.Post
 
--- the list, at that place
+-- that place, from the one where the rest of the list was found broken
+abbrev at-first : (t : ℕ) → check-list-lts.After-known-told2 (calls t) (check-list-at t) check-list.Post → AfterFirst t
+at-first t c = c .before .before .before .before .before .before
+
+-- the list, after its first entry was read
 abbrev list : (t : ℕ) → AfterFirst t → List ℕ
 list t c = c .before .before .before .before .before .before .args .rest .now
 
@@ -75,7 +79,7 @@ check-list-returns-3 t c =
 
 check-list-add-t9 : (t : ℕ) → check-list-lts.Need-add-t9 (calls t) (check-list-at t) check-list.Post
 check-list-add-t9 t c =
-    let f = c .before .before .before .before .before .before in
+    let f = at-first t c in
     let s = list t f in
     let l = f .first .given .0 .0 in
     let b = position-max (broken-fault (slice s l (length s - l)) (sym (c .before .before .before .check-list .ensures) ∙ c .before .after .given .1)) in
@@ -85,7 +89,7 @@ check-list-add-t9 t c =
 
 check-list-returns-4 : (t : ℕ) → check-list-lts.Need-returns-4 (calls t) (check-list-at t) check-list.Post
 check-list-returns-4 t c =
-    let f = c .before .before .before .before .before .before in
+    let f = at-first t c in
     ap (shiftFault (f .first .given .0 .0)) (sym (c .before .after .given .1))
     ∙ check-entry _ (first-entry-is t f) (c .before .before .before .check-list .ensures)
 

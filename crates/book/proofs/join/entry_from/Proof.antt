@@ -1,4 +1,4 @@
--- The bytes from step `done` on hold the steps from it on.
+-- The bytes from step `first` on hold the steps from it on.
 use native.Mathlib.Omega.{arith}
 use borrow.Author.Needs.{needs}
 use Rattle.book.proofs.FirstEntry.{first-entry-from}
@@ -8,7 +8,7 @@ use Rattle.book.proofs.join.entry_from.Tie as tie
 returns : tie.Need-returns
 returns c =
     let a = c .before .before .before .args in
-    first-entry-from (a .limit) (a .count) (a .done) (a .body .now) _ _ (omega arith) (c .first-entry .ensures)
+    first-entry-from (a .limit) (a .count) (a .first) (a .body .now) _ _ (omega arith) (c .first-entry .ensures)
 
 pub entry-from-spec : {M : Type 1} → statement M
 entry-from-spec =

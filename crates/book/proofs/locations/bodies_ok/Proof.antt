@@ -35,9 +35,6 @@ returns-2 c =
     let l = d .before .before .loop in
     sym (l .inv .2 ∙ chained-too-long _ (l .i) (l .start) _ _ (below d) (d .scene-location .ensures .0) (c .before .before .if1 .left) (c .if2 .taken))
 
-mul-start-2 : tie.Need-mul-start-2 Inv-loop μ-loop
-mul-start-2 c = omega (arith, c .before .if2 .left)
-
 add-start-2 : tie.Need-add-start-2 Inv-loop μ-loop
 add-start-2 c =
     let d = c .before .before .before .before .before in
@@ -61,4 +58,4 @@ returns-3 c =
 pub bodies-ok-spec : {M : Type 1} → statement M
 bodies-ok-spec =
     tie.close (tie.spec Inv-loop μ-loop (λ c. omega arith) (λ c. omega arith) loop-holds (λ c κs. omega arith) returns
-    returns-2 mul-start-2 add-start-2 (λ c. omega arith) (λ c. omega arith) loop-again returns-3)
+    returns-2 (λ c. omega (arith, c .before .if2 .left)) add-start-2 (λ c. omega arith) (λ c. omega arith) loop-again returns-3)

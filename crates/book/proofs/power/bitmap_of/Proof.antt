@@ -19,9 +19,6 @@ power-of-two-requires : tie.Need-power-of-two-requires Inv-loop μ-loop
 power-of-two-requires c κs =
     rw (c .step-at .ensures) (c .before .before .before .before .pre .2 (c .before .before .loop .i) (c .before .loop-test .taken) .1)
 
-add-bitmap : tie.Need-add-bitmap Inv-loop μ-loop
-add-bitmap c = omega (arith, c .before .before .before .loop .inv .2, c .power-of-two .ensures .1)
-
 loop-again : tie.Need-loop-again Inv-loop μ-loop
 loop-again c =
     bitmap-next _ _ _ _ (c .before .step-at .result) _ (c .before .before .before .loop .inv) (c .before .before .loop-test .taken)
@@ -32,5 +29,5 @@ returns c = bitmap-all _ _ _ _ (c .before .loop .inv) (c .loop-test .left)
 
 pub bitmap-of-spec : {M : Type 1} → statement M
 bitmap-of-spec =
-    tie.close (tie.spec Inv-loop μ-loop loop-holds (λ c κs. omega arith) power-of-two-requires add-bitmap
-    (λ c. omega arith) (λ c. omega arith) loop-again returns)
+    tie.close (tie.spec Inv-loop μ-loop loop-holds (λ c κs. omega arith) power-of-two-requires
+    (λ c. omega (arith, c .before .before .before .loop .inv .2, c .power-of-two .ensures .1)) (λ c. omega arith) (λ c. omega arith) loop-again returns)

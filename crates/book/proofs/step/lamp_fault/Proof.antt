@@ -1,6 +1,8 @@
 -- Each return decides one test of `lampFault`.
 use borrow.Author.Tests.{lt-ltb, le-ltb, le-leb, lt-leb, eq-eqb, ne-eqb}
+use mathlib.Core.Path.{sym, _∙_}
 use Rattle.book.specs.Step.{lampFault, stepTimeOk}
+use borrow.Author.Needs.{needs}
 use Rattle.book.proofs.step.lamp_fault.Statement.{statement}
 use Rattle.book.proofs.step.lamp_fault.Tie as tie
 
@@ -20,13 +22,13 @@ returns-4 : tie.Need-returns-4
 unfolding lampFault stepTimeOk
 returns-4 c =
     let d = c .before .before in
-    simp (lt-leb _ _ (d .before .before .before .before .if1 .left), le-ltb _ _ (d .before .before .if2 .left), ne-eqb _ _ (d .if3 .left), eq-eqb _ _ (c .if4 .taken))
+    simp (lt-leb _ _ (d .before .before .before .before .if1 .left), le-ltb _ _ (d .before .before .if2 .left), ne-eqb _ _ (d .if3 .left), sym (c .before .time-ok .ensures) ∙ c .if4 .taken)
 
 returns-5 : tie.Need-returns-5
 unfolding lampFault stepTimeOk
 returns-5 c =
     let d = c .before .before in
-    simp (lt-leb _ _ (d .before .before .before .before .if1 .left), le-ltb _ _ (d .before .before .if2 .left), ne-eqb _ _ (d .if3 .left), ne-eqb _ _ (c .if4 .left))
+    simp (lt-leb _ _ (d .before .before .before .before .if1 .left), le-ltb _ _ (d .before .before .if2 .left), ne-eqb _ _ (d .if3 .left), sym (c .before .time-ok .ensures) ∙ c .if4 .left)
 
 pub lamp-fault-spec : {M : Type 1} → statement M
-lamp-fault-spec = tie.close (tie.spec returns returns-2 returns-3 returns-4 returns-5)
+lamp-fault-spec = tie.close (tie.spec returns returns-2 returns-3 (λ c κs. search needs) returns-4 returns-5)

@@ -8,14 +8,16 @@ use Rattle.checksum.proofs.sums.add_with_carry.Tie as tie
 
 returns : tie.Need-returns
 returns c =
-    let k = c .before .before in
+    let sum = c .before .before in
+    let a = sum .before .args in
     c .wrapping-add-u82 .ensures
-    ∙ sum-carried (k .before .args .a) (k .before .args .b) (k .wrapping-add-u8 .result) (omega arith) (omega arith) (k .wrapping-add-u8 .ensures) (c .before .if1 .taken)
+    ∙ sum-carried (a .a) (a .b) (sum .wrapping-add-u8 .result) (omega arith) (omega arith) (sum .wrapping-add-u8 .ensures) (c .before .if1 .taken)
 
 returns-2 : tie.Need-returns-2
 returns-2 c =
-    let k = c .before in
-    sum-uncarried (k .before .args .a) (k .before .args .b) (k .wrapping-add-u8 .result) (omega arith) (omega arith) (k .wrapping-add-u8 .ensures) (c .if1 .left)
+    let sum = c .before in
+    let a = sum .before .args in
+    sum-uncarried (a .a) (a .b) (sum .wrapping-add-u8 .result) (omega arith) (omega arith) (sum .wrapping-add-u8 .ensures) (c .if1 .left)
 
 pub add-with-carry-spec : {M : Type 1} → statement M
 add-with-carry-spec =

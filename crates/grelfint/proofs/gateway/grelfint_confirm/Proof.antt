@@ -6,11 +6,16 @@ use Rattle.timing.specs.Confirm.{confirmOf}
 use Rattle.grelfint.proofs.gateway.grelfint_confirm.Statement.{statement}
 use Rattle.grelfint.proofs.gateway.grelfint_confirm.Tie as tie
 
+-- the start of the function, from the call of `confirm`
+abbrev start : tie.After-confirm → tie.Start
+start c = c .before .before .before .before .before
+
 returns : tie.Need-returns
 returns c =
-    let a = c .before .before .before .before .before .before .before .args in
-    c .before .before .confirm .ensures
-    ∙ ap (λ (n : Network). confirmOf (a .frame .now) (a .dpa-value) (a .hops) (a .response-hops) n (a .out .now)) (c .before .before .before .before .network-of .ensures)
+    let confirmed = c .before .before in
+    let a = start confirmed .args in
+    confirmed .confirm .ensures
+    ∙ ap (λ (n : Network). confirmOf (a .frame .now) (a .dpa-value) (a .hops) (a .response-hops) n (a .out .now)) (confirmed .before .before .network-of .ensures)
 
 pub grelfint-confirm-spec : {M : Type 1} → statement M
 grelfint-confirm-spec =

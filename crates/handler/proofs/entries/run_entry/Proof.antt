@@ -7,9 +7,13 @@ use Rattle.handler.proofs.BatchEntries.{entry-match, entry-mismatch}
 use Rattle.handler.proofs.entries.run_entry.Statement.{statement}
 use Rattle.handler.proofs.entries.run_entry.Tie as tie
 
+-- the call of `peripheral`, from the return
+abbrev requested : tie.After-result → tie.After-peripheral
+requested c = c .before .before .before .before .before .before .before .before
+
 returns : tie.Need-returns
 returns c =
-    let call = c .before .before .before .before .before .before .before .before in
+    let call = requested c in
     let test = call .before .before .before .before .before in
     ap (λ (l : SeenReply State). l .after) (call .peripheral .ensures)
     ∙ sym (ap (λ (x : Reply State). x .after) (entry-match _ _ (sym (test .before .hwpid-matches .ensures) ∙ test .if1 .taken)))

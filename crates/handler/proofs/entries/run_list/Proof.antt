@@ -21,12 +21,19 @@ Inv-loop fixed lamps₀ list ram₀ eeprom₀ external₀ at₀ lamps ram eeprom
 abbrev μ-loop : tie.MeasureT-loop
 μ-loop fixed lamps₀ list ram₀ eeprom₀ external₀ at₀ lamps ram eeprom external at = length list - at
 
--- after an entry was read: the list, the position in it, and the length of the entry
+-- the loop, from where an entry or a fault was read
+abbrev at-loop : tie.After-next-entry Inv-loop μ-loop → tie.At-loop Inv-loop μ-loop
+at-loop c = c .before .before .before .before .before
+
+-- after an entry was read: the loop, the list, the position in it, and the length of the entry
+abbrev turn : tie.After-known-told Inv-loop μ-loop → tie.At-loop Inv-loop μ-loop
+turn c = at-loop (c .before .before .before)
+
 abbrev list : tie.After-known-told Inv-loop μ-loop → List ℕ
-list c = c .before .before .before .before .before .before .before .before .before .before .before .before .before .args .list .now
+list c = turn c .before .before .before .before .before .args .list .now
 
 abbrev position : tie.After-known-told Inv-loop μ-loop → ℕ
-position c = c .before .before .before .before .before .before .before .before .loop .at
+position c = turn c .loop .at
 
 abbrev len : tie.After-known-told Inv-loop μ-loop → ℕ
 len c = c .before .len .given .0 .0
@@ -37,31 +44,32 @@ first-entry-is : (c : tie.After-known-told Inv-loop μ-loop) →
     nextEntry (take (length (list c) - position c) (drop (position c) (list c))) ≡ Entry (g .0) (g .1 .0) (g .1 .1 .0) (g .1 .1 .1 .0)
 first-entry-is c = sym (c .before .before .before .next-entry .ensures) ∙ c .before .len .given .1
 
--- the place where it was read, from after it ran
+-- the place where it ran, from the end of a turn
+abbrev ran : tie.After-slice-known6 Inv-loop μ-loop → tie.After-run-entry Inv-loop μ-loop
+ran c = c .before .before .before .before .before .before
+
+-- the place where it was read, from where it ran
 abbrev read : tie.After-run-entry Inv-loop μ-loop → tie.After-known-told Inv-loop μ-loop
 read c = c .before .before .before .before .before
 
 -- it lies in the list
 sized : (c : tie.After-known-told Inv-loop μ-loop) → (entryHead ≤ len c) × (position c + len c ≤ length (list c))
-sized c = entry-in-list _ _ _ _ (c .before .before .before .before .before .before .before .before .loop .inv .0) (first-entry-is c)
+sized c = entry-in-list _ _ _ _ (turn c .loop .inv .0) (first-entry-is c)
 
 loop-holds : tie.Need-loop-holds Inv-loop μ-loop
 loop-holds c = (run-starts _ _ (c .before .before .before .before .pre), refl, refl, refl)
 
 returns : tie.Need-returns Inv-loop μ-loop
 returns c =
-    let i = c .before .before .before .before .before .before .before .loop .inv in
-    fault-ends _ _ _ _ (i .0) (sym (c .before .before .next-entry .ensures) ∙ c .enum-told .given .1)
+    fault-ends _ _ _ _ (at-loop (c .before .before) .loop .inv .0) (sym (c .before .before .next-entry .ensures) ∙ c .enum-told .given .1)
 
 run-entry-requires : tie.Need-run-entry-requires Inv-loop μ-loop
-run-entry-requires c κs =
-    let i = c .before .before .before .before .before .before .before .before .before .before .before .before .loop .inv in
-    i .0 .sound
+run-entry-requires c κs = turn (c .before .before .before .before) .loop .inv .0 .sound
 
 loop-again : tie.Need-loop-again Inv-loop μ-loop
 loop-again c =
-    let call = c .before .before .before .before .before .before in
-    let i = read call .before .before .before .before .before .before .before .before .loop .inv in (
+    let call = ran c in
+    let i = turn (read call) .loop .inv in (
       entry-runs _ _ _ _ (i .0) (first-entry-is (read call)) (call .run-entry .ensures),
       call .run-entry .kept .1 .1 .1 .1 .1 .1 .0 ∙ i .1,
       call .run-entry .kept .1 .1 .1 .1 .1 .1 .1 .0 ∙ i .2,
@@ -80,6 +88,5 @@ run-list-spec =
     (λ c κs. search needs) (λ c. search needs) (λ c. search needs) (λ c. search needs) (λ c. search needs)
     (λ c. search needs) returns (λ c. omega (arith, sized c)) (λ c. omega (arith, sized c))
     (λ c. omega (arith, sized c)) (λ c. omega (arith, sized c)) (λ c. omega (arith, sized c)) run-entry-requires
-    (λ c. omega (arith, sized (read (c .before .before .before .before .before .before))))
-    (λ c. omega (arith, sized (read (c .before .before .before .before .before .before)))) loop-again
+    (λ c. omega (arith, sized (read (ran c)))) (λ c. omega (arith, sized (read (ran c)))) loop-again
     (λ c. search needs) (λ c. search needs) (λ c. search needs) returns-2)

@@ -5,9 +5,13 @@ use Rattle.handler.proofs.Outcomes.{os-batch, os-check, os-unknown, out
 use Rattle.handler.proofs.os.os.Statement.{statement}
 use Rattle.handler.proofs.os.os.Tie as tie
 
+-- the call of `run_batch`, from the return
+abbrev ran : tie.After-slice-known7 → tie.After-run-batch
+ran c = c .before .before .before .before .before .before
+
 returns : tie.Need-returns
 returns c =
-    let run = c .before .before .before .before .before .before in
+    let run = ran c in
     run .run-batch .ensures _ ∙ in-buffer _ (os-batch _ _ _ (run .before .before .before .before .if1 .taken))
 
 returns-2 : tie.Need-returns-2

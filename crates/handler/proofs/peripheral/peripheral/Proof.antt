@@ -14,6 +14,10 @@ use Rattle.handler.proofs.Peripherals.{peripheral-lights, peripheral-un
 use Rattle.handler.proofs.peripheral.peripheral.Statement.{statement}
 use Rattle.handler.proofs.peripheral.peripheral.Tie as tie
 
+-- the start, from where the PNUM is neither EEPROM's nor that of external memory
+abbrev start : tie.Else2 → tie.Start
+start c = c .before .before .before .before .before .before .before
+
 returns : tie.Need-returns
 returns c =
     let call = c .before .before .before .before .before in
@@ -26,7 +30,7 @@ returns-2 c =
 
 request-requires-3 : tie.Need-request-requires-3
 request-requires-3 c κs =
-    let s = c .before .before .before .before .before .before .before .before .before .before in
+    let s = start (c .before .before .before) in
     (node-ram _ (s .pre .0 .node-ok), s .pre .1)
 
 returns-3 : tie.Need-returns-3
@@ -36,19 +40,19 @@ returns-3 c =
 
 request-requires-4 : tie.Need-request-requires-4
 request-requires-4 c κs =
-    let s = c .before .before .before .before .before .before .before .before .before .before in
+    let s = start (c .before .before .before) in
     (node-settings _ (s .pre .0 .node-ok), node-levels-in-range _ (s .pre .0 .node-ok), s .pre .1)
 
 returns-4 : tie.Need-returns-4
 returns-4 c =
     let call = c .before .before in
-    let a = call .before .before .before .before .before .before .before .before .before .before .before .args in
+    let a = start (call .before .before .before .before) .args in
     reply-mapped (λ (ls : List Lamp). stateFromParts (a .fixed) ls (a .ram .now) (a .eeprom .now) (a .external .now)) (lightsRequest (a .fixed .settings) (a .pcmd) (a .pdata .now) (a .lamps)) _ (call .request4 .ensures)
     ∙ ap (λ (x : Reply State). replyInBuffer x (a .out .now)) (sym (peripheral-lights _ _ _ _ (call .before .before .if4 .taken)))
 
 returns-5 : tie.Need-returns-5
 returns-5 c =
-    let o = c .before .before .before .before .before .before .before .before .before .args .out .now in
+    let o = start (c .before .before) .args .out .now in
     ap (λ (x : Reply State). replyInBuffer x o) (sym (peripheral-unknown _ _ _ _ (c .before .before .before .if1 .left) (c .before .before .if2 .left) (c .before .if3 .left) (c .if4 .left)))
 
 pub peripheral-spec : {M : Type 1} → statement M

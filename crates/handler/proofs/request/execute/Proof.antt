@@ -8,9 +8,20 @@ use Rattle.handler.proofs.Outcomes.{execute-mismatch, execute-os, execu
 use Rattle.handler.proofs.request.execute.Statement.{statement}
 use Rattle.handler.proofs.request.execute.Tie as tie
 
+-- the start, from where the HWPID is accepted
+abbrev start : tie.Else1 → tie.Start
+start c = c .before .before .before .before .before .before .before
+
+-- the two calls, from their returns
+abbrev os-call : tie.After-slice-known8 → tie.After-os
+os-call c = c .before .before .before .before .before .before .before .before
+
+abbrev peripheral-call : tie.After-peripheral-reply → tie.After-peripheral
+peripheral-call c = c .before .before .before .before .before .before .before .before .before
+
 -- after the test of the HWPID
 hwpid-ok : (c : tie.Else1) →
-    let a = c .before .before .before .before .before .before .before .args in
+    let a = start c .args in
     hwpidMatches (a .fixed .settings) (a .header .hwpid) ≡ true
 hwpid-ok c = sym (c .before .hwpid-matches .ensures) ∙ not-false _ (c .if1 .left)
 
@@ -21,15 +32,15 @@ returns c =
 
 returns-2 : tie.Need-returns-2
 returns-2 c =
-    let call = c .before .before .before .before .before .before .before .before in
+    let call = os-call c in
     let test = call .before .before .before .before .before in
     call .os .ensures ∙ in-buffer _ (execute-os _ _ (hwpid-ok (test .before .before)) (test .if2 .taken))
 
 returns-3 : tie.Need-returns-3
 returns-3 c =
-    let call = c .before .before .before .before .before .before .before .before .before in
+    let call = peripheral-call c in
     let test = call .before .before .before .before .before in
-    let o = test .before .before .before .before .before .before .before .before .before .args .out .now in
+    let o = start (test .before .before) .args .out .now in
     outcome-as (c .peripheral-reply .ensures)
     ∙ outcome-reply-only (peripheralRequest _ _ _ _) o (call .peripheral .ensures)
     ∙ in-buffer o (execute-peripheral _ _ (hwpid-ok (test .before .before)) (test .if2 .left))

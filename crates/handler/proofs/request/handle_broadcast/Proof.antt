@@ -6,10 +6,13 @@ use Rattle.handler.specs.Seen.{SeenOutcome}
 use Rattle.handler.proofs.request.handle_broadcast.Statement.{statement}
 use Rattle.handler.proofs.request.handle_broadcast.Tie as tie
 
+-- the call of `execute`, from the return
+abbrev call : tie.After-after → tie.After-execute
+call c = c .before .before .before .before .before .before .before .before .before
+
 returns : tie.Need-returns
 returns c = λ o.
-    let call = c .before .before .before .before .before .before .before .before .before in
-    ap (λ (l : SeenOutcome). record { after = l .after; refusal = 0; length = 0; report = l .report; addressed = true; response = o }) (call .execute .ensures)
+    ap (λ (l : SeenOutcome). record { after = l .after; refusal = 0; length = 0; report = l .report; addressed = true; response = o }) (call c .execute .ensures)
 
 pub handle-broadcast-spec : {M : Type 1} → statement M
 handle-broadcast-spec =

@@ -20,6 +20,27 @@ inParts c k = stateFromParts k (c .args .node .lamps) (c .args .node .ram) (c .a
 abbrev start : tie.After-read-only → tie.Start
 start c = c .before .before .before .before .before .before .before
 
+-- where the node was split, by the tests of the address: a broadcast, this node, another node
+abbrev parts-all : tie.Then1 → tie.After-read-only
+parts-all c = c .before .before .before .before
+
+abbrev parts-own : tie.Then2 → tie.After-read-only
+parts-own c = c .before .before .before .before .before .before .before
+
+abbrev parts-other : tie.Else2 → tie.After-read-only
+parts-other c = c .before .before .before .before .before .before .before
+
+-- where the header was read, from where the node was split
+abbrev header : tie.After-read-only → tie.After-read
+header c = c .before .before
+
+-- the two calls, from their returns
+abbrev broadcast : tie.After-answer-handled → tie.After-handle-broadcast
+broadcast c = c .before .before .before .before .before .before
+
+abbrev unicast : tie.After-answer-handled2 → tie.After-handle-unicast
+unicast c = c .before .before .before .before .before .before .before .before
+
 -- the address that was read is the frame's
 nadr-is : (c : tie.After-read) → c .read .result .nadr ≡ headerOf (c .before .before .before .before .before .args .frame .now) .nadr
 nadr-is c = ap (λ (h : Frame). h .nadr) (c .read .ensures)
@@ -29,53 +50,49 @@ parts-sound : (c : tie.After-read-only) → SoundState (inParts (start c) (c .re
 parts-sound c = subst (λ (k : ReadOnly). SoundState (inParts (start c) k)) (sym (c .read-only .ensures)) (start c .pre .0)
 
 handle-broadcast-requires : tie.Need-handle-broadcast-requires
-handle-broadcast-requires c κs = parts-sound (c .before .before .before .before .before .before .before)
+handle-broadcast-requires c κs = parts-sound (parts-all (c .before .before .before))
 
 returns : tie.Need-returns
 returns c =
-    let call = c .before .before .before .before .before .before in
+    let call = broadcast c in
     let test = call .before .before .before .before in
-    let parts = test .before .before .before .before in
-    let header = parts .before .before in
+    let parts = parts-all test in
     let s = start parts in
     let f = s .args .frame .now in
     let o = s .args .response .now in
     call-result-as (c .answer-handled .ensures)
     ∙ call .handle-broadcast .ensures o
-    ∙ ap (λ (i : Item). broadcastResult (execute i (inParts s (parts .read-only .result))) o) (frame-item-read f (header .read .ensures))
+    ∙ ap (λ (i : Item). broadcastResult (execute i (inParts s (parts .read-only .result))) o) (frame-item-read f (header parts .read .ensures))
     ∙ ap (λ (k : ReadOnly). broadcastResult (execute (frameItem f) (inParts s k)) o) (parts .read-only .ensures)
-    ∙ sym (frame-broadcast _ _ _ (sym (nadr-is header) ∙ test .if1 .taken))
+    ∙ sym (frame-broadcast _ _ _ (sym (nadr-is (header parts)) ∙ test .if1 .taken))
 
 slice-aggregate-handle-unicast : tie.Need-slice-aggregate-handle-unicast
-slice-aggregate-handle-unicast c =
-    let s = c .before .before .before .before .before .before .before .before .before .before .before .before .before .before .before in
-    sym (node-ram _ (s .pre .0 .node-ok))
+slice-aggregate-handle-unicast c = sym (node-ram _ (start (parts-own (c .before)) .pre .0 .node-ok))
 
 handle-unicast-requires : tie.Need-handle-unicast-requires
 handle-unicast-requires c κs =
-    let parts = c .before .before .before .before .before .before .before .before .before .before .before in
+    let parts = parts-own (c .before .before .before .before) in
     (parts-sound parts, start parts .pre .2)
 
 returns-2 : tie.Need-returns-2
 returns-2 c =
-    let call = c .before .before .before .before .before .before .before .before in
+    let call = unicast c in
     let test = call .before .before .before .before .before in
-    let parts = test .before .before .before .before .before .before .before in
-    let header = parts .before .before in
+    let parts = parts-own test in
     let s = start parts in
     let f = s .args .frame .now in
     let o = s .args .response .now in
     call-result-as (c .answer-handled2 .ensures)
     ∙ call .handle-unicast .ensures
-    ∙ ap (λ (i : Item). unicastResult (parts .read-only .result .settings) i (execute i (inParts s (parts .read-only .result))) o) (frame-item-read f (header .read .ensures))
+    ∙ ap (λ (i : Item). unicastResult (parts .read-only .result .settings) i (execute i (inParts s (parts .read-only .result))) o) (frame-item-read f (header parts .read .ensures))
     ∙ ap (λ (k : ReadOnly). unicastResult (k .settings) (frameItem f) (execute (frameItem f) (inParts s k)) o) (parts .read-only .ensures)
-    ∙ sym (frame-unicast _ _ _ (λ z. test .before .before .before .if1 .left (nadr-is header ∙ z)) (sym (nadr-is header) ∙ test .if2 .taken))
+    ∙ sym (frame-unicast _ _ _ (λ z. test .before .before .before .if1 .left (nadr-is (header parts) ∙ z)) (sym (nadr-is (header parts)) ∙ test .if2 .taken))
 
 returns-3 : tie.Need-returns-3
 returns-3 c =
-    let header = c .before .before .before .before .before .before .before .before .before .before in
+    let h = header (parts-other (c .before)) in
     call-result-as (c .answer-unhandled .ensures)
-    ∙ sym (frame-other _ _ _ (λ z. c .before .before .before .before .if1 .left (nadr-is header ∙ z)) (λ z. c .before .if2 .left (nadr-is header ∙ z)))
+    ∙ sym (frame-other _ _ _ (λ z. c .before .before .before .before .if1 .left (nadr-is h ∙ z)) (λ z. c .before .if2 .left (nadr-is h ∙ z)))
 
 pub handle-frame-spec : {M : Type 1} → statement M
 handle-frame-spec =

@@ -6,9 +6,17 @@ use Rattle.handler.proofs.Calls.{call-refused, call-accepted, not-refus
 use Rattle.handler.proofs.request.handle_request.Statement.{statement}
 use Rattle.handler.proofs.request.handle_request.Tie as tie
 
+-- the start, from where there is no refusal
+abbrev start : tie.Else1 → tie.Start
+start c = c .before .before .before .before .before .before
+
+-- the call of `handle_frame`, from the return
+abbrev call : tie.After-slice-known6 → tie.After-handle-frame
+call c = c .before .before .before .before .before .before
+
 -- after the test of the refusal: there is none
 not-refused : (c : tie.Else1) →
-    let a = c .before .before .before .before .before .before .args in
+    let a = start c .args in
     callRefusal (a .frame .now) (state (a .node) (a .eeprom .now) (a .external .now)) (a .response .now) ≡ 0
 not-refused c = sym (c .before .request-refusal .ensures) ∙ c .if1 .left
 
@@ -25,8 +33,8 @@ handle-frame-requires c κs =
 
 returns-2 : tie.Need-returns-2
 returns-2 c =
-    let call = c .before .before .before .before .before .before in
-    call .handle-frame .ensures ∙ sym (call-accepted _ _ _ (not-refused (call .before .before .before .before)))
+    let frame = call c in
+    frame .handle-frame .ensures ∙ sym (call-accepted _ _ _ (not-refused (frame .before .before .before .before)))
 
 pub handle-request-spec : {M : Type 1} → statement M
 handle-request-spec =

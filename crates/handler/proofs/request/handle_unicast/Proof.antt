@@ -23,9 +23,13 @@ asked c = headerItem (c .args .header) (c .args .pdata .now)
 abbrev start : tie.After-execute → tie.Start
 start c = c .before .before .before .before .before .before .before .before .before .before
 
+-- the call of `execute`, from after the header was written
+abbrev executed : tie.After-write-header → tie.After-execute
+executed c = c .before .before .before .before .before .before .before .before .before .before
+
 add-length : tie.Need-add-length
 add-length c =
-    let call = c .before .before .before .before .before .before .before .before .before .before .before .before .before .before in
+    let call = executed (c .before .before .before .before) in
     let s = start call in
     let n = ap (λ (l : SeenOutcome). l .length) (call .execute .ensures) in
     let z = execute-fits (asked s) (given s) (s .pre .0) in
@@ -34,7 +38,7 @@ add-length c =
 returns : tie.Need-returns
 returns c =
     let header = c .before .before .before .before .before in
-    let call = header .before .before .before .before .before .before .before .before .before .before in
+    let call = executed header in
     let s = start call in
     unicast-response (s .args .response .now) (call .execute .last .1 .1 .1 .1 .1 .1 .1 .0) (omega (arith, s .pre .1)) (s .args .fixed)
     (asked s) (execute (asked s) (given s)) (call .execute .ensures) (header .write-header .ensures)

@@ -38,9 +38,11 @@ valid-power-entry-at-requires c κs =
 abbrev loop : tie.Then2 Inv-loop μ-loop → tie.In-loop Inv-loop μ-loop
 loop c = c .before .before .before
 
+-- lamp i exists
 inside : (c : tie.In-loop Inv-loop μ-loop) → c .before .loop .i < maxLamps
 inside c = apply-inside (c .before .loop .inv) (c .loop-test .taken)
 
+-- out has room for its level
 free : (c : tie.In-loop Inv-loop μ-loop) → c .before .loop .written < length (c .before .loop .out)
 free c = apply-out-room (c .before .loop .inv) (c .loop-test .taken)
 
@@ -81,6 +83,7 @@ add-written c =
 add-i : tie.Need-add-i Inv-loop μ-loop
 add-i c = omega (arith, inside (c .before))
 
+-- the paths through the loop body: a selected lamp that is implemented, one that is not, a lamp that is not selected
 loop-again : tie.Need-loop-again Inv-loop μ-loop
 loop-again c =
     let t = c .before .loop-test .taken in

@@ -23,6 +23,7 @@ loop-holds c =
     let z : c .before .args .n - 0 ≡ c .before .args .n = omega arith in
     (omega arith, omega arith, rw z)
 
+-- the start of the function, from the loop body
 abbrev start : tie.In-loop Inv-loop μ-loop → tie.Start Inv-loop μ-loop
 start c = c .before .before .before
 
@@ -34,6 +35,7 @@ returns c =
     let q : firstPowerEntry (drop (l .at) (now (a .src))) ≡ Invalid = cc in
     sym (l .inv .2 ∙ invalid-stops (now (a .src)) (l .at) (l .k) (a .n) (omega arith) q)
 
+-- the start of the loop body, from the place after a power entry was parsed
 abbrev loop : tie.After-known-told Inv-loop μ-loop → tie.In-loop Inv-loop μ-loop
 loop c = c .before .before .before .before
 
@@ -43,6 +45,7 @@ found : (c : tie.After-known-told Inv-loop μ-loop)
     ≡ Valid (c .before .change .given .0 .0) (c .before .change .given .0 .1 .0)
 found c = cc
 
+-- it ends inside the bytes
 room : (c : tie.After-known-told Inv-loop μ-loop)
     → c .before .change .given .0 .1 .0
     ≤ length (now (start (loop c) .args .src)) - loop c .before .loop .at

@@ -22,6 +22,7 @@ returns-2 c =
     let a = c .before .before .before .before .before .args in
     power-entry-bad-power (now (a .src)) (a .at) (omega arith) (sym (c .before .power-ok .ensures) ∙ not-true _ (c .if2 .taken))
 
+-- the start of the function, from the test of the power
 abbrev start : tie.Else2 → tie.Start
 start c = c .before .before .before .before .before
 

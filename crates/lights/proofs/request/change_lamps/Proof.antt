@@ -15,14 +15,16 @@ use borrow.Author.Needs.{needs}
 use Rattle.lights.proofs.request.change_lamps.Statement.{statement}
 use Rattle.lights.proofs.request.change_lamps.Tie as tie
 
+-- the start of the function, from the call of `power_entries_ok`
+abbrev start : tie.After-power-entries-ok → tie.Start
+start c = c .before .before .before .before .before .before
+
 returns : tie.Need-returns
 returns c =
     let a = c .before .before .before .before .args in
     reply-refused _ _ 6 (a .lamps) (now (a .out)) (c .refuse .ensures) (change-no-bitmap (a .settings) (a .command) (now (a .pdata)) (a .lamps) (c .before .if1 .taken))
 
-abbrev start : tie.After-power-entries-ok → tie.Start
-start c = c .before .before .before .before .before .before
-
+-- PData is bytes
 small : (c : tie.After-power-entries-ok) → Bytes (now (start c .args .pdata))
 small c i = c .before .before .before .before .before .shared-slice-known .given i .fits
 

@@ -18,9 +18,9 @@ returns-2 c =
 
 returns-3 : tie.Need-returns-3
 returns-3 c =
-    let o = c .before .before .before .before in
-    let a = o .before .before .before .before .before .args in
-    rw (known-pcmd (a .settings) (a .pcmd) (now (a .pdata)) (a .lamps) (o .before .if2 .left), ← o .command-of .ensures)
+    let command = c .before .before .before .before in
+    let a = command .before .before .before .before .before .args in
+    rw (known-pcmd (a .settings) (a .pcmd) (now (a .pdata)) (a .lamps) (command .before .if2 .left), ← command .command-of .ensures)
     (c .before .before .change-lamps .ensures)
 
 pub request-spec : {M : Type 1} → statement M

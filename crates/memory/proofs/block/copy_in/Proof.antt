@@ -4,10 +4,15 @@ use borrow.Author.Needs.{needs}
 use Rattle.memory.proofs.block.copy_in.Statement.{statement}
 use Rattle.memory.proofs.block.copy_in.Tie as tie
 
+-- the start of the function, from the call of `bytes::copy`
+abbrev start : tie.After-copy → tie.Start
+start c = c .before .before .before .before
+
 returns : tie.Need-returns
 returns c =
-    let a = c .before .before .before .before .before .before .args in
-    copy-in-result (a .mem .now) (a .src .now) (c .before .before .copy .last .1 .0) (a .start) (c .before .before .copy .ensures .1)
+    let copied = c .before .before in
+    let a = start copied .args in
+    copy-in-result (a .mem .now) (a .src .now) (copied .copy .last .1 .0) (a .start) (copied .copy .ensures .1)
 
 pub copy-in-spec : {M : Type 1} → statement M
 copy-in-spec =

@@ -7,6 +7,7 @@ use borrow.Author.Needs.{needs}
 use Rattle.memory.proofs.request.read.Statement.{statement}
 use Rattle.memory.proofs.request.read.Tie as tie
 
+-- the start of the function, from the test of the error
 abbrev start : tie.Else1 → tie.Start
 start c = c .before .before .before .before .before
 
@@ -27,22 +28,22 @@ shared-slice-read-wide c = omega (arith, read-fits _ _ (no-error (c .before .bef
 
 copy-out-requires : tie.Need-copy-out-requires
 copy-out-requires c κs =
-    let w = c .before in
-    let b = w .before .before .before in
-    let s = start (b .before) in
-    let k = read-inside (s .args .memory) (s .args .pdata .now) (s .args .mem .now) _ _ _ (s .pre .0)
-    (no-error (b .before)) (b .address-bytes .ensures .0) (w .before .before .address .ensures) (w .wide .ensures .0) in
-    (k .0, omega (arith, k .1))
+    let count = c .before in
+    let width = count .before .before .before in
+    let s = start (width .before) in
+    let inside = read-inside (s .args .memory) (s .args .pdata .now) (s .args .mem .now) _ _ _ (s .pre .0)
+    (no-error (width .before)) (width .address-bytes .ensures .0) (count .before .before .address .ensures) (count .wide .ensures .0) in
+    (inside .0, omega (arith, inside .1))
 
 returns-2 : tie.Need-returns-2
 returns-2 c =
-    let o = c .before .before in
-    let w = o .before .before in
-    let b = w .before .before .before in
-    let s = start (b .before) in
+    let copied = c .before .before in
+    let count = copied .before .before in
+    let width = count .before .before .before in
+    let s = start (width .before) in
     read-reply (s .args .memory) (s .args .pdata .now) (s .args .mem .now) _ _ _ (s .pre .0)
-    (no-error (b .before)) (b .address-bytes .ensures .0) (w .before .before .address .ensures) (w .wide .ensures .0)
-    (s .args .out .now) _ (o .copy-out .ensures)
+    (no-error (width .before)) (width .address-bytes .ensures .0) (count .before .before .address .ensures) (count .wide .ensures .0)
+    (s .args .out .now) _ (copied .copy-out .ensures)
 
 pub read-spec : {M : Type 1} → statement M
 read-spec =

@@ -12,21 +12,22 @@ use Rattle.memory.proofs.request.request.Tie as tie
 returns : tie.Need-returns
 unfolding memoryRequest
 returns c =
-    let r = c .before .before in
-    let t = r .before .before .before in
-    simp (eq-eqb _ _ (t .if1 .taken ∙ t .before .read-command .ensures)) (r .read .ensures)
+    let done = c .before .before in
+    let test = done .before .before .before in
+    simp (eq-eqb _ _ (test .if1 .taken ∙ test .before .read-command .ensures)) (done .read .ensures)
 
+-- after the first test the request is not a read
 no-read : (c : tie.Else1) → let a = c .before .before .before .before .before .args in eqb (a .pcmd) (readCommand (a .memory)) ≡ false
 no-read c = ne-eqb _ _ (λ q. c .if1 .left (q ∙ sym (c .before .read-command .ensures)))
 
 returns-2 : tie.Need-returns-2
 unfolding memoryRequest
 returns-2 c =
-    let w = c .before .before in
-    let t = w .before .before in
-    let l = t .before .before in
-    let s = l .before .before .before .before .before in
-    simp (no-read l, eq-eqb _ _ (t .if2 .taken ∙ t .before .write-command .ensures)) (w .write .ensures (s .args .out .now))
+    let done = c .before .before in
+    let test = done .before .before in
+    let first = test .before .before in
+    let a = first .before .before .before .before .before .args in
+    simp (no-read first, eq-eqb _ _ (test .if2 .taken ∙ test .before .write-command .ensures)) (done .write .ensures (a .out .now))
 
 returns-3 : tie.Need-returns-3
 unfolding memoryRequest

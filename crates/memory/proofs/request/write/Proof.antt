@@ -8,6 +8,7 @@ use borrow.Author.Needs.{needs}
 use Rattle.memory.proofs.request.write.Statement.{statement}
 use Rattle.memory.proofs.request.write.Tie as tie
 
+-- the start of the function, from the test of the error
 abbrev start : tie.Else1 → tie.Start
 start c = c .before .before .before .before
 
@@ -31,20 +32,20 @@ part-copy-in-start c = omega (arith, write-fits _ _ (no-error (c .before .before
 
 copy-in-requires : tie.Need-copy-in-requires
 copy-in-requires c κs =
-    let b = c .before .before .before in
-    let s = start (b .before) in
-    let k = write-inside (s .args .memory) (s .args .pdata .now) (s .args .mem .now) _ _ (no-error (b .before))
-    (b .address-bytes .ensures .0) (c .before .before .address .ensures) (s .pre) in
-    simp (length-take, length-drop) (omega (arith, k))
+    let width = c .before .before .before in
+    let s = start (width .before) in
+    let inside = write-inside (s .args .memory) (s .args .pdata .now) (s .args .mem .now) _ _ (no-error (width .before))
+    (width .address-bytes .ensures .0) (c .before .before .address .ensures) (s .pre) in
+    simp (length-take, length-drop) (omega (arith, inside))
 
 returns-2 : tie.Need-returns-2
 returns-2 c =
-    let i = c .before .before in
-    let d = i .before .before .before in
-    let b = d .before in
-    let s = start (b .before) in
-    λ o. write-reply (s .args .memory) (s .args .pdata .now) (s .args .mem .now) _ _ (no-error (b .before))
-    (b .address-bytes .ensures .0) (d .address .ensures) o _ (i .copy-in .ensures)
+    let copied = c .before .before in
+    let address = copied .before .before .before in
+    let width = address .before in
+    let s = start (width .before) in
+    λ o. write-reply (s .args .memory) (s .args .pdata .now) (s .args .mem .now) _ _ (no-error (width .before))
+    (width .address-bytes .ensures .0) (address .address .ensures) o _ (copied .copy-in .ensures)
 
 pub write-spec : {M : Type 1} → statement M
 write-spec =

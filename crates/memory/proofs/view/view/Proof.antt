@@ -1,6 +1,7 @@
 -- `view::view` meets its contract: the bytes of the slice, and where it starts.
 use native.Mathlib.Omega.{arith}
 use mathlib.Core.Path.{_≡_, sym, _∙_}
+use Prim.Native.Nat.{ℕ}
 use Rattle.memory.specs.View.{viewStatus}
 use Rattle.memory.proofs.Blocks.{end-minus-start}
 use Rattle.memory.proofs.Views.{ViewFits, view-fits, view-refused, view-eeprom, view-external, place-refused, place-eeprom, place-external}
@@ -8,15 +9,24 @@ use borrow.Author.Needs.{needs}
 use Rattle.memory.proofs.view.view.Statement.{statement}
 use Rattle.memory.proofs.view.view.Tie as tie
 
+-- the start of the function, from the call of `view_status`
+abbrev start : tie.After-view-status → tie.Start
+start c = c .before .before .before
+
+-- the status of the view
+abbrev status : tie.After-view-status → ℕ
+status c = let a = start c .args in viewStatus (a .eeprom .now) (a .external .now) (a .pnum) (a .start) (a .count)
+
 -- the first test returns for exactly the refused views
-refused : (c : tie.Then1) → let a = c .before .before .before .before .args in viewStatus (a .eeprom .now) (a .external .now) (a .pnum) (a .start) (a .count) ≡ 0 → ⊥
+refused : (c : tie.Then1) → status (c .before) ≡ 0 → ⊥
 refused c q = c .if1 .taken (c .before .view-status .ensures ∙ q)
 
 -- after it the view is accepted
-accepted : (c : tie.Else1) → let a = c .before .before .before .before .args in viewStatus (a .eeprom .now) (a .external .now) (a .pnum) (a .start) (a .count) ≡ 0
+accepted : (c : tie.Else1) → status (c .before) ≡ 0
 accepted c = sym (c .before .view-status .ensures) ∙ c .if1 .left
 
-inside : (c : tie.Else1) → let a = c .before .before .before .before .args in ViewFits (a .eeprom .now) (a .external .now) (a .pnum) (a .start) (a .count)
+-- and fits
+inside : (c : tie.Else1) → let a = start (c .before) .args in ViewFits (a .eeprom .now) (a .external .now) (a .pnum) (a .start) (a .count)
 inside c = view-fits _ _ _ _ _ (accepted c)
 
 returns : tie.Need-returns

@@ -12,7 +12,12 @@ use borrow.Author.Needs.{needs}
 use Rattle.memory.proofs.view.view_status.Statement.{statement}
 use Rattle.memory.proofs.view.view_status.Tie as tie
 
-eeprom-size : (c : tie.Else1) → length (c .before .before .before .before .args .eeprom .now) ≡ sizeOf Eeprom
+-- the start of the function, from the test of the size of EEPROM
+abbrev start : tie.Else1 → tie.Start
+start c = c .before .before .before .before
+
+-- the size of EEPROM, after its test
+eeprom-size : (c : tie.Else1) → length (start c .args .eeprom .now) ≡ sizeOf Eeprom
 eeprom-size c = c .if1 .left ∙ c .before .size-of .ensures .0
 
 returns : tie.Need-returns
@@ -24,7 +29,7 @@ unfolding viewStatus
 returns-2 c = simp (eq-eqb _ _ (eeprom-size (c .before .before)), ne-eqb _ _ (λ q. c .if2 .taken (q ∙ sym (c .before .size-of2 .ensures .0))))
 
 -- the status once both sizes have been checked
-sized : (c : tie.Else2) → let a = c .before .before .before .before .before .before .args in
+sized : (c : tie.Else2) → let a = start (c .before .before) .args in
     viewStatus (a .eeprom .now) (a .external .now) (a .pnum) (a .start) (a .count)
     ≡ cond (eqb (a .pnum) (memoryPnum Eeprom)) (blockRefusal Eeprom (a .start) (a .count)) (cond (eqb (a .pnum) (memoryPnum External)) (blockRefusal External (a .start) (a .count)) 10)
 sized c = status-sized _ _ _ _ _ (eeprom-size (c .before .before)) (c .if2 .left ∙ c .before .size-of2 .ensures .0)

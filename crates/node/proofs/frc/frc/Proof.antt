@@ -6,7 +6,7 @@ use native.Mathlib.Omega.{arith}
 use borrow.Author.Tests.{not-true, not-false}
 use Rattle.node.specs.Node.{nodeOk}
 use Rattle.node.specs.Frc.{asksLamp, frcOf}
-use Rattle.node.proofs.TwoBits.{asks-two-bytes, frc-not-asked, frc-on, frc-alarm}
+use Rattle.node.proofs.FrcAnswers.{asks-two-bytes, frc-not-asked, frc-on, frc-alarm}
 use Rattle.node.proofs.frc.frc.Statement.{statement}
 use Rattle.node.proofs.frc.frc.Tie as tie
 

@@ -5,7 +5,7 @@ use mathlib.Core.Path.{_≡_, ap, _∙_}
 use lib.ListN.{getD}
 use Rattle.lights.specs.Lamp.{off, actualLevel}
 use Rattle.node.proofs.Nodes.{node-settings, node-levels-in-range}
-use Rattle.node.proofs.TwoBits.{on-lit, on-stuck}
+use Rattle.node.proofs.FrcAnswers.{on-lit, on-stuck}
 use Rattle.node.proofs.frc.is_on.Statement.{statement}
 use Rattle.node.proofs.frc.is_on.Tie as tie
 

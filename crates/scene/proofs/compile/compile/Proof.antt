@@ -14,9 +14,6 @@ returns c =
     rw (sym (c .before .before .address-ok .ensures) ∙ not-true _ (c .before .if1 .taken))
     (ap (λ (r : CompileAnswer). compileResult r (c .before .before .before .before .before .args .out .now)) (c .refused .ensures))
 
-compile-scene-requires : tie.Need-compile-scene-requires
-compile-scene-requires c κs = batch-limits
-
 returns-2 : tie.Need-returns-2
 unfolding compileFor
 returns-2 c =
@@ -25,5 +22,5 @@ returns-2 c =
 
 pub compile-spec : {M : Type 1} → statement M
 compile-spec =
-    tie.close (tie.spec (λ c κs. search needs) (λ c κs. search needs) returns (λ c. search needs) compile-scene-requires
-    (λ c. search needs) returns-2)
+    tie.close (tie.spec (λ c κs. search needs) (λ c κs. search needs) returns (λ c. search needs)
+    (λ c κs. batch-limits) (λ c. search needs) returns-2)

@@ -15,12 +15,19 @@ use Rattle.scene.specs.Call.{compileResult, compileScene}
 use Rattle.scene.proofs.compile.compile_scene.Statement.{statement}
 use Rattle.scene.proofs.compile.compile_scene.Tie as tie
 
--- what the tests on the way have shown
-book : (c : tie.Else1) → bookOk (c .before .before .before .before .before .args .book .now) ≡ true
-book c = sym (c .before .book-ok .ensures) ∙ not-false _ (c .if1 .left)
+-- the start, from where the book is refused, where it is well formed, and where it has the scene
+abbrev refused-start : tie.Then1 → tie.Start
+refused-start c = c .before .before .before .before .before
+
+abbrev book-start : tie.Else1 → tie.Start
+book-start c = c .before .before .before .before .before
 
 abbrev start : tie.Else2 → tie.Start
-start c = c .before .before .before .before .before .before .before .before
+start c = book-start (c .before .before .before)
+
+-- what the tests on the way have shown
+book : (c : tie.Else1) → bookOk (book-start c .args .book .now) ≡ true
+book c = sym (c .before .book-ok .ensures) ∙ not-false _ (c .if1 .left)
 
 below : (c : tie.Else2) → let a = start c .args in a .scene < sceneCount (a .book .now)
 below c = rw (c .before .wide .ensures .0) at (c .if2 .left)
@@ -37,7 +44,7 @@ returns : tie.Need-returns
 unfolding compileScene
 returns c =
     rw (sym (c .before .before .book-ok .ensures) ∙ not-true _ (c .before .if1 .taken))
-    (ap (λ (r : CompileAnswer). compileResult r (c .before .before .before .before .before .before .args .out .now)) (c .refused .ensures))
+    (ap (λ (r : CompileAnswer). compileResult r (refused-start (c .before) .args .out .now)) (c .refused .ensures))
 
 shared-slice-read-wide : tie.Need-shared-slice-read-wide
 shared-slice-read-wide c = omega (arith, book-facts _ (book (c .before)))
@@ -46,16 +53,10 @@ returns-2 : tie.Need-returns-2
 unfolding compileScene
 returns-2 c =
     rw (book (c .before .before .before .before), le-leb _ _ (rw (c .before .before .wide .ensures .0) at (c .before .if2 .taken)))
-    (ap (λ (r : CompileAnswer). compileResult r (c .before .before .before .before .before .before .before .before .before .args .out .now)) (c .refused2 .ensures))
+    (ap (λ (r : CompileAnswer). compileResult r (book-start (c .before .before .before .before) .args .out .now)) (c .refused2 .ensures))
 
 scene-location-requires : tie.Need-scene-location-requires
 scene-location-requires c κs = omega (arith, book-facts _ (book (c .before .before .before)), below c)
-
-sub-compile-steps : tie.Need-sub-compile-steps
-sub-compile-steps c = omega (arith, inside c)
-
-part-compile-steps-start : tie.Need-part-compile-steps-start
-part-compile-steps-start c = omega (arith, inside c)
 
 compile-steps-requires : tie.Need-compile-steps-requires
 compile-steps-requires c κs =
@@ -81,5 +82,5 @@ returns-3 c =
 pub compile-scene-spec : {M : Type 1} → statement M
 compile-scene-spec =
     tie.close (tie.spec (λ c κs. search needs) (λ c κs. search needs) returns shared-slice-read-wide
-    (λ c κs. search needs) (λ c κs. search needs) returns-2 scene-location-requires sub-compile-steps
-    part-compile-steps-start (λ c. search needs) compile-steps-requires (λ c. search needs) returns-3)
+    (λ c κs. search needs) (λ c κs. search needs) returns-2 scene-location-requires
+    (λ c. omega (arith, inside c)) (λ c. omega (arith, inside c)) (λ c. search needs) compile-steps-requires (λ c. search needs) returns-3)

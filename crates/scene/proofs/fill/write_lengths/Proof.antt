@@ -11,8 +11,9 @@ use Rattle.book.specs.Book.{stepsIn}
 use Rattle.book.specs.Join.{entriesOf}
 use Rattle.book.proofs.Positions.{steps-length}
 use Rattle.book.proofs.GoodSteps.{good-steps}
+use Rattle.scene.specs.Compile.{emptyListSize}
 use Rattle.scene.specs.Call.{lengths}
-use Rattle.scene.specs.Fill.{requestsWith, maxSpanBytes}
+use Rattle.scene.specs.Fill.{requestsWith, spanLength, maxSpanBytes}
 use Rattle.scene.proofs.Outputs.{lengths-length}
 use Rattle.scene.proofs.Batches.{entry-limit}
 use Rattle.scene.proofs.Remaining.{remainingLengths, requests-lengths}
@@ -33,6 +34,14 @@ abbrev μ-loop : tie.MeasureT-loop
 abbrev start : tie.Else1 Inv-loop μ-loop → tie.Start Inv-loop μ-loop
 start c = c .before .before .before .before .before
 
+-- the start, from where an entry is found
+abbrev start-of : tie.After-entry-from Inv-loop μ-loop → tie.Start Inv-loop μ-loop
+start-of d = start (d .before .before .before)
+
+-- where the entry was found, from the end of a turn
+abbrev found : tie.After-struct-known3 Inv-loop μ-loop → tie.After-entry-from Inv-loop μ-loop
+found c = c .before .before .before .before .before .before .before
+
 abbrev steps : tie.Start Inv-loop μ-loop → List Step
 steps s = stepsIn (s .args .count) (s .args .body .now)
 
@@ -46,7 +55,7 @@ prefix s = headerSize + length (s .args .front .now)
 
 -- all length bytes; they are the same for every header
 abbrev all : tie.Start Inv-loop μ-loop → List ℕ
-all s = remainingLengths (s .args .limits .list) (prefix s) 1 (entriesOf (s .args .limits .entry) (steps s))
+all s = remainingLengths (s .args .limits .list) (prefix s) emptyListSize (entriesOf (s .args .limits .entry) (steps s))
 
 abbrev requests : tie.Start Inv-loop μ-loop → Frame → List (List ℕ)
 requests s f = requestsWith (s .args .limits) f (s .args .front .now) (steps s)
@@ -60,7 +69,7 @@ all-is c f =
     let n : length (headerBytes f ++ s .args .front .now) ≡ prefix s = omega arith in
     requests-lengths (s .pre .3) (headerBytes f ++ s .args .front .now) (f .hwpid) (steps s)
     (good-steps (s .args .count) (s .args .body .now) (s .pre .2)) (omega (arith, c .if1 .left, count-of s))
-    ∙ ap (λ (k : ℕ). remainingLengths (s .args .limits .list) k 1 (entriesOf (s .args .limits .entry) (steps s))) n
+    ∙ ap (λ (k : ℕ). remainingLengths (s .args .limits .list) k emptyListSize (entriesOf (s .args .limits .entry) (steps s))) n
 
 room : (c : tie.Else1 Inv-loop μ-loop) → start c .args .at + length (all (start c)) ≤ length (start c .args .out .now)
 room c = omega (arith, start c .pre .5 anyHeader, ap length (all-is c anyHeader), lengths-length (requests (start c) anyHeader))
@@ -80,11 +89,9 @@ entry-from-requires c κs =
     (s .pre .0, c .loop-test .taken, s .pre .1, entry-limit (s .pre .3))
 
 -- ---- an entry: d is the place where it is found
-abbrev start-of : tie.After-entry-from Inv-loop μ-loop → tie.Start Inv-loop μ-loop
-start-of d = start (d .before .before .before)
 
 -- its span has room
-in-spans : (d : tie.After-entry-from Inv-loop μ-loop) → d .before .before .loop .index + 2 ≤ maxSpanBytes
+in-spans : (d : tie.After-entry-from Inv-loop μ-loop) → d .before .before .loop .index + spanLength ≤ maxSpanBytes
 in-spans d =
     let s = start-of d in
     let l = d .before .before .loop in
@@ -134,20 +141,10 @@ next-length-requires c κs =
       lengths-room (s .pre .3) _ _ _ _ _ _ _ _ _ (d .entry-from .ensures) _ (l .inv .0) (room (d .before .before .before)),
     )
 
-add-step : tie.Need-add-step Inv-loop μ-loop
-add-step c =
-    let d = c .before .before .before .before .before .before .before in
-    omega (arith, in-scene d, start-of d .pre .1)
-
-loop-less : tie.Need-loop-less Inv-loop μ-loop
-loop-less c =
-    let d = c .before .before .before .before .before .before .before in
-    omega (arith, d .entry-from .ensures .some, d .before .loop-test .taken)
-
 loop-again : tie.Need-loop-again Inv-loop μ-loop
 loop-again c =
     let p = c .before .before .before .next-length .ensures in
-    let d = c .before .before .before .before .before .before .before in
+    let d = found c in
     let s = start-of d in
     let l = d .before .before .loop in (
       lengths-more (s .pre .3) _ _ _ _ _ _ _ _ _ (d .entry-from .ensures) _ (l .inv .0) _ _ _ (p .2) (p .0) (p .1),
@@ -205,8 +202,8 @@ write-lengths-spec =
     slice-write-spans-2
     (λ c. omega (arith, in-spans (c .before .before)))
     next-length-requires
-    add-step
-    loop-less
+    (λ c. omega (arith, in-scene (found c), start-of (found c) .pre .1))
+    (λ c. omega (arith, found c .entry-from .ensures .some, found c .before .loop-test .taken))
     loop-again
     (λ c. omega (arith, last-small c))
     (λ c. omega (arith, last-small c))

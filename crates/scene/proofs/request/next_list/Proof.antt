@@ -16,6 +16,10 @@ use Rattle.scene.proofs.request.next_list.Tie as tie
 abbrev prefix : tie.Start → List ℕ
 prefix s = headerBytes (s .args .header) ++ s .args .front .now
 
+-- the start, from where the entry does not fit
+abbrev start : tie.Else1 → tie.Start
+start c = c .before .before .before
+
 returns : tie.Need-returns
 returns c =
     let s = c .before .before .before in
@@ -23,9 +27,9 @@ returns c =
     rw (t .0, t .2) (omega arith, refl, refl)
 
 -- the closing zero and the next prefix have room
-room : (c : tie.Else1) → let s = c .before .before .before in s .args .at + (1 + length (prefix s)) ≤ length (s .args .out .now)
+room : (c : tie.Else1) → let s = start c in s .args .at + (1 + length (prefix s)) ≤ length (s .args .out .now)
 room c =
-    let s = c .before .before .before in
+    let s = start c in
     omega (arith, s .pre .3, ap length (list-full (s .args .limit) (prefix s) 0 (s .args .size) (s .args .pdata) (c .if1 .left) .0))
 
 write-prefix-requires : tie.Need-write-prefix-requires
@@ -33,12 +37,12 @@ write-prefix-requires c κs = rw length-set (omega (arith, room (c .before)))
 
 same-length : tie.Need-same-length
 same-length c =
-    let a = c .before .before .before .before .before .before .before .args in
-    c .before .before .write-prefix .kept .1 .1 .0 ∙ length-set (a .out .now) (a .at) 0
+    let a = start (c .before .before .before .before) .args in
+    c .before .before .write-prefix .kept .1 .1 .0 ∙ length-set (a .out .now) (a .at) closingZero
 
 returns-2 : tie.Need-returns-2
 returns-2 c =
-    let s = c .before .before .before .before .before .before .before in
+    let s = start (c .before .before .before .before) in
     let a = s .args in
     let t = list-full (a .limit) (prefix s) 0 (a .size) (a .pdata) (c .before .before .before .before .if1 .left) in
     let w = c .before .before .write-prefix .ensures in

@@ -15,6 +15,15 @@ use Rattle.scene.proofs.Progress.{steps-fit, output-written}
 use Rattle.scene.proofs.request.write_output.Statement.{statement}
 use Rattle.scene.proofs.request.write_output.Tie as tie
 
+-- the start, from where the length bytes are written
+abbrev start : tie.After-write-lengths → tie.Start
+start k = k .before .before .before .before .before .before
+
+-- where the length bytes are written, from the return
+abbrev written : tie.After-slice-known3 → tie.After-write-lengths
+written c = c .before .before .before .before .before .before .before .before
+
+-- the requests, for any header
 abbrev requests : (s : tie.Start) → Frame → List (List ℕ)
 requests s f = requestsWith (s .args .limits) f (s .args .front .now) (stepsIn (s .args .count) (s .args .body .now))
 
@@ -33,11 +42,7 @@ write-lengths-requires c κs =
     let s = c .before .before .before .before .before in
     (s .pre .0, s .pre .1, s .pre .2, s .pre .3, omega arith, λ f. omega (arith, room s f))
 
--- the start, from where the length bytes are written
-abbrev start : tie.After-write-lengths → tie.Start
-start k = k .before .before .before .before .before .before
-
--- the place after them
+-- the position after the length bytes
 after-lengths : (k : tie.After-write-lengths) → k .write-lengths .result ≡ 1 + length (requests (start k) (start k .args .header))
 after-lengths k = k .write-lengths .ensures .0 (start k .args .header) .0
 
@@ -68,12 +73,12 @@ write-requests-requires c κs =
 
 same-length : tie.Need-same-length
 same-length c =
-    let p = c .before .before .before .before .before .before .before .before .write-lengths in
+    let p = written c .write-lengths in
     c .before .before .write-requests .kept .1 .1 .1 .1 .1 .1 .0 ∙ length-set (p .last .1 .1 .1 .1 .1 .0) 0 _ ∙ p .kept .1 .1 .1 .1 .1 .0
 
 returns : tie.Need-returns
 returns c =
-    let k = c .before .before .before .before .before .before .before .before in
+    let k = written c in
     let s = start k in
     let p = k .write-lengths in
     let l = p .ensures .0 (s .args .header) in

@@ -10,11 +10,18 @@ use Rattle.book.proofs.Writing.{two-writes}
 use Rattle.scene.proofs.request.write_prefix.Statement.{statement}
 use Rattle.scene.proofs.request.write_prefix.Tie as tie
 
+-- where the header's bytes are written, and where they are made
+abbrev written : tie.After-slice-known3 → tie.After-write-bytes
+written c = c .before .before .before .before .before .before
+
+abbrev made : tie.After-slice-known3 → tie.After-header
+made c = written c .before .before .before
+
 returns : tie.Need-returns
 returns c =
-    let w = c .before .before .before .before .before .before .write-bytes in
-    let h = c .before .before .before .before .before .before .before .before .before .header in
-    let a = c .before .before .before .before .before .before .before .before .before .before .before .before .args in
+    let w = written c .write-bytes in
+    let h = made c .header in
+    let a = made c .before .before .before .args in
     two-writes (a .out .now) (w .last .1 .0) _ (headerBytes (a .header)) (a .front .now) (headerBytes (a .header) ++ a .front .now) (a .at) _ _
     (w .ensures .1 ∙ ap (sets (a .out .now) (a .at)) (h .ensures)) (w .ensures .0 ∙ ap (λ (l : List ℕ). a .at + length l) (h .ensures))
     (c .before .before .write-bytes2 .ensures .1) (c .before .before .write-bytes2 .ensures .0) refl

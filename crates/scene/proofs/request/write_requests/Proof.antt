@@ -21,6 +21,7 @@ use Rattle.dpa.specs.Lists.{All}
 use Rattle.dpa.proofs.All.{all-drop}
 use Rattle.book.proofs.GoodSteps.{good-steps}
 use Rattle.book.proofs.EntryWritable.{entry-writable}
+use Rattle.scene.specs.Compile.{emptyListSize}
 use Rattle.scene.specs.Fill.{requestsWith, StartsWithSpans}
 use Rattle.scene.proofs.Batches.{entry-limit}
 use Rattle.scene.proofs.Remaining.{remainingBytes, requests-bytes}
@@ -36,6 +37,31 @@ Inv-loop body count spans limits header front out₀ at end₀ size₀ step₀ i
 
 abbrev μ-loop : tie.MeasureT-loop
 μ-loop body count spans limits header front out₀ at end₀ size₀ step₀ index₀ out end size step index = count - step
+
+-- the start, from where there are steps
+abbrev some-start : tie.Else1 Inv-loop μ-loop → tie.Start Inv-loop μ-loop
+some-start c = c .before .before .before .before .before
+
+-- where there are steps and the start, from where the loop begins
+abbrev some : tie.After-slice-known2 Inv-loop μ-loop → tie.Else1 Inv-loop μ-loop
+some c = c .before .before .before .before
+
+abbrev start : tie.After-slice-known2 Inv-loop μ-loop → tie.Start Inv-loop μ-loop
+start c = some-start (some c)
+
+-- the turn and the start, from where both bytes of a span are read
+abbrev turn : tie.After-wide2 Inv-loop μ-loop → tie.In-loop Inv-loop μ-loop
+turn e = e .before .before .before .before
+
+abbrev start-of : tie.After-wide2 Inv-loop μ-loop → tie.Start Inv-loop μ-loop
+start-of e = start (turn e .before .before)
+
+-- where the list was chosen and where the span was read, from the end of a turn
+abbrev chosen : tie.After-slice-known4 Inv-loop μ-loop → tie.After-next-list Inv-loop μ-loop
+chosen c = c .before .before .before .before .before .before
+
+abbrev read : tie.After-slice-known4 Inv-loop μ-loop → tie.After-wide2 Inv-loop μ-loop
+read c = chosen c .before .before
 
 -- what each request starts with
 abbrev prefix : tie.Start Inv-loop μ-loop → List ℕ
@@ -53,24 +79,20 @@ all-good s = good-steps (s .args .count) (s .args .body .now) (s .pre .2)
 
 -- all bytes after the first prefix
 abbrev all : tie.Start Inv-loop μ-loop → List ℕ
-all s = remainingBytes (s .args .limits .list) (prefix s) (s .args .header .hwpid) 1 (entriesOf (s .args .limits .entry) (steps s))
+all s = remainingBytes (s .args .limits .list) (prefix s) (s .args .header .hwpid) emptyListSize (entriesOf (s .args .limits .entry) (steps s))
 
-all-is : (c : tie.Else1 Inv-loop μ-loop) → let s = c .before .before .before .before .before in
+all-is : (c : tie.Else1 Inv-loop μ-loop) → let s = some-start c in
     concat (requestsWith (s .args .limits) (s .args .header) (s .args .front .now) (steps s)) ≡ prefix s ++ all s
 all-is c =
-    let s = c .before .before .before .before .before in
+    let s = some-start c in
     requests-bytes (s .pre .3) (prefix s) (s .args .header .hwpid) (steps s) (all-good s) (omega (arith, c .if1 .left, count-of s))
-
--- the start, from where the loop begins
-abbrev start : tie.After-slice-known2 Inv-loop μ-loop → tie.Start Inv-loop μ-loop
-start c = c .before .before .before .before .before .before .before .before .before
 
 room : (c : tie.After-slice-known2 Inv-loop μ-loop)
     → c .before .before .write-prefix .result + length (all (start c)) ≤ length (c .before .before .write-prefix .last .1 .1 .0)
 room c =
     let s = start c in
     let w = c .before .before .write-prefix in
-    omega (arith, s .pre .5, ap length (all-is (c .before .before .before .before)), length-append (prefix s) (all s), w .ensures .0, w .kept .1 .1 .0)
+    omega (arith, s .pre .5, ap length (all-is (some c)), length-append (prefix s) (all s), w .ensures .0, w .kept .1 .1 .0)
 
 -- no steps, no requests
 returns : tie.Need-returns Inv-loop μ-loop
@@ -78,7 +100,7 @@ returns c = rw (c .if1 .taken) (omega arith, refl)
 
 write-prefix-requires : tie.Need-write-prefix-requires Inv-loop μ-loop
 write-prefix-requires c κs =
-    let s = c .before .before .before .before .before .before in
+    let s = some-start (c .before) in
     omega (arith, s .pre .5, ap length (all-is (c .before)), length-append (prefix s) (all s))
 
 loop-holds : tie.Need-loop-holds Inv-loop μ-loop
@@ -104,13 +126,7 @@ add-wide c = omega (arith, span (c .before .before) .in-range)
 add-index : tie.Need-add-index Inv-loop μ-loop
 add-index c = omega (arith, span (c .before .before .before .before) .in-range)
 
--- e is the place where both bytes of the span are read
-abbrev turn : tie.After-wide2 Inv-loop μ-loop → tie.In-loop Inv-loop μ-loop
-turn e = e .before .before .before .before
-
-abbrev start-of : tie.After-wide2 Inv-loop μ-loop → tie.Start Inv-loop μ-loop
-start-of e = start (turn e .before .before)
-
+-- its steps and size, as the span gives them
 entry : (e : tie.After-wide2 Inv-loop μ-loop) → let d = e .before .before .before .before in let s = start (d .before .before) in
     FirstEntry (s .args .limits .entry) (drop (d .before .loop .step) (steps s)) (e .before .before .wide .result) (e .wide2 .result)
 entry e = rw (e .before .before .wide .ensures .0, e .wide2 .ensures .0) (span (turn e) .entry)
@@ -154,21 +170,11 @@ write-entry-at-requires c κs =
       entry-writable (s .args .limits .entry) (s .pre .3 .entry) _ _ _ _ _ (s .pre .2) slice f,
     )
 
-add-step : tie.Need-add-step Inv-loop μ-loop
-add-step c =
-    let e = c .before .before .before .before .before .before .before .before in
-    omega (arith, in-scene e, start-of e .pre .1)
-
-loop-less : tie.Need-loop-less Inv-loop μ-loop
-loop-less c =
-    let e = c .before .before .before .before .before .before .before .before in
-    omega (arith, entry e .some, turn e .loop-test .taken)
-
 loop-again : tie.Need-loop-again Inv-loop μ-loop
 loop-again c =
     let w = c .before .before .write-entry-at .ensures in
-    let t = c .before .before .before .before .before .before .next-list in
-    let e = c .before .before .before .before .before .before .before .before in
+    let t = chosen c .next-list in
+    let e = read c in
     let s = start-of e in
     let l = turn e .before .loop in
     let k = e .before .before .wide .result in (
@@ -207,7 +213,7 @@ returns-2 c =
     let w = c .before .before .before .before .write-prefix in
     let x = remaining-end (w .last .1 .1 .0) (w .result) (all s) _ _ _ (last c) _ _ refl refl in
     two-writes (s .args .out .now) (w .last .1 .1 .0) _ (prefix s) (all s) _ (s .args .at) (w .result) _ (w .ensures .1) (w .ensures .0) (x .1) (x .0)
-    (all-is (c .before .before .before .before .before .before))
+    (all-is (some (c .before .before)))
 
 pub write-requests-spec : {M : Type 1} → statement M
 write-requests-spec =
@@ -226,8 +232,8 @@ write-requests-spec =
     add-index
     next-list-requires
     write-entry-at-requires
-    add-step
-    loop-less
+    (λ c. omega (arith, in-scene (read c), start-of (read c) .pre .1))
+    (λ c. omega (arith, entry (read c) .some, turn (read c) .loop-test .taken))
     loop-again
     slice-write-out
     add-result

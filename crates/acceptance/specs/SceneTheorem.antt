@@ -24,7 +24,7 @@ use Rattle.dpa.specs.Settings.{lastAddress}
 use Rattle.handler.specs.Request.{State, SoundState, frameItem, noReport, batchPcmd, execute, handleRequest}
 use Rattle.book.specs.declared.step.Step.{Step}
 use Rattle.book.specs.Book.{sceneCount, bookOk, sceneOf}
-use Rattle.book.specs.Step.{stepFault}
+use Rattle.book.specs.Step.{noFault, stepFault}
 use Rattle.book.specs.Machine.{machine}
 use Rattle.scene.specs.Compile.{sceneRequests}
 use Rattle.scene.specs.Call.{CompileResult, minOutput, requestsIn, compileFor}
@@ -37,7 +37,7 @@ Addressable a = ((1 ≤ a) × (a ≤ lastAddress)) ⊎ (a ≡ broadcastNadr)
 
 -- A step without a fault.
 abbrev pub NoFault : Step → Type 0
-NoFault s = stepFault s ≡ 0
+NoFault s = stepFault s ≡ noFault
 
 -- A scene without a fault: the book is well-formed and has the scene, and no step of the scene is bad.
 pub record SceneRule (book : List ℕ) (scene : ℕ) : Type 0 where
