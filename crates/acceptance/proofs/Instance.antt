@@ -23,7 +23,7 @@ use Rattle.book.specs.Machine.{timeFormed, wellFormed, machineLevel, machineSec
 use Rattle.book.specs.Entry.{powerBytes, entryData, pnumOf, pcmdOf}
 use Rattle.book.specs.Join.{follows}
 use Rattle.scene.specs.Compile.{batchesOf, entryLimit, listLimit, sceneRequests}
-use Rattle.scene.specs.Call.{minOutput, requestsIn, compileFor}
+use Rattle.scene.specs.Call.{minOutput, requestsIn, outputOf, compileFor}
 use Rattle.acceptance.specs.SceneTheorem.{Addressable, SceneRule, Given, MatchesMachine, afterCalls}
 use Rattle.acceptance.proofs.Refusals.{compile-refusals}
 use Rattle.acceptance.proofs.Scenes.{condition-3}
@@ -116,12 +116,12 @@ done-own = condition-3 .requests before buffers book 1 7 0x2471 given-own faultl
 pub done-all : MatchesMachine batchPcmd broadcastNadr buffers (sceneRequests broadcastNadr anyHwpid (sceneOf book 1)) (sceneOf book 1) before
 done-all = condition-3 .requests before buffers book 1 broadcastNadr anyHwpid given-all faultless
 
--- and for those in the output buffer
-pub buffer-own : MatchesMachine batchPcmd 7 buffers (requestsIn (compileFor book 1 7 0x2471 out .buffer)) (sceneOf book 1) before
+-- and for those in the output
+pub buffer-own : MatchesMachine batchPcmd 7 buffers (requestsIn (outputOf (compileFor book 1 7 0x2471 out))) (sceneOf book 1) before
 buffer-own = condition-3 .buffer before buffers book 1 7 0x2471 out given-own (accepted 7 0x2471 (inl (omega arith, omega arith)))
 
 -- for broadcast
-pub buffer-all : MatchesMachine batchPcmd broadcastNadr buffers (requestsIn (compileFor book 1 broadcastNadr anyHwpid out .buffer)) (sceneOf book 1) before
+pub buffer-all : MatchesMachine batchPcmd broadcastNadr buffers (requestsIn (outputOf (compileFor book 1 broadcastNadr anyHwpid out))) (sceneOf book 1) before
 buffer-all = condition-3 .buffer before buffers book 1 broadcastNadr anyHwpid out given-all (accepted broadcastNadr anyHwpid (inr refl))
 
 -- the node ends with these lamps, timers and bytes

@@ -1,6 +1,6 @@
 -- The requests of an output, handled in order.
 use mathlib.Core.Path.{_≡_, refl, ap, _∙_}
-use mathlib.Core.List.{List, [], _∷_, _++_, append-assoc}
+use mathlib.Core.List.{List, [], _∷_}
 use Prim.Native.Nat.{ℕ, suc, _+_, _-_, _≤_}
 use native.Mathlib.Omega.{arith}
 use lib.ListN.{length, getD, take, drop, length-append, length-drop}
@@ -63,16 +63,12 @@ total-length : (rs : List (List ℕ)) → totalLength (lengths rs) ≡ length (c
 total-length [] = refl
 total-length (r ∷ rs) = omega (arith, length-append r (concat rs), total-length rs)
 
--- an output has all the bytes that it announces; bytes after it make no difference
-pub output-complete : (rs : List (List ℕ)) (t : List ℕ) → CompleteOutput (output rs ++ t)
-output-complete rs t =
+-- an output has all the bytes that it announces
+pub output-complete : (rs : List (List ℕ)) → CompleteOutput (output rs)
+output-complete rs =
     record {
-      counted = omega (arith, length-append (lengths rs ++ concat rs) t, length-append (lengths rs) (concat rs), lengths-length rs);
+      counted = omega (arith, length-append (lengths rs) (concat rs), lengths-length rs);
       whole =
-          rw (
-            append-assoc (lengths rs) (concat rs) t,
-            take-at (lengths rs) (concat rs ++ t) (length rs) (lengths-length rs),
-            drop-at (lengths rs) (concat rs ++ t) (length rs) (lengths-length rs),
-          )
-          (omega (arith, total-length rs, length-append (concat rs) t));
+          rw (take-at (lengths rs) (concat rs) (length rs) (lengths-length rs), drop-at (lengths rs) (concat rs) (length rs) (lengths-length rs))
+          (omega (arith, total-length rs));
     }

@@ -7,7 +7,8 @@ use mathlib.Core.Option.{Option, none, some}
 use Prim.Native.Nat.{ℕ, suc, _+_, _-_, _≤_, _<_}
 use native.Mathlib.Omega.{arith}
 use lib.Dec.{ltb, leb, eqb}
-use lib.ListN.{length}
+use lib.ListN.{length, drop}
+use lib.Seq.{drop-append-seam}
 use borrow.Author.Tests.{eq-eqb, ne-eqb, eqb-true, eqb-false, le-leb, lt-leb, leb-true, leb-false, lt-ltb, ltb-true, ltb-false, not-true, not-false}
 use Rattle.dpa.specs.Frame.{broadcastNadr}
 use Rattle.dpa.specs.Settings.{lastAddress, nodeAddress}
@@ -212,4 +213,8 @@ module _ (b : List ℕ) (k a h : ℕ) (out : List ℕ) where
             compile-cases (λ r. ¬ (r .refusal ≡ 8) → r .step ≡ 0) (λ _ _. refl) (λ _ _. refl) (λ _ _. refl) (λ j _ n. absurd (n refl))
             (λ _ _. refl) (λ _ _. refl);
         unwritten = compile-refused b k a h out;
+        later =
+            let o = output (sceneRequests a h (sceneOf b k)) in
+            compile-cases (λ r. drop (r .length) (r .buffer) ≡ drop (r .length) out) (λ _. refl) (λ _. refl) (λ _. refl) (λ j _. refl)
+            (λ _. refl) (λ _. drop-append-seam o (drop (length o) out));
       }

@@ -2,11 +2,12 @@
 use mathlib.Core.Path.{_≡_, refl, sym, ap, _∙_, subst}
 use mathlib.Core.Logic.{inl}
 use mathlib.Core.Bool.{true, false}
-use mathlib.Core.List.{List, [], _∷_, _++_}
-use Prim.Native.Nat.{ℕ, suc}
+use mathlib.Core.List.{List, [], _∷_}
+use Prim.Native.Nat.{ℕ, suc, _≤_}
 use native.Mathlib.Omega.{arith}
 use lib.Dec.{eqb}
-use lib.ListN.{length, drop}
+use lib.ListN.{length, drop, length-append}
+use lib.Seq.{take-append-seam}
 use borrow.Author.Tests.{eq-eqb, ne-eqb, eqb-true, eqb-false}
 use Rattle.dpa.proofs.Bool.{by-cond}
 use Rattle.memory.specs.declared.block.Memory.the-variants.{Eeprom, External}
@@ -17,7 +18,7 @@ use Rattle.handler.proofs.Soundness.{request-sound}
 use Rattle.book.specs.Book.{sceneOf}
 use Rattle.book.specs.Machine.{machine}
 use Rattle.scene.specs.Compile.{sceneRequests}
-use Rattle.scene.specs.Call.{CompileResult, output, requestsIn, compileFor}
+use Rattle.scene.specs.Call.{CompileResult, output, requestsIn, outputOf, outputInBuffer, compileFor}
 use Rattle.scene.proofs.Outputs.{compile-refused}
 use Rattle.acceptance.specs.SceneTheorem.{Given, afterCalls}
 use Rattle.acceptance.specs.RunScene.{zeroBuffer, CompleteOutput, SceneResult, result, afterCompile, runScene}
@@ -73,25 +74,35 @@ module _ {book : List ℕ} {k : ℕ} {st : State} {out : List ℕ} {c : CompileR
     accepted : compileOwn book k st out .refusal ≡ 0
     accepted = sym (ap (λ (d : CompileResult). d .refusal) (p .result-is)) ∙ z
 
-    -- the buffer holds all requests
-    pub run-complete : CompleteOutput (c .buffer)
-    run-complete =
+    -- the compiler wrote the output
+    written : let o = output (sceneRequests (st .node .settings .address) (st .node .settings .hwpid) (sceneOf book k)) in c ≡ outputInBuffer o out
+    written =
         let a = st .node .settings .address in
         let h = st .node .settings .hwpid in
-        let rs = sceneRequests a h (sceneOf book k) in
-        let w : c .buffer ≡ output rs ++ drop (length (output rs)) out =
-        ap (λ (d : CompileResult). d .buffer) (p .result-is ∙ accepted-answer book k a h out (compile-refusals book k a h out .none .0 accepted)) in
-        rw w (output-complete rs (drop (length (output rs)) out))
+        p .result-is ∙ accepted-answer book k a h out (compile-refusals book k a h out .none .0 accepted)
+
+    -- it is inside the buffer
+    pub run-inside : c .length ≤ length (c .buffer)
+    run-inside =
+        let o = output (sceneRequests (st .node .settings .address) (st .node .settings .hwpid) (sceneOf book k)) in
+        rw written (omega (arith, length-append o (drop (length o) out)))
+
+    -- and holds all requests
+    pub run-complete : CompleteOutput (outputOf c)
+    run-complete =
+        let rs = sceneRequests (st .node .settings .address) (st .node .settings .hwpid) (sceneOf book k) in
+        rw (written, take-append-seam (output rs) (drop (length (output rs)) out)) (output-complete rs)
 
     -- the state after the requests is the one that the step machine reaches
-    pub run-done : (done : State) → done ≡ afterCalls (λ _. zeroBuffer) (requestsIn (c .buffer)) st → result 0 0 done (c .buffer) ≡ runScene book k st out
+    pub run-done : (done : State) → done ≡ afterCalls (λ _. zeroBuffer) (requestsIn (outputOf c)) st
+        → result 0 0 done (c .buffer) ≡ runScene book k st out
     unfolding afterCompile
     run-done done d =
         let a = st .node .settings .address in
         let h = st .node .settings .hwpid in
         let end : done ≡ machine (sceneOf book k) st =
         d
-        ∙ ap (λ (y : CompileResult). afterCalls (λ _. zeroBuffer) (requestsIn (y .buffer)) st) (p .result-is)
+        ∙ ap (λ (y : CompileResult). afterCalls (λ _. zeroBuffer) (requestsIn (outputOf y)) st) (p .result-is)
         ∙ buffer-theorem st (λ _. zeroBuffer) book k a h out (own-given st (p .sound)) accepted .final in
         sym (compiled-first ∙ rw (eq-eqb (c .refusal) 0 z) (ap (λ (y : State). result 0 0 y (c .buffer)) (sym end)))
 
@@ -131,4 +142,4 @@ module _ (book : List ℕ) (k : ℕ) (st : State) (out : List ℕ) where
   scene-sound s =
       run-cases (λ (r : SceneResult). SoundState (r .after)) (λ _. s) (λ _. s)
       (λ z. subst SoundState (buffer-theorem st (λ _. zeroBuffer) book k (st .node .settings .address) (st .node .settings .hwpid) out (own-given st s) z .final)
-      (calls-sound (λ _. zeroBuffer) (requestsIn (compileOwn book k st out .buffer)) st s))
+      (calls-sound (λ _. zeroBuffer) (requestsIn (outputOf (compileOwn book k st out))) st s))

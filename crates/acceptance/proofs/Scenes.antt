@@ -1,21 +1,25 @@
--- Condition 3: its three parts.
+-- Condition 3: its four parts.
 use mathlib.Core.Path.{_≡_, refl, sym, ap, subst, _∙_}
-use mathlib.Core.Logic.{_⊎_, inl, inr}
+use mathlib.Core.Logic.{_⊎_, inl, inr, _↔_}
 use mathlib.Core.List.{List}
 use mathlib.Core.Bool.{true, or-true}
 use Prim.Native.Nat.{ℕ}
 use lib.Dec.{eqb}
-use borrow.Author.Tests.{eq-eqb}
+use borrow.Author.Tests.{eq-eqb, eqb-true}
 use Rattle.dpa.specs.Frame.{anyHwpid}
 use Rattle.dpa.specs.Pnum.{osPnum}
 use Rattle.dpa.specs.declared.settings.Settings.{Settings}
 use Rattle.batch.specs.Batch.{item, listBytes}
 use Rattle.handler.specs.Request.{State, hwpidMatches, batchRequest, batchPcmd, execute}
 use Rattle.handler.proofs.Outcomes.{execute-os, os-batch}
+use Rattle.book.specs.declared.step.Step.{Step}
 use Rattle.book.specs.Book.{sceneOf}
+use Rattle.book.specs.Step.{noFault, stepFault}
+use Rattle.book.specs.Machine.{wellFormed}
+use Rattle.book.proofs.Faults.{good-formed}
 use Rattle.scene.proofs.Batches.{batch-limits}
 use Rattle.scene.proofs.Outputs.{buffer-back}
-use Rattle.acceptance.specs.SceneTheorem.{MatchesMachine, SceneTheorem, BufferTheorem, Condition3}
+use Rattle.acceptance.specs.SceneTheorem.{NoFault, MatchesMachine, SceneTheorem, BufferTheorem, Condition3}
 use Rattle.acceptance.proofs.Entries.{group-performs}
 use Rattle.acceptance.proofs.AllRequests.{steps-done}
 use Rattle.acceptance.proofs.Refusals.{addressable, no-fault-good, rule-faultless, compile-refusals}
@@ -40,7 +44,11 @@ scene-theorem st buffers book scene a h g r =
     (group-performs batch-limits h)
     (sceneOf book scene) buffers st (no-fault-good (sceneOf book scene) (r .no-fault)) (g .sound) refl (g .room)
 
--- part `buffer`: the requests in the output buffer are those of the compiling rule
+-- part `steps`: a step without a fault passes the compiler's test, which agrees with the step machine's rule
+steps-formed : (s : Step) → NoFault s ↔ (wellFormed s ≡ true)
+steps-formed s = (λ e. good-formed s .0 (eq-eqb (stepFault s) noFault e), λ f. eqb-true (stepFault s) noFault (good-formed s .1 f))
+
+-- part `buffer`: the requests in the output are those of the compiling rule
 pub buffer-theorem : BufferTheorem
 buffer-theorem st buffers book scene a h out g z =
     let f = compile-refusals book scene a h out .none .0 z in
@@ -48,6 +56,6 @@ buffer-theorem st buffers book scene a h out g z =
     subst (λ (rs : List (List ℕ)). MatchesMachine batchPcmd a buffers rs (sceneOf book scene) st) (sym back)
     (scene-theorem st buffers book scene a h g (f .1))
 
--- all three parts
+-- all four parts
 pub condition-3 : Condition3
-condition-3 = record { refusals = compile-refusals; requests = scene-theorem; buffer = buffer-theorem }
+condition-3 = record { refusals = compile-refusals; steps = steps-formed; requests = scene-theorem; buffer = buffer-theorem }

@@ -46,7 +46,10 @@ levelsAfter (a ∷ rest) st =
 
 -- set 15, +6, -10, -9, -100, +0
 abbrev pub sixLevels : List ℕ
-sixLevels = levelsAfter (powerRequest 0 15 ∷ powerRequest 1 6 ∷ powerRequest 2 10 ∷ powerRequest 2 9 ∷ powerRequest 2 100 ∷ powerRequest 1 0 ∷ []) (freshState 1 10)
+sixLevels =
+    levelsAfter (
+    powerRequest 0 15 ∷ powerRequest 1 6 ∷ powerRequest 2 10 ∷ powerRequest 2 9 ∷ powerRequest 2 100 ∷ powerRequest 1 0 ∷ []
+    ) (freshState 1 10)
 
 -- the ErrN of a set request for lamp 0 with these bytes after the bitmap
 abbrev pub setError : List ℕ → ℕ

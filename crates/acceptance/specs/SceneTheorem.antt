@@ -1,20 +1,21 @@
--- Condition 3 as one statement: `Condition3`, at the end of this file. It has three parts:
+-- Condition 3 as one statement: `Condition3`, at the end of this file. It has four parts:
 --   refusals  compiling is refused exactly for the faults that document 01 names, each with its own number
+--   steps     the steps without a fault are exactly those that the step machine executes, by a rule of its own
 --   requests  a node that handles the requests of a scene in order refuses none of them, reports no error for any entry in
 --             them, and ends in the state that the step machine ends in
---   buffer    the same holds for the requests that are read back from the output buffer of the compile call
+--   buffer    the same holds for the requests that are read back from the output of the compile call, in any buffer
 -- Proved in proofs/Scenes (`condition-3`). proofs/Instance gives a node and a book that meet all assumptions.
 --
 -- Sources: document 01, "Frames", "Scenes" and "Strength of the contracts". The statement is about what the contracts say that
--- the calls compute: `compileFor` and `requestsIn` (scene/specs/Call), `handleRequest` and `execute` (handler/specs/Request);
+-- the calls compute: `compileFor`, `outputOf` and `requestsIn` (scene/specs/Call), `handleRequest` and `execute` (handler/specs/Request);
 -- and about the rules of the book (`bookOk`, book/specs/Book), of a step (`stepFault`, book/specs/Step), of compiling
--- (`sceneRequests`, scene/specs/Compile) and of the step machine (`machine`, book/specs/Machine).
+-- (`sceneRequests`, scene/specs/Compile) and of the step machine (`wellFormed`, `machine`, book/specs/Machine).
 use Prim.Native.Nat.{ℕ, suc, _≤_, _<_}
 use mathlib.Core.Path.{_≡_}
 use mathlib.Core.Logic.{_⊎_, _↔_}
 use mathlib.Core.Bool.{true, false, cond}
 use mathlib.Core.List.{List, [], _∷_, _++_}
-use lib.ListN.{length}
+use lib.ListN.{length, drop}
 use lib.Dec.{eqb}
 use Rattle.dpa.specs.declared.settings.Settings.{Settings}
 use Rattle.dpa.specs.Lists.{overwriteFront, All}
@@ -25,9 +26,9 @@ use Rattle.handler.specs.Request.{State, SoundState, frameItem, noReport, batch
 use Rattle.book.specs.declared.step.Step.{Step}
 use Rattle.book.specs.Book.{sceneCount, bookOk, sceneOf}
 use Rattle.book.specs.Step.{noFault, stepFault}
-use Rattle.book.specs.Machine.{machine}
+use Rattle.book.specs.Machine.{wellFormed, machine}
 use Rattle.scene.specs.Compile.{sceneRequests}
-use Rattle.scene.specs.Call.{CompileResult, minOutput, requestsIn, compileFor}
+use Rattle.scene.specs.Call.{CompileResult, minOutput, requestsIn, outputOf, compileFor}
 
 -- ---- refusals
 
@@ -75,6 +76,8 @@ pub record Refusals (book : List ℕ) (scene a : ℕ) (out : List ℕ) (r : Comp
   pub other-step : ¬ (r .refusal ≡ 8) → r .step ≡ 0
   -- a refused call has no output and leaves the buffer unchanged
   pub unwritten : ¬ (r .refusal ≡ 0) → (r .length ≡ 0) × (r .buffer ≡ out)
+  -- the bytes of the buffer after the output are unchanged
+  pub later : drop (r .length) (r .buffer) ≡ drop (r .length) out
 
 -- ---- the requests of a scene, handled by a node
 
@@ -96,7 +99,8 @@ pub record Success (pcmd a : ℕ) (s : Settings) (request : List ℕ) (st : Stat
   pub entries : All (λ (e : ℕ). e ≡ 0) (execute (frameItem request) st .entries)
   -- the response is a header without PData, the later bytes of the buffer unchanged; a broadcast has no response
   pub length : handleRequest request st buffer .length ≡ cond (eqb a broadcastNadr) 0 responseHeaderSize
-  pub response : handleRequest request st buffer .response ≡ cond (eqb a broadcastNadr) buffer (overwriteFront (responseHeader s osPnum pcmd 0) buffer)
+  pub response : handleRequest request st buffer .response
+      ≡ cond (eqb a broadcastNadr) buffer (overwriteFront (responseHeader s osPnum pcmd 0) buffer)
   -- no report, and the request is addressed to this node
   pub report : handleRequest request st buffer .report ≡ noReport
   pub addressed : handleRequest request st buffer .addressed ≡ true
@@ -125,16 +129,17 @@ SceneTheorem =
     → Given st buffers a h → SceneRule book scene
     → MatchesMachine batchPcmd a buffers (sceneRequests a h (sceneOf book scene)) (sceneOf book scene) st
 
--- For the requests read back from the output buffer, after any compile call that is not refused.
+-- For the requests read back from the output of any compile call that is not refused.
 abbrev pub BufferTheorem : Type 0
 BufferTheorem =
     (st : State) (buffers : ℕ → List ℕ) (book : List ℕ) (scene a h : ℕ) (out : List ℕ)
     → Given st buffers a h → compileFor book scene a h out .refusal ≡ 0
-    → MatchesMachine batchPcmd a buffers (requestsIn (compileFor book scene a h out .buffer)) (sceneOf book scene) st
+    → MatchesMachine batchPcmd a buffers (requestsIn (outputOf (compileFor book scene a h out))) (sceneOf book scene) st
 
 -- ---- condition 3
 
 pub record Condition3 : Type 0 where
   pub refusals : (book : List ℕ) (scene a h : ℕ) (out : List ℕ) → Refusals book scene a out (compileFor book scene a h out)
+  pub steps : (s : Step) → NoFault s ↔ (wellFormed s ≡ true)
   pub requests : SceneTheorem
   pub buffer : BufferTheorem

@@ -101,6 +101,7 @@ pub fn run_scene(
     if compiled.refusal != refusal::NONE {
         return answer(compiled.refusal, compiled.step, node);
     }
-    let next = handle_output(node, out, eeprom, external);
+    let end = compiled.length;
+    let next = handle_output(node, &out[..end], eeprom, external);
     answer(refusal::NONE, 0, next)
 }

@@ -11,7 +11,7 @@ use Rattle.dpa.specs.Number.{wordAt}
 use Rattle.dpa.proofs.Bool.{and-left, and-right, by-cond}
 use Rattle.batch.specs.declared.entry.NextEntry.{NextEntry}
 use Rattle.batch.specs.declared.entry.NextEntry.the-variants.{Entry, Fault}
-use Rattle.batch.specs.Batch.{entryHead, closingZero, atEnd, shortReason, pastEndReason, unclosedReason, trailingReason, nextEntry, FaultAt, short, pastEnd, unclosed, trailing}
+use Rattle.batch.specs.Batch.{entryHeadSize, closingZero, atEnd, shortReason, pastEndReason, unclosedReason, trailingReason, nextEntry, FaultAt, short, pastEnd, unclosed, trailing}
 
 module _ (s : List ℕ) where
   -- one byte is the end if it is zero
@@ -48,28 +48,28 @@ module _ (s : List ℕ) (h : 0 < length s) where
   next-trailing z = simp (ne-eqb (length s) 0 (omega arith), eq-eqb (getD s 0 0) closingZero z)
 
   -- a length shorter than the head
-  pub next-short : 0 < getD s 0 0 → getD s 0 0 < entryHead → nextEntry s ≡ Fault shortReason 0
+  pub next-short : 0 < getD s 0 0 → getD s 0 0 < entryHeadSize → nextEntry s ≡ Fault shortReason 0
   unfolding nextEntry
   next-short p z =
-      simp (ne-eqb (length s) 0 (omega arith), ne-eqb (getD s 0 0) closingZero (omega arith), lt-ltb (getD s 0 0) entryHead z)
+      simp (ne-eqb (length s) 0 (omega arith), ne-eqb (getD s 0 0) closingZero (omega arith), lt-ltb (getD s 0 0) entryHeadSize z)
 
   -- a length past the end
-  pub next-past-end : entryHead ≤ getD s 0 0 → length s < getD s 0 0 → nextEntry s ≡ Fault pastEndReason 0
+  pub next-past-end : entryHeadSize ≤ getD s 0 0 → length s < getD s 0 0 → nextEntry s ≡ Fault pastEndReason 0
   unfolding nextEntry
   next-past-end p z =
-      simp (ne-eqb (length s) 0 (omega arith), ne-eqb (getD s 0 0) closingZero (omega arith), le-ltb (getD s 0 0) entryHead p, lt-ltb (length s) (getD s 0 0) z)
+      simp (ne-eqb (length s) 0 (omega arith), ne-eqb (getD s 0 0) closingZero (omega arith), le-ltb (getD s 0 0) entryHeadSize p, lt-ltb (length s) (getD s 0 0) z)
 
 -- a length from the head's size to the end: an entry
-pub next-complete : (s : List ℕ) → entryHead ≤ getD s 0 0 → getD s 0 0 ≤ length s
+pub next-complete : (s : List ℕ) → entryHeadSize ≤ getD s 0 0 → getD s 0 0 ≤ length s
     → nextEntry s ≡ Entry (getD s 0 0) (getD s 1 0) (getD s 2 0) (wordAt s 3)
 unfolding nextEntry
 next-complete s p z =
-    simp (ne-eqb (length s) 0 (omega arith), ne-eqb (getD s 0 0) closingZero (omega arith), le-ltb (getD s 0 0) entryHead p, le-ltb (length s) (getD s 0 0) z)
+    simp (ne-eqb (length s) 0 (omega arith), ne-eqb (getD s 0 0) closingZero (omega arith), le-ltb (getD s 0 0) entryHeadSize p, le-ltb (length s) (getD s 0 0) z)
 
 -- what each case says about the bytes; a fault is one only if the list is not at its end
 abbrev pub NextFacts : List ℕ → NextEntry → Type 0
 NextFacts s (Entry l p c h) =
-    (entryHead ≤ l) × (l ≤ length s) × (l ≡ getD s 0 0) × (p ≡ getD s 1 0) × (c ≡ getD s 2 0) × (h ≡ wordAt s 3)
+    (entryHeadSize ≤ l) × (l ≤ length s) × (l ≡ getD s 0 0) × (p ≡ getD s 1 0) × (c ≡ getD s 2 0) × (h ≡ wordAt s 3)
 NextFacts s (Fault r a) = atEnd s ≡ false → FaultAt s r a
 
 module _ (s : List ℕ) where
@@ -83,7 +83,7 @@ module _ (s : List ℕ) where
       let g = eqb-true (getD s 0 0) closingZero z in
       trailing refl (omega arith) (omega (arith, eqb-false (length s) 0 n, zero-not-at-end s o g)) g)
       λ z.
-      by-cond (NextFacts s) (ltb (getD s 0 0) entryHead) _ _
+      by-cond (NextFacts s) (ltb (getD s 0 0) entryHeadSize) _ _
       (λ p o. short refl (omega (arith, eqb-false (length s) 0 n)) (omega (arith, eqb-false (getD s 0 0) closingZero z)) (ltb-true _ _ p))
       λ p.
       by-cond (NextFacts s) (ltb (length s) (getD s 0 0)) _ _
@@ -96,7 +96,7 @@ module _ (s : List ℕ) where
   next-facts-of e = subst (NextFacts s) e next-facts
 
   -- an entry has at least its head and lies in the list
-  pub entry-sized : {l p c h : ℕ} → nextEntry s ≡ Entry l p c h → (entryHead ≤ l) × (l ≤ length s)
+  pub entry-sized : {l p c h : ℕ} → nextEntry s ≡ Entry l p c h → (entryHeadSize ≤ l) × (l ≤ length s)
   entry-sized e = let z = next-facts-of e in (z .0, z .1)
 
   -- an entry is not the end

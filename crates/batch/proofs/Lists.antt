@@ -13,7 +13,7 @@ use Rattle.batch.specs.declared.list.ListCheck.{ListCheck}
 use Rattle.batch.specs.declared.list.ListCheck.the-variants.{Sound, Broken}
 use Rattle.batch.specs.declared.entry.NextEntry.{NextEntry}
 use Rattle.batch.specs.declared.entry.NextEntry.the-variants.{Entry, Fault}
-use Rattle.batch.specs.Batch.{entryHead, atEnd, nextEntry, Reading, emptyReading, entryLength, shiftFault, faultOf, prependEntry, readingFrom, reading}
+use Rattle.batch.specs.Batch.{entryHeadSize, atEnd, nextEntry, Reading, emptyReading, entryLength, shiftFault, faultOf, prependEntry, readingFrom, reading}
 use Rattle.batch.proofs.Entries.{NextFacts, next-facts, next-unclosed, entry-sized, entry-not-at-end}
 
 -- reading from position k is reading the bytes from there
@@ -31,7 +31,7 @@ unfolding readingFrom
 reading-step [] = ap (λ (n : NextEntry). prependEntry n [] (reading (drop (entryLength n) []))) (sym (next-unclosed [] refl))
 reading-step (b ∷ s) = ap (cond (atEnd (b ∷ s)) (emptyReading Sound)) (at (nextEntry (b ∷ s)) (next-facts (b ∷ s)))
   where
-    after : (l : ℕ) → entryHead ≤ l → readingFrom s (l - 1) ≡ reading (drop l (b ∷ s))
+    after : (l : ℕ) → entryHeadSize ≤ l → readingFrom s (l - 1) ≡ reading (drop l (b ∷ s))
     after zero h = absurd (omega arith)
     after (suc l) h = rw (sub-one (suc l)) (reading-from-drop s l)
 
@@ -83,12 +83,12 @@ module _ (P : List ℕ → Reading → Type 0)
     (closed : (s : List ℕ) → atEnd s ≡ true → P s (emptyReading Sound))
     (entry : (s : List ℕ) (l p c h : ℕ) → nextEntry s ≡ Entry l p c h → P (drop l s) (reading (drop l s)) → P s (prependEntry (Entry l p c h) s (reading (drop l s))))
     (fault : (s : List ℕ) (k a : ℕ) → atEnd s ≡ false → nextEntry s ≡ Fault k a → P s (emptyReading (Broken k a))) where
-  at-next : (s : List ℕ) → ((l : ℕ) → entryHead ≤ l → l ≤ length s → P (drop l s) (reading (drop l s)))
+  at-next : (s : List ℕ) → ((l : ℕ) → entryHeadSize ≤ l → l ≤ length s → P (drop l s) (reading (drop l s)))
       → atEnd s ≡ false → (n : NextEntry) → nextEntry s ≡ n → P s (prependEntry n s (reading (drop (entryLength n) s)))
   at-next s ih o (Entry l p c h) e = entry s l p c h e (ih l (entry-sized s e .0) (entry-sized s e .1))
   at-next s ih o (Fault k a) e = fault s k a o e
 
-  at-list : (s : List ℕ) → ((l : ℕ) → entryHead ≤ l → l ≤ length s → P (drop l s) (reading (drop l s))) → P s (reading s)
+  at-list : (s : List ℕ) → ((l : ℕ) → entryHeadSize ≤ l → l ≤ length s → P (drop l s) (reading (drop l s))) → P s (reading s)
   at-list s ih =
       subst (P s) (sym (reading-step s))
       (by-cond (P s) (atEnd s) _ _ (closed s) (λ o. at-next s ih o (nextEntry s) refl))

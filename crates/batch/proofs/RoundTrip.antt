@@ -12,7 +12,7 @@ use Rattle.dpa.proofs.Numbers.{word-split, low-word, high-word, word-max}
 use Rattle.batch.specs.declared.entry.NextEntry.the-variants.{Entry}
 use Rattle.batch.specs.declared.list.ListCheck.{ListCheck}
 use Rattle.batch.specs.declared.list.ListCheck.the-variants.{Sound, Broken}
-use Rattle.batch.specs.Batch.{Item, item, entryHead, closingZero, entryBytes, entriesBytes, listBytes, Sendable, nextEntry, Reading, shiftFault, prependEntry, reading}
+use Rattle.batch.specs.Batch.{Item, item, entryHeadSize, closingZero, entryBytes, entriesBytes, listBytes, Sendable, nextEntry, Reading, shiftFault, prependEntry, reading}
 use Rattle.dpa.proofs.Bytes.{bytes-nil, bytes-cons, bytes-append, bytes-take, bytes-drop}
 use Rattle.batch.proofs.Entries.{NextFacts, at-end-zero, at-end-facts, next-complete, next-facts-of}
 use Rattle.batch.proofs.Lists.{reading-end, reading-entry, reading-fault, reading-induction}
@@ -22,27 +22,27 @@ use Rattle.batch.proofs.Faults.{broken-not-sound}
 
 module _ (i : Item) where
   -- an entry is its head and its PData
-  pub entry-length : length (entryBytes i) ≡ entryHead + length (i .pdata)
+  pub entry-length : length (entryBytes i) ≡ entryHeadSize + length (i .pdata)
   unfolding entryBytes
   entry-length = omega arith
 
   -- the bytes of an entry read as that entry, with any bytes after them
-  pub entry-first : (t : List ℕ) → nextEntry (entryBytes i ++ t) ≡ Entry (entryHead + length (i .pdata)) (i .pnum) (i .pcmd) (i .hwpid)
+  pub entry-first : (t : List ℕ) → nextEntry (entryBytes i ++ t) ≡ Entry (entryHeadSize + length (i .pdata)) (i .pnum) (i .pcmd) (i .hwpid)
   unfolding entryBytes
   entry-first t =
       next-complete (entryBytes i ++ t) (omega arith) (simp length-append (omega arith))
-      ∙ ap (Entry (entryHead + length (i .pdata)) (i .pnum) (i .pcmd)) (word-split (i .hwpid))
+      ∙ ap (Entry (entryHeadSize + length (i .pdata)) (i .pnum) (i .pcmd)) (word-split (i .hwpid))
 
   -- the entry is read, then the bytes after it
   pub entry-reading : (t : List ℕ)
-      → reading (entryBytes i ++ t) ≡ record { items = i ∷ (reading t) .items; check = shiftFault (entryHead + length (i .pdata)) ((reading t) .check) }
+      → reading (entryBytes i ++ t) ≡ record { items = i ∷ (reading t) .items; check = shiftFault (entryHeadSize + length (i .pdata)) ((reading t) .check) }
   unfolding entryBytes
   entry-reading t =
-      let n = entryHead + length (i .pdata) in
+      let n = entryHeadSize + length (i .pdata) in
       reading-entry (entryBytes i ++ t) (entry-first t)
       ∙ ap (λ (u : List ℕ). prependEntry (Entry n (i .pnum) (i .pcmd) (i .hwpid)) (entryBytes i ++ t) (reading u)) (drop-at (entryBytes i) t n entry-length)
       ∙ ap (λ (d : List ℕ). record { items = item (i .pnum) (i .pcmd) (i .hwpid) d ∷ (reading t) .items; check = shiftFault n ((reading t) .check) })
-      (ap (λ (k : ℕ). take k (i .pdata ++ t)) (add-sub-cancel-left entryHead (length (i .pdata))) ∙ take-append-seam (i .pdata) t)
+      (ap (λ (k : ℕ). take k (i .pdata ++ t)) (add-sub-cancel-left entryHeadSize (length (i .pdata))) ∙ take-append-seam (i .pdata) t)
 
 shift-zero : (x : ListCheck) → x ≡ shiftFault 0 x
 shift-zero Sound = refl
@@ -58,7 +58,7 @@ pub entries-reading : (is : List Item) (t : List ℕ)
 unfolding entriesBytes
 entries-reading [] t = ap (λ (x : ListCheck). record { items = (reading t) .items; check = x }) (shift-zero ((reading t) .check))
 entries-reading (i ∷ is) t =
-    let n = entryHead + length (i .pdata) in
+    let n = entryHeadSize + length (i .pdata) in
     let x = (reading t) .check in
     let k : n + length (entriesBytes is) ≡ length (entryBytes i ++ entriesBytes is) = sym (length-append (entryBytes i) (entriesBytes is) ∙ ap (λ (m : ℕ). m + length (entriesBytes is)) (entry-length i)) in
     ap reading (append-assoc (entryBytes i) (entriesBytes is) t)
@@ -99,7 +99,7 @@ list-bytes (i ∷ is) z =
 
 -- ---- read, then written
 
-head-bytes : (s : List ℕ) → entryHead ≤ length s → take entryHead s ≡ getD s 0 0 ∷ getD s 1 0 ∷ getD s 2 0 ∷ getD s 3 0 ∷ getD s 4 0 ∷ []
+head-bytes : (s : List ℕ) → entryHeadSize ≤ length s → take entryHeadSize s ≡ getD s 0 0 ∷ getD s 1 0 ∷ getD s 2 0 ∷ getD s 3 0 ∷ getD s 4 0 ∷ []
 head-bytes [] h = absurd (omega arith)
 head-bytes (a ∷ []) h = absurd (omega arith)
 head-bytes (a ∷ b ∷ []) h = absurd (omega arith)
@@ -116,24 +116,24 @@ module _ (s : List ℕ) {l p c h : ℕ} (by : Bytes s) (e : nextEntry s ≡ Entr
   facts : NextFacts s (Entry l p c h)
   facts = next-facts-of s e
 
-  pdata-length : length (slice s entryHead (l - entryHead)) ≡ l - entryHead
+  pdata-length : length (slice s entryHeadSize (l - entryHeadSize)) ≡ l - entryHeadSize
   pdata-length = let z = facts in simp (length-take, length-drop) (omega arith)
 
   -- an entry that was read is written as the bytes that it was read from
-  pub entry-written : entryBytes (item p c h (slice s entryHead (l - entryHead))) ≡ take l s
+  pub entry-written : entryBytes (item p c h (slice s entryHeadSize (l - entryHeadSize))) ≡ take l s
   unfolding entryBytes
   entry-written =
       let z = facts in
       let n = pdata-length in
-      let e0 : entryHead + length (slice s entryHead (l - entryHead)) ≡ getD s 0 0 = omega arith in
+      let e0 : entryHeadSize + length (slice s entryHeadSize (l - entryHeadSize)) ≡ getD s 0 0 = omega arith in
       let e3 : low h ≡ getD s 3 0 = ap low (z .5) ∙ low-word (getD s 3 0) (getD s 4 0) (by 3) in
       let e4 : high h ≡ getD s 4 0 = ap high (z .5) ∙ high-word (getD s 3 0) (getD s 4 0) (by 3) in
-      let el : entryHead + (l - entryHead) ≡ l = omega arith in
-      let t : take l s ≡ take entryHead s ++ slice s entryHead (l - entryHead) = ap (λ (k : ℕ). take k s) (sym el) ∙ take-add entryHead (l - entryHead) s in
+      let el : entryHeadSize + (l - entryHeadSize) ≡ l = omega arith in
+      let t : take l s ≡ take entryHeadSize s ++ slice s entryHeadSize (l - entryHeadSize) = ap (λ (k : ℕ). take k s) (sym el) ∙ take-add entryHeadSize (l - entryHeadSize) s in
       rw (e0, e3, e4, z .3, z .4, t, head-bytes s (omega arith))
 
   -- an entry that was read from bytes is sendable
-  pub entry-sendable : Sendable (item p c h (slice s entryHead (l - entryHead)))
+  pub entry-sendable : Sendable (item p c h (slice s entryHeadSize (l - entryHeadSize)))
   entry-sendable =
       let z = facts in
       let n = pdata-length in
@@ -145,7 +145,7 @@ module _ (s : List ℕ) {l p c h : ℕ} (by : Bytes s) (e : nextEntry s ≡ Entr
         pnum-byte = omega arith;
         pcmd-byte = omega arith;
         hwpid-word = omega arith;
-        pdata-bytes = bytes-take (l - entryHead) (drop entryHead s) (bytes-drop entryHead s by);
+        pdata-bytes = bytes-take (l - entryHeadSize) (drop entryHeadSize s) (bytes-drop entryHeadSize s by);
         size = omega arith;
       }
 
@@ -166,7 +166,7 @@ entries-then-rest =
     reading-induction (λ (s : List ℕ) (r : Reading). Bytes s → EntriesThenRest s r)
     (λ s o by. (refl, ap (λ (x : Reading). x .items) (reading-end s o)))
     (λ s l p c h e ih by.
-    let i = item p c h (slice s entryHead (l - entryHead)) in
+    let i = item p c h (slice s entryHeadSize (l - entryHeadSize)) in
     let es = entriesBytes ((reading (drop l s)) .items) in
     let z = ih (bytes-drop l s by) in
     let w = entry-written s by e in

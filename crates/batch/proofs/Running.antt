@@ -8,7 +8,7 @@ use Rattle.dpa.specs.Lists.{slice}
 use Rattle.dpa.proofs.Bool.{by-test}
 use Rattle.dpa.proofs.Lists.{slice-to-end}
 use Rattle.batch.specs.declared.entry.NextEntry.the-variants.{Entry, Fault}
-use Rattle.batch.specs.Batch.{entryHead, atEnd, nextEntry, Item, Reading, reading, item, runItems, errorsOf}
+use Rattle.batch.specs.Batch.{entryHeadSize, atEnd, nextEntry, Item, Reading, reading, item, runItems, errorsOf}
 use Rattle.batch.proofs.Lists.{reading-end, reading-entry, reading-fault}
 
 module _ {S : Type 0} (f : Item → S → S) (s : List ℕ) (st : S) where
@@ -26,7 +26,7 @@ module _ {S : Type 0} (f : Item → S → S) (s : List ℕ) (st : S) where
 
   -- the first entry runs, then the rest on the state that it left
   pub items-entry : {l p c h : ℕ} {m r : S} → nextEntry s ≡ Entry l p c h
-      → m ≡ f (item p c h (slice s entryHead (l - entryHead))) st
+      → m ≡ f (item p c h (slice s entryHeadSize (l - entryHeadSize))) st
       → r ≡ runItems f ((reading (slice s l (length s - l))) .items) m
       → r ≡ runItems f ((reading s) .items) st
   unfolding runItems

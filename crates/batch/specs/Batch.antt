@@ -25,8 +25,8 @@ abbrev pub item : ℕ → ℕ → ℕ → List ℕ → Item
 item p c h d = record { pnum = p; pcmd = c; hwpid = h; pdata = d }
 
 -- size of an entry's head: length, PNUM, PCMD and HWPID
-abbrev pub entryHead : ℕ
-entryHead = 5
+abbrev pub entryHeadSize : ℕ
+entryHeadSize = 5
 
 -- the byte that ends a list, in place of an entry's length
 abbrev pub closingZero : ℕ
@@ -34,7 +34,7 @@ closingZero = 0
 
 -- the head of an entry with `size` bytes of PData: the entry's length including this byte, PNUM, PCMD, HWPID
 abbrev pub headBytes : ℕ → ℕ → ℕ → ℕ → List ℕ
-headBytes size pnum pcmd hwpid = (entryHead + size) ∷ pnum ∷ pcmd ∷ low hwpid ∷ high hwpid ∷ []
+headBytes size pnum pcmd hwpid = (entryHeadSize + size) ∷ pnum ∷ pcmd ∷ low hwpid ∷ high hwpid ∷ []
 
 -- an entry: its head, then its PData
 unfoldable pub entryBytes : Item → List ℕ
@@ -54,7 +54,7 @@ pub record Sendable (i : Item) : Type 0 where
   pub pcmd-byte : i .pcmd < 256
   pub hwpid-word : i .hwpid < 65536
   pub pdata-bytes : Bytes (i .pdata)
-  pub size : entryHead + length (i .pdata) ≤ 255
+  pub size : entryHeadSize + length (i .pdata) ≤ 255
 
 -- ---- reading a list
 
@@ -85,7 +85,7 @@ unfoldable pub nextEntry : List ℕ → NextEntry
 nextEntry s =
     cond (eqb (length s) 0) (Fault unclosedReason 0)
     (cond (eqb (getD s 0 0) closingZero) (Fault trailingReason 1)
-    (cond (ltb (getD s 0 0) entryHead) (Fault shortReason 0)
+    (cond (ltb (getD s 0 0) entryHeadSize) (Fault shortReason 0)
     (cond (ltb (length s) (getD s 0 0)) (Fault pastEndReason 0)
     (Entry (getD s 0 0) (getD s 1 0) (getD s 2 0) (wordAt s 3)))))
 
@@ -122,7 +122,7 @@ faultOf (Fault r a) = Broken r a
 abbrev pub prependEntry : NextEntry → List ℕ → Reading → Reading
 prependEntry (Entry l p c h) s r =
     record {
-      items = item p c h (slice s entryHead (l - entryHead)) ∷ r .items;
+      items = item p c h (slice s entryHeadSize (l - entryHeadSize)) ∷ r .items;
       check = shiftFault l (r .check);
     }
 prependEntry (Fault k a) s r = emptyReading (faultOf (Fault k a))
@@ -145,8 +145,8 @@ listError (Broken r a) = nextEntryError (Fault r a)
 
 -- what reason r at position a says about the list s
 pub data FaultAt (s : List ℕ) (r a : ℕ) : Type 0 where
-  short : r ≡ shortReason → a < length s → 0 < getD s a 0 → getD s a 0 < entryHead → FaultAt s r a
-  pastEnd : r ≡ pastEndReason → a < length s → entryHead ≤ getD s a 0 → length s < a + getD s a 0 → FaultAt s r a
+  short : r ≡ shortReason → a < length s → 0 < getD s a 0 → getD s a 0 < entryHeadSize → FaultAt s r a
+  pastEnd : r ≡ pastEndReason → a < length s → entryHeadSize ≤ getD s a 0 → length s < a + getD s a 0 → FaultAt s r a
   unclosed : r ≡ unclosedReason → a ≡ length s → FaultAt s r a
   trailing : r ≡ trailingReason → 0 < a → a < length s → getD s (a - 1) 0 ≡ closingZero → FaultAt s r a
 

@@ -6,13 +6,13 @@ ghost use mathlib.Core.Path.{_≡_};
 ghost use Rattle.batch.specs.Batch.{atEnd, nextEntry};
 
 // Size of an entry's head: length, PNUM, PCMD and HWPID.
-pub const HEAD: usize = 5;
+pub const HEAD_SIZE: usize = 5;
 
 // The byte that ends a list, in place of an entry's length.
 pub const CLOSING_ZERO: u8 = 0;
 
 pub enum NextEntry {
-    // An entry of len bytes; its PData starts at HEAD.
+    // An entry of len bytes; its PData starts at HEAD_SIZE.
     Entry {
         len: usize,
         pnum: u8,
@@ -53,7 +53,7 @@ pub fn next_entry(s: &[u8]) -> NextEntry
         };
     }
     let len = wide(s[0]);
-    if len < HEAD {
+    if len < HEAD_SIZE {
         return NextEntry::Fault {
             reason: fault::SHORT,
             at: 0,

@@ -1,8 +1,8 @@
 -- What the functions that write an entry require, and the bytes before its PData.
 use mathlib.Core.Bool.{true}
-use mathlib.Core.List.{List, _∷_, []}
+use mathlib.Core.List.{List}
 use mathlib.Core.Path.{_≡_}
-use Prim.Native.Nat.{ℕ, _+_, _^_, _≤_, _<_}
+use Prim.Native.Nat.{ℕ, _^_, _≤_, _<_}
 use Rattle.batch.specs.Batch.{headBytes}
 use Rattle.lights.specs.Lamp.{maxLevel}
 use Rattle.dpa.specs.Settings.{maxLamps}

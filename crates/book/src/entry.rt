@@ -7,7 +7,7 @@ use crate::power::write_powers;
 use crate::step::STEP_LENGTH;
 use crate::step::step_at;
 use crate::write::write_bytes;
-use batch::entry::HEAD;
+use batch::entry::HEAD_SIZE;
 use dpa::pnum;
 use memory::block::Memory;
 use memory::block::write_command;
@@ -16,7 +16,7 @@ ghost use Prim.Native.Nat.{_+_, _*_, _≤_, _<_};
 ghost use lib.ListN.{length, drop};
 ghost use lib.Seq.{sets};
 ghost use Rattle.dpa.specs.Frame.{pdataMax};
-ghost use Rattle.batch.specs.Batch.{entryBytes, entryHead};
+ghost use Rattle.batch.specs.Batch.{entryBytes, entryHeadSize};
 ghost use Rattle.book.specs.Book.{stepsMax, stepLength, stepsIn};
 ghost use Rattle.book.specs.Entry.{values, groupData, pnumOf, pcmdOf, joinedItem};
 ghost use Rattle.book.specs.Writing.{EntryWritable, entryHeadBytes};
@@ -65,11 +65,11 @@ fn pcmd_of(kind: u8) -> u8
 
 // Writes the bytes of an entry before its PData; returns the position after them.
 fn write_head(kind: u8, hwpid: u16, size: usize, out: &mut [u8], at: usize) -> usize
-    requires { ⌜ (at + entryHead ≤ length (now out)) × (size ≤ pdataMax) ⌝ }
-    ensures { λ r. ⌜ (r ≡ at + entryHead) × (now (out .exit) ≡ sets (now (out .entry)) at (entryHeadBytes kind hwpid size)) ⌝ }
+    requires { ⌜ (at + entryHeadSize ≤ length (now out)) × (size ≤ pdataMax) ⌝ }
+    ensures { λ r. ⌜ (r ≡ at + entryHeadSize) × (now (out .exit) ≡ sets (now (out .entry)) at (entryHeadBytes kind hwpid size)) ⌝ }
 {
     let head = [
-        (HEAD + size) as u8,
+        (HEAD_SIZE + size) as u8,
         pnum_of(kind),
         pcmd_of(kind),
         (hwpid % 256) as u8,
@@ -106,8 +106,8 @@ fn write_entry(
     at: usize,
 ) -> usize
     requires { ⌜ (stepLength * count ≤ length (now body)) × (0 < count) × (count ≤ stepsMax) × (size ≤ pdataMax)
-        × (size ≡ length (groupData (stepsIn count (now body)))) × (at + entryHead + size ≤ length (now out)) × EntryWritable (now body) count ⌝ }
-    ensures { λ r. ⌜ (r ≡ at + entryHead + size)
+        × (size ≡ length (groupData (stepsIn count (now body)))) × (at + entryHeadSize + size ≤ length (now out)) × EntryWritable (now body) count ⌝ }
+    ensures { λ r. ⌜ (r ≡ at + entryHeadSize + size)
         × (now (out .exit) ≡ sets (now (out .entry)) at (entryBytes (joinedItem hwpid (stepsIn count (now (body .entry)))))) ⌝ }
 {
     let step = step_at(body, 0);
@@ -126,9 +126,9 @@ pub fn write_entry_at(
     at: usize,
 ) -> usize
     requires { ⌜ (stepLength * (first + steps) ≤ length (now body)) × (0 < steps) × (first + steps ≤ stepsMax) × (size ≤ pdataMax)
-        × (size ≡ length (groupData (stepsIn steps (drop (stepLength * first) (now body))))) × (at + entryHead + size ≤ length (now out))
+        × (size ≡ length (groupData (stepsIn steps (drop (stepLength * first) (now body))))) × (at + entryHeadSize + size ≤ length (now out))
         × EntryWritable (drop (stepLength * first) (now body)) steps ⌝ }
-    ensures { λ r. ⌜ (r ≡ at + entryHead + size)
+    ensures { λ r. ⌜ (r ≡ at + entryHeadSize + size)
         × (now (out .exit) ≡ sets (now (out .entry)) at (entryBytes (joinedItem hwpid (stepsIn steps (drop (stepLength * first) (now (body .entry))))))) ⌝ }
 {
     let start = STEP_LENGTH * first;

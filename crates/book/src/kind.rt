@@ -1,12 +1,6 @@
-// Step kinds.
+// Step kinds. Those below WRITE_RAM set, raise or lower a lamp; they have the numbers of the lights commands.
 ghost use mathlib.Core.Path.{_≡_};
 ghost use Rattle.book.specs.Step.{isLamp};
-
-pub const SET: u8 = 0;
-
-pub const RAISE: u8 = 1;
-
-pub const LOWER: u8 = 2;
 
 pub const WRITE_RAM: u8 = 3;
 

@@ -71,7 +71,7 @@ impl Frame {
 }
 
 // Writes the eight header bytes of a response to the front of its buffer.
-pub fn write_header(response: &mut [u8], settings: Settings, pnum: u8, pcmd: u8, error: u8)
+pub fn write_response_header(response: &mut [u8], settings: Settings, pnum: u8, pcmd: u8, error: u8)
     requires { ⌜ responseHeaderSize ≤ length (now response) ⌝ }
     ensures { λ _. ⌜ now (response .exit) ≡ responseHeader settings pnum pcmd error ++ drop responseHeaderSize (now (response .entry)) ⌝ }
 {

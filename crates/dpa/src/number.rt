@@ -1,5 +1,5 @@
-// Two-byte numbers, low byte first, and conversions to usize. They are functions, because a contract spares each caller the
-// proof that the cast keeps the value.
+// Two-byte numbers, low byte first, and conversions to usize. The conversions are functions, so that their contracts spare
+// each caller a proof that the cast keeps the value.
 ghost use mathlib.Core.Path.{_≡_};
 ghost use Prim.Native.Nat.{_+_, _*_, _<_};
 ghost use Rattle.dpa.specs.Number.{word};

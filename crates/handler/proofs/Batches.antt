@@ -9,7 +9,7 @@ use lib.Seq.{drop-drop}
 use Rattle.dpa.specs.Lists.{slice}
 use Rattle.dpa.proofs.Lists.{slice-to-end}
 use Rattle.batch.specs.declared.entry.NextEntry.the-variants.{Entry, Fault}
-use Rattle.batch.specs.Batch.{entryHead, atEnd, nextEntry, item, reading, runItems}
+use Rattle.batch.specs.Batch.{entryHeadSize, atEnd, nextEntry, item, reading, runItems}
 use Rattle.batch.proofs.Entries.{entry-sized}
 use Rattle.batch.proofs.Running.{items-end, items-fault, items-entry}
 use Rattle.handler.specs.Request.{State, SoundState, entryAfter}
@@ -37,7 +37,7 @@ module _ (list : List ℕ) (old : State) (at : ℕ) (st : State) (h : PartlyRun 
   remaining-is = slice-to-end at list
 
   -- an entry lies in the list
-  pub entry-in-list : {l p c w : ℕ} → nextEntry remaining ≡ Entry l p c w → (entryHead ≤ l) × (at + l ≤ length list)
+  pub entry-in-list : {l p c w : ℕ} → nextEntry remaining ≡ Entry l p c w → (entryHeadSize ≤ l) × (at + l ≤ length list)
   entry-in-list e =
       let z = entry-sized (drop at list) (ap nextEntry (sym remaining-is) ∙ e) in
       let n : length (drop at list) ≡ length list - at = length-drop at list in
@@ -46,14 +46,14 @@ module _ (list : List ℕ) (old : State) (at : ℕ) (st : State) (h : PartlyRun 
 
   -- after one more entry
   pub entry-runs : {l p c w : ℕ} {next : State} → nextEntry remaining ≡ Entry l p c w
-      → next ≡ entryAfter (item p c w (take ((at + l) - (at + entryHead)) (drop (at + entryHead) list))) st
+      → next ≡ entryAfter (item p c w (take ((at + l) - (at + entryHeadSize)) (drop (at + entryHeadSize) list))) st
       → PartlyRun list old (at + l) next
   entry-runs {l} {p} {c} {w} {next} e q =
-      let d : (at + l) - (at + entryHead) ≡ l - entryHead = omega arith in
-      let i : take ((at + l) - (at + entryHead)) (drop (at + entryHead) list) ≡ slice (drop at list) entryHead (l - entryHead) = rw (d, drop-drop) refl in
+      let d : (at + l) - (at + entryHeadSize) ≡ l - entryHeadSize = omega arith in
+      let i : take ((at + l) - (at + entryHeadSize)) (drop (at + entryHeadSize) list) ≡ slice (drop at list) entryHeadSize (l - entryHeadSize) = rw (d, drop-drop) refl in
       record {
         position-max = entry-in-list e .1;
-        sound = subst SoundState (sym q) (entry-sound (item p c w (take ((at + l) - (at + entryHead)) (drop (at + entryHead) list))) st (h .sound));
+        sound = subst SoundState (sym q) (entry-sound (item p c w (take ((at + l) - (at + entryHeadSize)) (drop (at + entryHeadSize) list))) st (h .sound));
         rest =
             ap (λ (s : List ℕ). listAfter s next) (sym (drop-drop l at list) ∙ sym (slice-to-end l (drop at list)))
             ∙ items-entry entryAfter (drop at list) st (ap nextEntry (sym remaining-is) ∙ e) (q ∙ ap (λ (s : List ℕ). entryAfter (item p c w s) st) i) refl

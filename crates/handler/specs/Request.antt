@@ -184,11 +184,13 @@ pub record CallResult : Type 0 where
 
 -- refused, or addressed to another node: nothing changes
 abbrev pub unhandledResult : State → ℕ → List ℕ → CallResult
-unhandledResult st refusal buffer = record { after = st; refusal = refusal; length = 0; report = noReport; addressed = false; response = buffer }
+unhandledResult st refusal buffer =
+    record { after = st; refusal = refusal; length = 0; report = noReport; addressed = false; response = buffer }
 
 -- a broadcast is executed without a response
 abbrev pub broadcastResult : Outcome → List ℕ → CallResult
-broadcastResult done buffer = record { after = done .after; refusal = 0; length = 0; report = done .report; addressed = true; response = buffer }
+broadcastResult done buffer =
+    record { after = done .after; refusal = 0; length = 0; report = done .report; addressed = true; response = buffer }
 
 -- a request to this node gets a response: header and data at the front of the buffer, whose later bytes stay
 abbrev pub unicastResult : Settings → Item → Outcome → List ℕ → CallResult
@@ -206,7 +208,8 @@ unicastResult settings i done buffer =
 unfoldable pub handleFrame : List ℕ → State → List ℕ → CallResult
 handleFrame frame st buffer =
     cond (eqb (headerOf frame .nadr) broadcastNadr) (broadcastResult (execute (frameItem frame) st) buffer)
-    (cond (eqb (headerOf frame .nadr) (st .node .settings .address)) (unicastResult (st .node .settings) (frameItem frame) (execute (frameItem frame) st) buffer)
+    (cond (eqb (headerOf frame .nadr) (st .node .settings .address))
+    (unicastResult (st .node .settings) (frameItem frame) (execute (frameItem frame) st) buffer)
     (unhandledResult st 0 buffer))
 
 -- The refusal, from the node and the lengths of the frame, the memories and the response buffer, in this order:

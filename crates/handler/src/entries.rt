@@ -1,7 +1,7 @@
 // Runs the entries of a batch in order.
 use crate::hwpid::hwpid_matches;
 use crate::peripheral::peripheral;
-use batch::entry::HEAD;
+use batch::entry::HEAD_SIZE;
 use batch::entry::NextEntry;
 use batch::entry::at_end;
 use batch::entry::next_entry;
@@ -78,7 +78,7 @@ pub fn run_list(
             pnum,
             pcmd,
             hwpid,
-            &list[at + HEAD..at + len],
+            &list[at + HEAD_SIZE..at + len],
             ram,
             eeprom,
             external,

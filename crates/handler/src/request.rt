@@ -11,7 +11,7 @@ use crate::reply::peripheral_reply;
 use crate::reply::without_data;
 use dpa::error;
 use dpa::frame::Frame;
-use dpa::frame::write_header;
+use dpa::frame::write_response_header;
 use dpa::pnum;
 use dpa::refusal;
 use lights::lamp::LAMPS;
@@ -129,7 +129,7 @@ fn handle_unicast(
         external,
         &mut response[Frame::RESPONSE_HEADER..],
     );
-    write_header(
+    write_response_header(
         response,
         fixed.settings,
         header.pnum,

@@ -35,7 +35,8 @@ viewBytes eeprom external pnum start n =
 abbrev pub placeIn : RefT (List ℕ) → ℕ → ℕ × ℕ
 placeIn bytes start = (ptr bytes .0, start + ptr bytes .1)
 
--- where the returned slice starts: in the memory that the PNUM selects, even if the slice is empty; at the start of EEPROM if the view is refused
+-- where the returned slice starts: in the memory that the PNUM selects, even if the slice is empty; at the start of EEPROM if the
+-- view is refused
 unfoldable pub viewPlace : RefT (List ℕ) → RefT (List ℕ) → ℕ → ℕ → ℕ → ℕ × ℕ
 viewPlace eeprom external pnum start n =
     cond (eqb (viewStatus (now eeprom) (now external) pnum start n) 0)

@@ -1,5 +1,5 @@
 -- The output of the compile call: the requests can be read back from it, and it fits its buffer; when it is written.
-use mathlib.Core.List.{List, [], _∷_, _++_, append-assoc}
+use mathlib.Core.List.{List, [], _∷_}
 use mathlib.Core.Path.{_≡_, refl, ap, _∙_}
 use mathlib.Core.Bool.{true, not}
 use mathlib.Core.Option.{Option, none, some}
@@ -23,7 +23,7 @@ use Rattle.book.proofs.Faults.{Good}
 use Rattle.book.proofs.Groups.{length-group}
 use Rattle.scene.specs.declared.fill.SizeLimits.{SizeLimits}
 use Rattle.scene.specs.Compile.{Limits, fitsBatch, batchesOf, requestWith, sceneRequests}
-use Rattle.scene.specs.Call.{lengths, output, splitBy, requestsIn, minOutput, CompileResult, outputInBuffer, addressOk, compileSteps, compileScene, compileFor}
+use Rattle.scene.specs.Call.{lengths, output, splitBy, requestsIn, minOutput, CompileResult, outputOf, outputInBuffer, addressOk, compileSteps, compileScene, compileFor}
 use Rattle.scene.specs.Fill.{requestsWith}
 use Rattle.scene.proofs.Sizes.{FrameSized, requests-fit}
 
@@ -34,21 +34,16 @@ pub lengths-length : (rs : List (List ℕ)) → length (lengths rs) ≡ length r
 lengths-length [] = refl
 lengths-length (r ∷ rs) = ap suc (lengths-length rs)
 
-split-back : (rs : List (List ℕ)) (t : List ℕ) → splitBy (lengths rs) (concat rs ++ t) ≡ rs
-split-back [] t = refl
-split-back (r ∷ rs) t =
-    rw (append-assoc r (concat rs) t, take-append-seam r (concat rs ++ t), drop-append-seam r (concat rs ++ t), split-back rs t)
+split-back : (rs : List (List ℕ)) → splitBy (lengths rs) (concat rs) ≡ rs
+split-back [] = refl
+split-back (r ∷ rs) = rw (take-append-seam r (concat rs), drop-append-seam r (concat rs), split-back rs)
 
--- an output is read back as its requests; bytes after it make no difference
-pub requests-back : (rs : List (List ℕ)) (t : List ℕ) → requestsIn (output rs ++ t) ≡ rs
+-- an output is read back as its requests
+pub requests-back : (rs : List (List ℕ)) → requestsIn (output rs) ≡ rs
 unfolding requestsIn
-requests-back rs t =
-    rw (
-      append-assoc (lengths rs) (concat rs) t,
-      take-at (lengths rs) (concat rs ++ t) (length rs) (lengths-length rs),
-      drop-at (lengths rs) (concat rs ++ t) (length rs) (lengths-length rs),
-    )
-    (split-back rs t)
+requests-back rs =
+    rw (take-at (lengths rs) (concat rs) (length rs) (lengths-length rs), drop-at (lengths rs) (concat rs) (length rs) (lengths-length rs))
+    (split-back rs)
 
 -- ---- the output fits its buffer
 
@@ -120,12 +115,15 @@ module _ (b : List ℕ) (k a h : ℕ) (out : List ℕ) where
   compile-refused =
       by-cond (Unwritten b k (sceneRequests a h) out) (not (addressOk a)) _ _ (λ _ _. (refl, refl)) (λ _. scene-unwritten b k (sceneRequests a h) out)
 
-  -- and the requests are read back from the buffer
+  -- the requests are read back from the output
   pub buffer-back : addressOk a ≡ true → minOutput ≤ length out → Faultless b k
-      → requestsIn (compileFor b k a h out .buffer) ≡ sceneRequests a h (sceneOf b k)
+      → requestsIn (outputOf (compileFor b k a h out)) ≡ sceneRequests a h (sceneOf b k)
   buffer-back ad room f =
       let rs = sceneRequests a h (sceneOf b k) in
-      ap (λ (r : CompileResult). requestsIn (r .buffer)) (compile-written ad room f) ∙ requests-back rs (drop (length (output rs)) out)
+      let o = output rs in
+      ap (λ (r : CompileResult). requestsIn (outputOf r)) (compile-written ad room f)
+      ∙ ap requestsIn (take-append-seam o (drop (length o) out))
+      ∙ requests-back rs
 
 -- the result of a call that wrote the output from byte 0 on
 pub result-written : (o out out′ : List ℕ) (used : ℕ) → used ≡ length o → out′ ≡ sets out 0 o → length o ≤ length out

@@ -5,7 +5,7 @@ use Prim.Native.Nat.{ℕ, suc, _+_, _≤_}
 use native.Mathlib.Omega.{arith}
 use lib.ListN.{length, take, drop, set, length-append, length-drop, drop-of-length-le}
 use lib.Seq.{sets, length-sets, set-comm}
-use Rattle.batch.specs.Batch.{entryHead, entryBytes}
+use Rattle.batch.specs.Batch.{entryHeadSize, entryBytes}
 use Rattle.batch.proofs.RoundTrip.{entry-length}
 use Rattle.dpa.specs.declared.frame.Frame.{Frame}
 use Rattle.book.specs.declared.step.Step.{Step}
@@ -126,7 +126,7 @@ module _ {entryMax listMax : ℕ} {front : List ℕ} (l : Limits entryMax listMa
 
     module _ (out′ : List ℕ) (w′ : ℕ) (eo : out′ ≡ sets out w separator) (ew : w′ ≡ w + length separator) where
       -- and so has the entry
-      pub entry-room : at + length (remainingBytes listMax prefix h emptyListSize (entriesOf entryMax ss)) ≤ length old → w′ + entryHead + sz ≤ length out′
+      pub entry-room : at + length (remainingBytes listMax prefix h emptyListSize (entriesOf entryMax ss)) ≤ length old → w′ + entryHeadSize + sz ≤ length out′
       entry-room c =
           let x = remaining-more old at _ out w _ (o .rest) separator (entry ++ laterBytes) out′ w′ (bytes-next entryMax listMax ss step k sz f prefix h size) eo ew in
           omega (
@@ -137,7 +137,7 @@ module _ {entryMax listMax : ℕ} {front : List ℕ} (l : Limits entryMax listMa
           )
 
       -- after both the loop goes on
-      pub bytes-more : (out″ : List ℕ) (w″ size′ : ℕ) → out″ ≡ sets out′ w′ entry → w″ ≡ w′ + entryHead + sz → size′ ≡ nextSize listMax size sz
+      pub bytes-more : (out″ : List ℕ) (w″ size′ : ℕ) → out″ ≡ sets out′ w′ entry → w″ ≡ w′ + entryHeadSize + sz → size′ ≡ nextSize listMax size sz
           → Progress entryMax listMax (remainingBytes listMax prefix h) ss old at (step + k) size′ out″ w″
       bytes-more out″ w″ size′ fo fw =
           let n : w″ ≡ w′ + length entry = omega (arith, entry-length (joinedItem h (take k (drop step ss))), f .fits) in

@@ -52,6 +52,10 @@ pub record CompileResult : Type 0 where
 abbrev pub compileResult : CompileAnswer → List ℕ → CompileResult
 compileResult r out = record { refusal = r .refusal; step = r .step; length = r .length; buffer = out }
 
+-- the output of a call: the first `length` bytes of the buffer
+abbrev pub outputOf : CompileResult → List ℕ
+outputOf r = take (r .length) (r .buffer)
+
 -- refused with this number and this step: nothing is written
 abbrev pub refusedWith : ℕ → ℕ → List ℕ → CompileResult
 refusedWith r s out = record { refusal = r; step = s; length = 0; buffer = out }

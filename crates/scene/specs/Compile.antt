@@ -7,7 +7,7 @@ use lib.ListN.{length}
 use Rattle.dpa.specs.declared.frame.Frame.{Frame}
 use Rattle.dpa.specs.Frame.{pdataMax, frame, headerBytes}
 use Rattle.dpa.specs.Pnum.{osPnum}
-use Rattle.batch.specs.Batch.{Item, entryHead, listBytes}
+use Rattle.batch.specs.Batch.{Item, entryHeadSize, listBytes}
 use Rattle.handler.specs.Request.{batchPcmd}
 use Rattle.book.specs.declared.step.Step.{Step}
 use Rattle.book.specs.Entry.{joinedItem}
@@ -27,7 +27,7 @@ listOf h groups = listBytes (joinedItems h groups)
 
 -- size of an entry with `pdata` bytes of PData
 abbrev pub entrySize : ℕ → ℕ
-entrySize pdata = entryHead + pdata
+entrySize pdata = entryHeadSize + pdata
 
 -- size of a list without entries: its closing zero
 abbrev pub emptyListSize : ℕ

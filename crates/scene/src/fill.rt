@@ -1,5 +1,5 @@
 // Fills entries into lists: the first pass, which writes the length bytes of the requests.
-use batch::entry::HEAD;
+use batch::entry::HEAD_SIZE;
 use book::join::entry_from;
 use book::step::STEPS_MAX;
 use dpa::frame::Frame;
@@ -50,7 +50,7 @@ fn next_length(
     ensures { λ r. ⌜ (r .at ≡ at + length (lengthByteIfFull limit prefix size pdata)) × (r .size ≡ nextSize limit size pdata)
         × (now (out .exit) ≡ sets (now (out .entry)) at (lengthByteIfFull limit prefix size pdata)) ⌝ }
 {
-    let entry = HEAD + pdata;
+    let entry = HEAD_SIZE + pdata;
     if size + entry <= limit {
         return OpenList {
             at,

@@ -6,7 +6,7 @@ use crate::fill::SPAN_LENGTH;
 use crate::fill::SizeLimits;
 use crate::fill::write_lengths;
 use batch::entry::CLOSING_ZERO;
-use batch::entry::HEAD;
+use batch::entry::HEAD_SIZE;
 use book::entry::write_entry_at;
 use book::write::write_bytes;
 use dpa::frame::Frame;
@@ -51,7 +51,7 @@ fn next_list(
         × (r .size ≡ nextSize limit size pdata)
         × (now (out .exit) ≡ sets (now (out .entry)) at (separatorBytes limit (headerBytes header ++ now (front .entry)) size pdata)) ⌝ }
 {
-    let entry = HEAD + pdata;
+    let entry = HEAD_SIZE + pdata;
     if size + entry <= limit {
         return OpenList {
             at,

@@ -69,7 +69,7 @@ fn run_book(book: &[u8]) {
     print_lamps(answer.node);
 }
 
-// A longer input is read by one byte more than a book can have, and refused.
+// Reads up to one byte more than the longest book has, so that a longer input is noticed and refused.
 fn main() {
     let mut book = [0u8; LONGEST_BOOK + 1];
     let n = io::read_full(STDIN_FILENO, &mut book);

@@ -4,6 +4,7 @@ use mathlib.Core.Path.{_≡_, ap, sym, _∙_}
 use borrow.Author.Tests.{not-true, not-false}
 use mathlib.Core.Bool.{true}
 use lib.ListN.{length}
+use lib.Seq.{length-take-le}
 use Rattle.memory.specs.declared.block.Memory.the-variants.{Eeprom}
 use Rattle.memory.specs.Block.{sizeOf}
 use Rattle.node.specs.Node.{nodeOk}
@@ -11,7 +12,7 @@ use Rattle.handler.specs.Request.{State, SoundState, state}
 use Rattle.scene.specs.Call.{compileResult}
 use Rattle.acceptance.specs.declared.run.SceneAnswer.{SceneAnswer}
 use Rattle.acceptance.specs.RunScene.{sceneResult}
-use Rattle.acceptance.proofs.Running.{Compiled, run-unsound, run-eeprom, run-external, run-refused, run-complete, run-done}
+use Rattle.acceptance.proofs.Running.{Compiled, run-unsound, run-eeprom, run-external, run-refused, run-inside, run-complete, run-done}
 use Rattle.acceptance.proofs.run.run_scene.Statement.{statement}
 use Rattle.acceptance.proofs.run.run_scene.Tie as tie
 
@@ -81,6 +82,13 @@ returns-4 c =
     ap (λ (r : SceneAnswer). sceneResult r (a .eeprom .now) (a .external .now) (k .compile .last .1 .1 .1 .1 .0)) (c .answer4 .ensures)
     ∙ run-refused (compiled k) (c .before .if4 .taken)
 
+-- the output is inside the buffer
+slice-reshare-prefix-handle-output : tie.Need-slice-reshare-prefix-handle-output
+slice-reshare-prefix-handle-output c = run-inside (compiled (compile-call c)) (c .if4 .left)
+
+slice-aggregate-handle-output : tie.Need-slice-aggregate-handle-output
+slice-aggregate-handle-output c = sym (length-take-le _ _ (slice-reshare-prefix-handle-output (c .before)))
+
 handle-output-requires : tie.Need-handle-output-requires
 handle-output-requires c κs =
     let e = c .before .before .before in
@@ -98,5 +106,5 @@ pub run-scene-spec : {M : Type 1} → statement M
 run-scene-spec =
     tie.close (tie.spec (λ c κs. search needs) (λ c κs. search needs) returns (λ c κs. search needs)
     (λ c κs. search needs) returns-2 (λ c κs. search needs) (λ c κs. search needs) returns-3 (λ c κs. search needs)
-    (λ c κs. search needs) (λ c. search needs) returns-4 handle-output-requires (λ c κs. search needs) (λ c. search needs)
+    (λ c κs. search needs) (λ c. search needs) returns-4 slice-reshare-prefix-handle-output slice-aggregate-handle-output handle-output-requires (λ c κs. search needs) (λ c. search needs)
     (λ c. search needs) (λ c. search needs) returns-5)

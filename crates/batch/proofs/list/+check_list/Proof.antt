@@ -7,7 +7,7 @@ use Prim.Native.Nat.{ℕ, _<_, _≤_, _-_}
 use lib.ListN.{length, length-drop, length-take}
 use Rattle.dpa.specs.Lists.{slice}
 use Rattle.batch.specs.declared.entry.NextEntry.the-variants.{Entry}
-use Rattle.batch.specs.Batch.{entryHead, nextEntry, shiftFault}
+use Rattle.batch.specs.Batch.{entryHeadSize, nextEntry, shiftFault}
 use Rattle.batch.proofs.Entries.{entry-sized}
 use Rattle.batch.proofs.Lists.{check-end, check-fault, check-entry}
 use Rattle.batch.proofs.Faults.{broken-fault, position-max}
@@ -53,7 +53,7 @@ first-entry-is : (t : ℕ) (c : AfterFirst t)
 first-entry-is t c = sym (c .before .before .next-entry .ensures) ∙ c .first .given .1
 
 -- which lies in the list
-sized : (t : ℕ) (c : AfterFirst t) → (entryHead ≤ c .first .given .0 .0) × (c .first .given .0 .0 ≤ length (list t c))
+sized : (t : ℕ) (c : AfterFirst t) → (entryHeadSize ≤ c .first .given .0 .0) × (c .first .given .0 .0 ≤ length (list t c))
 sized t c = entry-sized _ (first-entry-is t c)
 
 check-list-returns : (t : ℕ) → check-list-lts.Need-returns (calls t) (check-list-at t) check-list.Post

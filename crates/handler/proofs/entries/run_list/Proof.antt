@@ -7,7 +7,7 @@ use mathlib.Core.List.{List}
 use Prim.Native.Nat.{ℕ, _-_, _+_, _≤_}
 use lib.ListN.{length, take, drop}
 use Rattle.batch.specs.declared.entry.NextEntry.the-variants.{Entry}
-use Rattle.batch.specs.Batch.{entryHead, nextEntry}
+use Rattle.batch.specs.Batch.{entryHeadSize, nextEntry}
 use Rattle.handler.specs.Seen.{stateFromParts}
 use Rattle.handler.proofs.Batches.{PartlyRun, run-starts, run-ends, entry-in-list, entry-runs, fault-ends}
 use Rattle.handler.proofs.entries.run_list.Statement.{statement}
@@ -53,7 +53,7 @@ abbrev read : tie.After-run-entry Inv-loop μ-loop → tie.After-known-told Inv-
 read c = c .before .before .before .before .before
 
 -- it lies in the list
-sized : (c : tie.After-known-told Inv-loop μ-loop) → (entryHead ≤ len c) × (position c + len c ≤ length (list c))
+sized : (c : tie.After-known-told Inv-loop μ-loop) → (entryHeadSize ≤ len c) × (position c + len c ≤ length (list c))
 sized c = entry-in-list _ _ _ _ (turn c .loop .inv .0) (first-entry-is c)
 
 loop-holds : tie.Need-loop-holds Inv-loop μ-loop

@@ -24,7 +24,7 @@ abbrev start : tie.After-execute → tie.Start
 start c = c .before .before .before .before .before .before .before .before .before .before
 
 -- the call of `execute`, from after the header was written
-abbrev executed : tie.After-write-header → tie.After-execute
+abbrev executed : tie.After-write-response-header → tie.After-execute
 executed c = c .before .before .before .before .before .before .before .before .before .before
 
 add-length : tie.Need-add-length
@@ -41,7 +41,7 @@ returns c =
     let call = executed header in
     let s = start call in
     unicast-response (s .args .response .now) (call .execute .last .1 .1 .1 .1 .1 .1 .1 .0) (omega (arith, s .pre .1)) (s .args .fixed)
-    (asked s) (execute (asked s) (given s)) (call .execute .ensures) (header .write-header .ensures)
+    (asked s) (execute (asked s) (given s)) (call .execute .ensures) (header .write-response-header .ensures)
 
 pub handle-unicast-spec : {M : Type 1} → statement M
 handle-unicast-spec =

@@ -1,4 +1,4 @@
--- `frame::write_header` meets its contract: six bytes are copied to the front, two are stored after them.
+-- `frame::write_response_header` meets its contract: six bytes are copied to the front, two are stored after them.
 use borrow.Author.Needs.{needs}
 use mathlib.Core.List.{List, [], _∷_, _++_}
 use mathlib.Core.Path.{ap, _∙_}
@@ -8,8 +8,8 @@ use lib.ListN.{length}
 use Rattle.dpa.specs.Frame.{headerSize}
 use Rattle.dpa.specs.Lists.{overwriteFront}
 use Rattle.dpa.proofs.Lists.{sets-after-copy}
-use Rattle.dpa.proofs.frame.write_header.Statement.{statement}
-use Rattle.dpa.proofs.frame.write_header.Tie as tie
+use Rattle.dpa.proofs.frame.write_response_header.Statement.{statement}
+use Rattle.dpa.proofs.frame.write_response_header.Tie as tie
 
 returns : tie.Need-returns
 returns c =
@@ -22,7 +22,7 @@ returns c =
     sets-after-copy (header .result) last-two (a .response .now) (copy .last .1 .0) headerSize (ap length (header .ensures)) (omega arith) (copy .ensures .1)
     ∙ ap (λ (h : List ℕ). overwriteFront (h ++ last-two) (a .response .now)) (header .ensures)
 
-pub write-header-spec : {M : Type 1} → statement M
-write-header-spec =
+pub write-response-header-spec : {M : Type 1} → statement M
+write-response-header-spec =
     tie.close (tie.spec (λ c. search needs) (λ c κs. search needs) (λ c. search needs) (λ c κs. search needs)
     (λ c. search needs) (λ c. search needs) (λ c. search needs) (λ c. search needs) returns)
