@@ -143,9 +143,10 @@ uint8_t grelfint_view_status(
     const uint8_t *external, size_t external_length,
     uint8_t pnum, size_t start, size_t count);
 
-/* The two-bit FRC answer. Command 0x10 asks whether the lamp is on, 0x11
- * whether its alarm is set. User data: 0x71, lamp index (low five bits).
- * Bit i of `stuck` and of `alarm` belongs to lamp i.
+/* The two-bit FRC answer. Command 0x10 asks whether the lamp is on: its actual
+ * level is not 0, or its bit in `stuck` is set. Command 0x11 asks whether its
+ * bit in `alarm` is set. Bit i of both masks belongs to lamp i. User data:
+ * 0x71, then the lamp in the low five bits of a byte.
  * Answer: refusal; value: 1 not implemented, 2 no, 3 yes (0 if refused).
  * Refusals: 1. Written: nothing. */
 grelfint_frc_answer grelfint_frc(

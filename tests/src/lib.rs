@@ -1,5 +1,5 @@
 //! Shared by the tests: the C interface; the plain reference, written from
-//! document 01 and the decided open points; a fast implementation of the same
+//! document 01 and the decisions on open points; a fast implementation of the same
 //! rules for the benchmark; a common interface to these three; a board to run
 //! them on; and random inputs.
 pub mod board;

@@ -1,5 +1,6 @@
--- Document 01, "Scenes": the step machine, which executes single steps. It is written from its own paragraph and shares with
--- the lights request only the records and the replacing of their fields (`changed`, `off`, `withLamps`, `withNode`).
+-- Document 01, "Scenes": the step machine, which executes single steps. It is written from its own paragraph. It shares records,
+-- the functions that replace their fields and `maxLevel` with the lights request, and the numbers of the kinds with the compiler; it
+-- shares no rule of levels, times or valid steps.
 use mathlib.Core.Bool.{Bool, false, cond, _&&_, _||_}
 use mathlib.Core.List.{List, [], _∷_}
 use Prim.Native.Nat.{ℕ, _+_, _-_, _*_, _%_, min}

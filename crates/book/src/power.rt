@@ -44,12 +44,12 @@ pub fn write_powers(body: &[u8], count: usize, out: &mut [u8], at: usize) -> usi
     end
 }
 
-// The bitmap of one lamp.
-fn power_of_two(exponent: u8) -> u64
-    requires { ⌜ exponent < maxLamps ⌝ }
-    ensures { λ r. ⌜ (r ≡ 2 ^ exponent) × (r ≤ lampBitBound) ⌝ }
+// The bit of a lamp in the bitmap.
+fn lamp_bit(lamp: u8) -> u64
+    requires { ⌜ lamp < maxLamps ⌝ }
+    ensures { λ r. ⌜ (r ≡ 2 ^ lamp) × (r ≤ lampBitBound) ⌝ }
 {
-    1u64 << exponent
+    1u64 << lamp
 }
 
 // The bitmap of `count` lamp steps. It is added up in 64 bits, so that no sum of lamp bits overflows; the steps of an entry have
@@ -62,7 +62,7 @@ pub fn bitmap_of(body: &[u8], count: usize) -> u64
     let mut i: usize = 0;
     while i < count {
         let step = step_at(body, i);
-        bitmap = bitmap + power_of_two(step.target);
+        bitmap = bitmap + lamp_bit(step.target);
         i = i + 1;
     }
     bitmap

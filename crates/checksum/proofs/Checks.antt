@@ -7,7 +7,7 @@ use native.Mathlib.Omega.{arith}
 use lib.Dec.{eqb, ltb}
 use lib.ListN.{length, take, drop, getD, set}
 use borrow.Author.Tests.{lt-ltb, le-ltb, eq-eqb, ne-eqb, ltb-false, eqb-false}
-use Rattle.dpa.specs.Reply.{Reply, refused, replySeen, replyInBuffer}
+use Rattle.dpa.specs.Reply.{Reply, errorReply, replySeen, replyInBuffer}
 use Rattle.dpa.specs.Sizes.{externalSize}
 use Rattle.dpa.proofs.Bool.{by-cond, then-taken, else-taken}
 use Rattle.dpa.proofs.Lists.{set-first}
@@ -61,12 +61,12 @@ image-sums-compared x i s a n f w ea en ef es ew =
 
 module _ (x p : List ℕ) where
   -- PData of another length
-  pub check-wrong-length : (length p ≡ pdataLength → ⊥) → codeCheck x p ≡ refused false 5
+  pub check-wrong-length : (length p ≡ pdataLength → ⊥) → codeCheck x p ≡ errorReply false 5
   unfolding codeCheck
   check-wrong-length h = simp (ne-eqb (length p) pdataLength h)
 
   -- an error in the fields of the image
-  pub check-refused : (e : ℕ) → length p ≡ pdataLength → e ≡ imageError (imageOf p) → (e ≡ 0 → ⊥) → codeCheck x p ≡ refused false e
+  pub check-refused : (e : ℕ) → length p ≡ pdataLength → e ≡ imageError (imageOf p) → (e ≡ 0 → ⊥) → codeCheck x p ≡ errorReply false e
   unfolding codeCheck
   check-refused e l q h = simp (eq-eqb (length p) pdataLength l, ← q, ne-eqb e 0 h)
 
@@ -85,7 +85,7 @@ module _ (x p : List ℕ) where
     check-mismatch m = rw (check-answered l (ap imageError (sym e) ∙ z), ap (imageMatches x) (sym e) ∙ m, set-first out 0 o)
 
   -- what holds for every error and for every answer holds for a code check
-  pub check-cases : (P : Reply Bool → Type 0) → ((e : ℕ) → (e ≡ 0 → ⊥) → P (refused false e)) → ((b : Bool) → P (checkAnswer b (imageOf p))) → P (codeCheck x p)
+  pub check-cases : (P : Reply Bool → Type 0) → ((e : ℕ) → (e ≡ 0 → ⊥) → P (errorReply false e)) → ((b : Bool) → P (checkAnswer b (imageOf p))) → P (codeCheck x p)
   unfolding codeCheck
   check-cases P errors answers =
       by-cond P (eqb (length p) pdataLength) _ _

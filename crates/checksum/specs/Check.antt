@@ -6,7 +6,7 @@ use lib.ListN.{length, getD}
 use lib.Dec.{eqb, leb, ltb}
 use Rattle.dpa.specs.Number.{wordAt}
 use Rattle.dpa.specs.Lists.{slice}
-use Rattle.dpa.specs.Reply.{Reply, reply, refused}
+use Rattle.dpa.specs.Reply.{Reply, reply, errorReply}
 use Rattle.dpa.specs.Sizes.{externalSize}
 use Rattle.checksum.specs.declared.check.Image.{Image}
 use Rattle.checksum.specs.Sums.{sums, start, checksum}
@@ -64,5 +64,5 @@ codeCheck external pdata =
     cond (eqb (length pdata) pdataLength)
     (cond (eqb (imageError (imageOf pdata)) 0)
     (checkAnswer (imageMatches external (imageOf pdata)) (imageOf pdata))
-    (refused false (imageError (imageOf pdata))))
-    (refused false 5)
+    (errorReply false (imageError (imageOf pdata))))
+    (errorReply false 5)

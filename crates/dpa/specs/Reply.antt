@@ -22,8 +22,8 @@ abbrev pub reply : {S : Type 0} → S → ℕ → List ℕ → Reply S
 reply s e d = record { after = s; error = e; bytes = d }
 
 -- the reply of an error, which changes nothing and has no data
-abbrev pub refused : {S : Type 0} → S → ℕ → Reply S
-refused s e = reply s e []
+abbrev pub errorReply : {S : Type 0} → S → ℕ → Reply S
+errorReply s e = reply s e []
 
 -- a reply to a request in state s: an error changes nothing and has no data
 abbrev pub Harmless : {S : Type 0} → S → Reply S → Type 0

@@ -1,7 +1,7 @@
 -- An entry of a batch, by its HWPID.
 use mathlib.Core.Path.{_≡_}
 use mathlib.Core.Bool.{true, false}
-use Rattle.dpa.specs.Reply.{Reply, refused}
+use Rattle.dpa.specs.Reply.{Reply, errorReply}
 use Rattle.dpa.proofs.Bool.{by-cond}
 use Rattle.batch.specs.Batch.{Item}
 use Rattle.handler.specs.Request.{State, hwpidMatches, peripheralRequest, executeEntry}
@@ -13,11 +13,11 @@ module _ (i : Item) (st : State) where
   entry-match e = rw e
 
   -- another HWPID is ErrN 7
-  pub entry-mismatch : hwpidMatches (st .node .settings) (i .hwpid) ≡ false → executeEntry i st ≡ refused st 7
+  pub entry-mismatch : hwpidMatches (st .node .settings) (i .hwpid) ≡ false → executeEntry i st ≡ errorReply st 7
   unfolding executeEntry
   entry-mismatch e = rw e
 
   -- a property of replies holds for every entry if it holds for a request to a peripheral and for another HWPID
-  pub entry-cases : (P : Reply State → Type 0) → P (peripheralRequest (i .pnum) (i .pcmd) (i .pdata) st) → P (refused st 7) → P (executeEntry i st)
+  pub entry-cases : (P : Reply State → Type 0) → P (peripheralRequest (i .pnum) (i .pcmd) (i .pdata) st) → P (errorReply st 7) → P (executeEntry i st)
   unfolding executeEntry
   entry-cases P peripheral mismatch = by-cond P (hwpidMatches (st .node .settings) (i .hwpid)) _ _ (λ _. peripheral) (λ _. mismatch)

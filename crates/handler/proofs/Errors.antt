@@ -2,7 +2,7 @@
 use mathlib.Core.Path.{_≡_, refl, ap, sym, _∙_}
 use mathlib.Core.List.{List, []}
 use Prim.Native.Nat.{ℕ}
-use Rattle.dpa.specs.Reply.{Reply, Harmless, refused, mapState}
+use Rattle.dpa.specs.Reply.{Reply, Harmless, errorReply, mapState}
 use Rattle.memory.proofs.Requests.{request-harmless}
 use Rattle.lights.proofs.Requests as lights
 use Rattle.checksum.specs.Check.{codeCheck}
@@ -38,7 +38,7 @@ batch-unread d st n = batch-cases (λ (a : Outcome). (a .after ≡ st) × (a .en
 
 -- an outcome with an error: nothing changed, no data, no entry ran, nothing to report
 abbrev HarmlessOutcome : State → Outcome → Type 0
-HarmlessOutcome st a = (a .error ≡ 0 → ⊥) → a ≡ replyOnly (refused st (a .error))
+HarmlessOutcome st a = (a .error ≡ 0 → ⊥) → a ≡ replyOnly (errorReply st (a .error))
 
 -- a code check with an error
 check-outcome-harmless : (d : List ℕ) (st : State) → HarmlessOutcome st (codeCheckRequest d st)
@@ -54,7 +54,7 @@ peripheral-outcome-harmless pnum pcmd d st n =
     λ j. record { after = h .0 j; error = peripheralRequest pnum pcmd d st .error; bytes = h .1 j; entries = []; report = noReport }
 
 -- a request with an error changes nothing, has no data, ran no entry and has nothing to report
-pub execute-harmless : (i : Item) (st : State) → (execute i st .error ≡ 0 → ⊥) → execute i st ≡ replyOnly (refused st (execute i st .error))
+pub execute-harmless : (i : Item) (st : State) → (execute i st .error ≡ 0 → ⊥) → execute i st ≡ replyOnly (errorReply st (execute i st .error))
 execute-harmless i st =
     execute-cases (HarmlessOutcome st) st (λ e n. refl) i
     (os-cases (HarmlessOutcome st) st (λ e n. refl) (i .pcmd) (i .pdata) (λ n. absurd (n refl)) (check-outcome-harmless (i .pdata) st))

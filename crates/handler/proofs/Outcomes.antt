@@ -7,7 +7,7 @@ use lib.Dec.{eqb}
 use lib.ListN.{length}
 use borrow.Author.Tests.{eq-eqb, ne-eqb, eqb-true}
 use Rattle.dpa.specs.Pnum.{osPnum}
-use Rattle.dpa.specs.Reply.{Reply, SeenReply, replySeen, replyInBuffer, refused}
+use Rattle.dpa.specs.Reply.{Reply, SeenReply, replySeen, replyInBuffer, errorReply}
 use Rattle.dpa.proofs.Bool.{by-cond}
 use Rattle.checksum.specs.Check.{codeCheck}
 use Rattle.batch.specs.Batch.{Item, reading, listError}
@@ -19,12 +19,12 @@ use Rattle.handler.specs.Seen.{outcomeSeen, outcomeInBuffer}
 
 module _ (d : List ℕ) (st : State) where
   -- a batch without PData
-  pub batch-empty : length d ≡ 0 → batchRequest d st ≡ replyOnly (refused st 5)
+  pub batch-empty : length d ≡ 0 → batchRequest d st ≡ replyOnly (errorReply st 5)
   unfolding batchRequest
   batch-empty e = rw (eq-eqb (length d) 0 e)
 
   -- a list that cannot be read runs nothing
-  pub batch-broken : (length d ≡ 0 → ⊥) → {r a : ℕ} → reading d .check ≡ Broken r a → {k : ℕ} → k ≡ listError (reading d .check) → batchRequest d st ≡ replyOnly (refused st k)
+  pub batch-broken : (length d ≡ 0 → ⊥) → {r a : ℕ} → reading d .check ≡ Broken r a → {k : ℕ} → k ≡ listError (reading d .check) → batchRequest d st ≡ replyOnly (errorReply st k)
   unfolding batchRequest
   batch-broken n e q = rw (q, ne-eqb (length d) 0 n, e)
 
@@ -45,13 +45,13 @@ module _ (pcmd : ℕ) (d : List ℕ) (st : State) where
   os-check e = ap (λ (c : ℕ). osRequest c d st) e
 
   -- any other PCMD
-  pub os-unknown : (pcmd ≡ batchPcmd → ⊥) → (pcmd ≡ codeCheckPcmd → ⊥) → osRequest pcmd d st ≡ replyOnly (refused st 2)
+  pub os-unknown : (pcmd ≡ batchPcmd → ⊥) → (pcmd ≡ codeCheckPcmd → ⊥) → osRequest pcmd d st ≡ replyOnly (errorReply st 2)
   unfolding osRequest
   os-unknown a b = simp (ne-eqb pcmd batchPcmd a, ne-eqb pcmd codeCheckPcmd b)
 
 module _ (i : Item) (st : State) where
   -- another HWPID is ErrN 7
-  pub execute-mismatch : hwpidMatches (st .node .settings) (i .hwpid) ≡ false → execute i st ≡ replyOnly (refused st 7)
+  pub execute-mismatch : hwpidMatches (st .node .settings) (i .hwpid) ≡ false → execute i st ≡ replyOnly (errorReply st 7)
   unfolding execute
   execute-mismatch e = rw e
 
@@ -67,7 +67,7 @@ module _ (i : Item) (st : State) where
     execute-peripheral p = rw (e, ne-eqb (i .pnum) osPnum p)
 
 -- A property of outcomes holds for every request if it holds for each kind of request and for every error.
-module _ (P : Outcome → Type 0) (st : State) (error : (e : ℕ) → P (replyOnly (refused st e))) where
+module _ (P : Outcome → Type 0) (st : State) (error : (e : ℕ) → P (replyOnly (errorReply st e))) where
   -- batches: a list that can be read runs, any other is an error
   pub batch-cases : (d : List ℕ) → (listError (reading d .check) ≡ 0 → P (batchOutcome (reading d .items) st)) → P (batchRequest d st)
   unfolding batchRequest

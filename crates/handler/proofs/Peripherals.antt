@@ -5,7 +5,7 @@ use Prim.Native.Nat.{ℕ}
 use lib.Dec.{eqb}
 use borrow.Author.Tests.{ne-eqb}
 use Rattle.dpa.specs.Pnum.{lightsPnum}
-use Rattle.dpa.specs.Reply.{Reply, replySeen, replyInBuffer, refused}
+use Rattle.dpa.specs.Reply.{Reply, replySeen, replyInBuffer, errorReply}
 use Rattle.dpa.proofs.Bool.{by-cond}
 use Rattle.dpa.proofs.Replies.{reply-mapped}
 use Rattle.memory.specs.declared.block.Memory.{Memory}
@@ -32,13 +32,13 @@ module _ (pnum pcmd : ℕ) (d : List ℕ) (st : State) where
 
   -- any other PNUM
   pub peripheral-unknown : (pnum ≡ memoryPnum Eeprom → ⊥) → (pnum ≡ memoryPnum External → ⊥) → (pnum ≡ memoryPnum Ram → ⊥) → (pnum ≡ lightsPnum → ⊥)
-      → peripheralRequest pnum pcmd d st ≡ refused st 3
+      → peripheralRequest pnum pcmd d st ≡ errorReply st 3
   unfolding peripheralRequest
   peripheral-unknown a b c e = simp (ne-eqb pnum (memoryPnum Eeprom) a, ne-eqb pnum (memoryPnum External) b, ne-eqb pnum (memoryPnum Ram) c, ne-eqb pnum lightsPnum e)
 
   -- a property of replies holds for every PNUM if it holds for each memory, for the lights and for every error
   pub peripheral-cases : (P : Reply State → Type 0) → ((m : Memory) → P (memoryRequestOnState m pcmd d st)) → P (lightsRequestOnState pcmd d st)
-      → ((e : ℕ) → P (refused st e)) → P (peripheralRequest pnum pcmd d st)
+      → ((e : ℕ) → P (errorReply st e)) → P (peripheralRequest pnum pcmd d st)
   unfolding peripheralRequest
   peripheral-cases P memory lights error =
       by-cond P (eqb pnum (memoryPnum Eeprom)) _ _ (λ _. memory Eeprom)

@@ -11,7 +11,7 @@ use Rattle.dpa.specs.declared.settings.Settings.{Settings}
 use Rattle.dpa.specs.Lists.{overwriteFront}
 use Rattle.dpa.specs.Frame.{responseHeaderSize, longestResponse, broadcastNadr, anyHwpid, headerOf, pdataOf, frameFits, responseHeader}
 use Rattle.dpa.specs.Pnum.{osPnum, lightsPnum}
-use Rattle.dpa.specs.Reply.{Reply, reply, refused, mapState}
+use Rattle.dpa.specs.Reply.{Reply, reply, errorReply, mapState}
 use Rattle.memory.specs.declared.block.Memory.{Memory}
 use Rattle.memory.specs.declared.block.Memory.the-variants.{Eeprom, Ram, External}
 use Rattle.memory.specs.Block.{memoryPnum, sizeOf}
@@ -80,7 +80,7 @@ peripheralRequest pnum pcmd pdata st =
     (cond (eqb pnum (memoryPnum External)) (memoryRequestOnState External pcmd pdata st)
     (cond (eqb pnum (memoryPnum Ram)) (memoryRequestOnState Ram pcmd pdata st)
     (cond (eqb pnum lightsPnum) (lightsRequestOnState pcmd pdata st)
-    (refused st 3))))
+    (errorReply st 3))))
 
 -- ---- entries of a batch
 
@@ -91,7 +91,7 @@ hwpidMatches settings hwpid = eqb hwpid (settings .hwpid) || eqb hwpid anyHwpid
 -- an entry: another HWPID is ErrN 7; OS requests are not allowed, so PNUM 02 is ErrN 3
 unfoldable pub executeEntry : Item → State → Reply State
 executeEntry i st =
-    cond (hwpidMatches (st .node .settings) (i .hwpid)) (peripheralRequest (i .pnum) (i .pcmd) (i .pdata) st) (refused st 7)
+    cond (hwpidMatches (st .node .settings) (i .hwpid)) (peripheralRequest (i .pnum) (i .pcmd) (i .pdata) st) (errorReply st 7)
 
 -- the state after an entry, and its ErrN
 abbrev pub entryAfter : Item → State → State
@@ -102,7 +102,7 @@ entryError i st = executeEntry i st .error
 
 -- ---- requests
 
--- what a request reports to the caller beside the response: the load mark of the code check
+-- what a request reports to the caller besides the response: the load mark of the code check
 abbrev pub loadReport : Bool → Report
 loadReport mark = record { load = mark }
 
@@ -132,11 +132,11 @@ batchOutcome is st = outcome (reply (runItems entryAfter is st) 0 []) (errorsOf 
 -- a batch: without PData ErrN 5; a list that cannot be read is ErrN 6 and runs nothing
 unfoldable pub batchRequest : List ℕ → State → Outcome
 batchRequest pdata st =
-    cond (eqb (length pdata) 0) (replyOnly (refused st 5))
+    cond (eqb (length pdata) 0) (replyOnly (errorReply st 5))
     (cond (eqb (listError (reading pdata .check)) 0) (batchOutcome (reading pdata .items) st)
-    (replyOnly (refused st (listError (reading pdata .check)))))
+    (replyOnly (errorReply st (listError (reading pdata .check)))))
 
--- a code check: the state stays, and its load mark is reported
+-- a code check: the state stays, and its load mark, the `after` of `codeCheck`, is reported
 unfoldable pub codeCheckRequest : List ℕ → State → Outcome
 codeCheckRequest pdata st =
     outcome (mapState (λ _. st) (codeCheck (st .external) pdata)) [] (loadReport (codeCheck (st .external) pdata .after))
@@ -153,14 +153,14 @@ unfoldable pub osRequest : ℕ → List ℕ → State → Outcome
 osRequest pcmd pdata st =
     cond (eqb pcmd batchPcmd) (batchRequest pdata st)
     (cond (eqb pcmd codeCheckPcmd) (codeCheckRequest pdata st)
-    (replyOnly (refused st 2)))
+    (replyOnly (errorReply st 2)))
 
 -- executes a request: another HWPID is ErrN 7; PNUM 02 is the OS, any other PNUM is for the peripherals
 unfoldable pub execute : Item → State → Outcome
 execute i st =
     cond (hwpidMatches (st .node .settings) (i .hwpid))
     (cond (eqb (i .pnum) osPnum) (osRequest (i .pcmd) (i .pdata) st) (replyOnly (peripheralRequest (i .pnum) (i .pcmd) (i .pdata) st)))
-    (replyOnly (refused st 7))
+    (replyOnly (errorReply st 7))
 
 -- ---- the call
 
@@ -215,12 +215,12 @@ handleFrame frame st buffer =
 -- The refusal, from the node and the lengths of the frame, the memories and the response buffer, in this order:
 -- 1 the node is not sound, 2 the frame's length, 3 the buffer is too short, 4 a memory's size; 0 for none.
 unfoldable pub requestRefusal : Node → ℕ → ℕ → ℕ → ℕ → ℕ
-requestRefusal node frame eeprom external response =
+requestRefusal node frameLength eepromLength externalLength responseLength =
     cond (nodeOk node)
-    (cond (frameFits frame)
-    (cond (ltb response longestResponse) 3
-    (cond (eqb eeprom (sizeOf Eeprom))
-    (cond (eqb external (sizeOf External)) 0
+    (cond (frameFits frameLength)
+    (cond (ltb responseLength longestResponse) 3
+    (cond (eqb eepromLength (sizeOf Eeprom))
+    (cond (eqb externalLength (sizeOf External)) 0
     4)
     4))
     2)

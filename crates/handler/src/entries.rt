@@ -70,6 +70,7 @@ pub fn run_list(
             hwpid,
         } = next_entry(&list[at..])
         else {
+            // Not reached in a batch, whose list is checked before it runs.
             return lamps;
         };
         let next = run_entry(

@@ -6,7 +6,7 @@ use lights::request::LampsReply;
 ghost use mathlib.Core.Path.{_≡_};
 ghost use Rattle.handler.specs.Request.{noReport};
 
-// What a request reports to the caller beside the response: the load mark.
+// What a request reports to the caller besides the response: the load mark.
 pub struct Report {
     pub load: bool,
 }

@@ -183,23 +183,29 @@ fn handle_frame(
     answer_unhandled(node, refusal::NONE)
 }
 
-// The refusal of a call, tested in the order of the numbers. The parameters after the node are lengths.
-fn request_refusal(node: Node, frame: usize, eeprom: usize, external: usize, response: usize) -> u8
-    ensures { λ r. ⌜ r ≡ requestRefusal node frame eeprom external response ⌝ }
+// The refusal of a call, tested in the order of the numbers.
+fn request_refusal(
+    node: Node,
+    frame_length: usize,
+    eeprom_length: usize,
+    external_length: usize,
+    response_length: usize,
+) -> u8
+    ensures { λ r. ⌜ r ≡ requestRefusal node «frame_length» «eeprom_length» «external_length» «response_length» ⌝ }
 {
     if !node_ok(node) {
         return refusal::NODE;
     }
-    if !Frame::fits(frame) {
+    if !Frame::fits(frame_length) {
         return refusal::FRAME;
     }
-    if response < Frame::RESPONSE_LONGEST {
+    if response_length < Frame::RESPONSE_LONGEST {
         return refusal::RESPONSE;
     }
-    if eeprom != size_of(Memory::Eeprom) {
+    if eeprom_length != size_of(Memory::Eeprom) {
         return refusal::MEMORY;
     }
-    if external != size_of(Memory::External) {
+    if external_length != size_of(Memory::External) {
         return refusal::MEMORY;
     }
     refusal::NONE

@@ -8,7 +8,7 @@ use lib.ListN.{length, drop}
 use borrow.Author.Tests.{lt-ltb, le-ltb, ne-eqb}
 use Rattle.dpa.specs.Settings.{maxLamps}
 use Rattle.dpa.specs.Lists.{Bytes}
-use Rattle.dpa.specs.Reply.{Reply, refused, replySeen, replyInBuffer}
+use Rattle.dpa.specs.Reply.{Reply, errorReply, replySeen, replyInBuffer}
 use Rattle.dpa.specs.declared.settings.Settings.{Settings}
 use Rattle.lights.specs.Bits.{bitmapSize, bits, count, bitmap, maskOf}
 use Rattle.lights.specs.Lights.{commandPcmd, enumeratePcmd, powerEntries, areValid, malformedError, levelsBefore, levelsReply, commandOf, changeLamps, enumerateLamps, lightsRequest}
@@ -20,10 +20,10 @@ use Rattle.lights.specs.declared.lamp.Lamp.{Lamp}
 use Rattle.lights.specs.declared.request.LampsReply.{LampsReply}
 
 -- a refused request leaves the lent buffer
-pub reply-refused : (r : LampsReply) (x : Reply (List Lamp)) (e : ℕ) (ls : List Lamp) (o : List ℕ)
-    → r ≡ record { error = e; length = 0; lamps = ls } → x ≡ refused ls e
+pub reply-error : (r : LampsReply) (x : Reply (List Lamp)) (e : ℕ) (ls : List Lamp) (o : List ℕ)
+    → r ≡ record { error = e; length = 0; lamps = ls } → x ≡ errorReply ls e
     → replySeen (r .lamps) (r .error) (r .length) o ≡ replyInBuffer x o
-reply-refused r x e ls o p q = rw (p, q)
+reply-error r x e ls o p q = rw (p, q)
 
 -- there is a level for each selected lamp
 pub levels-length : (s : Settings) (n : ℕ) (bs : List ℕ) (ls : List Lamp) → length bs ≤ length ls → length (levelsBefore s n bs ls) ≡ count bs
@@ -35,7 +35,7 @@ levels-length s n (suc b ∷ bs) (l ∷ ls) h = ap suc (levels-length s (n - 1) 
 
 module _ (s : Settings) (c : Command) (xs : List ℕ) (ls : List Lamp) where
   -- PData is too short for the bitmap
-  pub change-no-bitmap : length xs < bitmapSize → changeLamps s c xs ls ≡ refused ls malformedError
+  pub change-no-bitmap : length xs < bitmapSize → changeLamps s c xs ls ≡ errorReply ls malformedError
   unfolding changeLamps
   change-no-bitmap h = rw (lt-ltb (length xs) bitmapSize h)
 
@@ -49,7 +49,7 @@ module _ (s : Settings) (c : Command) (xs : List ℕ) (ls : List Lamp) where
     change-by-mask = rw (q, w, bits-mask xs small) (change-entries h)
 
     -- the power entries are malformed
-    pub change-malformed : areValid (powerEntries k (drop bitmapSize xs)) ≡ false → changeLamps s c xs ls ≡ refused ls malformedError
+    pub change-malformed : areValid (powerEntries k (drop bitmapSize xs)) ≡ false → changeLamps s c xs ls ≡ errorReply ls malformedError
     change-malformed e = change-by-mask ∙ ap (levelsReply s c (bits maxLamps m) ls) (not-valid-malformed (powerEntries k (drop bitmapSize xs)) e)
 
     -- the result of `apply` is the reply
@@ -59,7 +59,7 @@ module _ (s : Settings) (c : Command) (xs : List ℕ) (ls : List Lamp) where
     change-applied after out old p = rw (change-by-mask, q) p
 
 -- enumerate with PData is refused
-pub enumerate-with-data : (s : Settings) (xs : List ℕ) (ls : List Lamp) → (length xs ≡ 0 → ⊥) → enumerateLamps s xs ls ≡ refused ls 5
+pub enumerate-with-data : (s : Settings) (xs : List ℕ) (ls : List Lamp) → (length xs ≡ 0 → ⊥) → enumerateLamps s xs ls ≡ errorReply ls 5
 unfolding enumerateLamps
 enumerate-with-data s xs ls h = rw (ne-eqb (length xs) 0 h)
 
@@ -72,7 +72,7 @@ known-pcmd s (suc (suc zero)) xs ls h = refl
 known-pcmd s (suc (suc (suc p))) xs ls h = absurd (omega arith)
 
 -- an unknown PCMD is refused
-pub unknown-pcmd : (s : Settings) (p : ℕ) (xs : List ℕ) (ls : List Lamp) → commandPcmd Lower < p → (p ≡ enumeratePcmd → ⊥) → lightsRequest s p xs ls ≡ refused ls 2
+pub unknown-pcmd : (s : Settings) (p : ℕ) (xs : List ℕ) (ls : List Lamp) → commandPcmd Lower < p → (p ≡ enumeratePcmd → ⊥) → lightsRequest s p xs ls ≡ errorReply ls 2
 unfolding lightsRequest
 unknown-pcmd s p xs ls h d =
     rw (ne-eqb p (commandPcmd Set) (λ e. omega arith), ne-eqb p (commandPcmd Raise) (λ e. omega arith), ne-eqb p (commandPcmd Lower) (λ e. omega arith), ne-eqb p enumeratePcmd d)

@@ -8,7 +8,7 @@ use lib.ListN.{length, getD, take, drop}
 use lib.Dec.{ltb, eqb}
 use borrow.Author.Tests.{ltb-false}
 use Rattle.dpa.specs.Settings.{maxLamps}
-use Rattle.dpa.specs.Reply.{Harmless, Reply, reply, refused}
+use Rattle.dpa.specs.Reply.{Harmless, Reply, reply, errorReply}
 use Rattle.dpa.proofs.Bool.{by-cond}
 use Rattle.dpa.specs.declared.settings.Settings.{Settings}
 use Rattle.lights.specs.Bits.{bitmapSize, count, bitmap, isOne, selected, numberBelow}
@@ -36,7 +36,7 @@ changeFor xs k = getD (changesIn xs) (numberBelow k (selected xs)) zeroChange
 
 module _ (s : Settings) (xs : List ℕ) (ls : List Lamp) where
   -- set, raise and lower are refused with 6, or all power entries are valid
-  pub change-cases : (c : Command) (P : Reply (List Lamp) → Type 0) → P (refused ls malformedError)
+  pub change-cases : (c : Command) (P : Reply (List Lamp) → Type 0) → P (errorReply ls malformedError)
       → ((es : List LampChange) → bitmapSize ≤ length xs → powerEntries (count (bitmap xs)) (drop bitmapSize xs) ≡ allValid es
       → P (reply (lampsAfter c (s .«lamp_count») (bitmap xs) es ls) 0 (levelsBefore s (s .«lamp_count») (bitmap xs) ls)))
       → P (changeLamps s c xs ls)
@@ -50,7 +50,7 @@ module _ (s : Settings) (xs : List ℕ) (ls : List Lamp) where
 
   -- any request is refused with an error, returns the lamp count, or has valid power entries only
   pub request-cases : (p : ℕ) (P : Reply (List Lamp) → Type 0)
-      → ((e : ℕ) → (e ≡ 0 → ⊥) → P (refused ls e))
+      → ((e : ℕ) → (e ≡ 0 → ⊥) → P (errorReply ls e))
       → P (reply ls 0 (s .«lamp_count» ∷ []))
       → ((c : Command) (es : List LampChange) → bitmapSize ≤ length xs → powerEntries (count (bitmap xs)) (drop bitmapSize xs) ≡ allValid es
       → P (reply (lampsAfter c (s .«lamp_count») (bitmap xs) es ls) 0 (levelsBefore s (s .«lamp_count») (bitmap xs) ls)))

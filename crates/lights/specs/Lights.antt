@@ -4,7 +4,7 @@ use mathlib.Core.List.{List, [], _∷_}
 use mathlib.Core.Bool.{Bool, true, false, cond, not, _||_}
 use lib.ListN.{length, drop}
 use lib.Dec.{ltb, leb, eqb}
-use Rattle.dpa.specs.Reply.{Reply, reply, refused}
+use Rattle.dpa.specs.Reply.{Reply, reply, errorReply}
 use Rattle.dpa.specs.declared.settings.Settings.{Settings}
 use Rattle.lights.specs.Bits.{bitmapSize, count, bitmap}
 use Rattle.lights.specs.Lamp.{maxLevel, changed, actualLevel}
@@ -133,17 +133,17 @@ malformedError = powerEntryError Invalid
 abbrev pub levelsReply : Settings → Command → List ℕ → List Lamp → PowerEntries → Reply (List Lamp)
 levelsReply s c bs ls (allValid es) =
     reply (lampsAfter c (s .«lamp_count») bs es ls) 0 (levelsBefore s (s .«lamp_count») bs ls)
-levelsReply s c bs ls malformed = refused ls malformedError
+levelsReply s c bs ls malformed = errorReply ls malformedError
 
 -- PData of set, raise and lower: the bitmap, then a power entry for each selected lamp
 unfoldable pub changeLamps : Settings → Command → List ℕ → List Lamp → Reply (List Lamp)
 changeLamps s c xs ls =
-    cond (ltb (length xs) bitmapSize) (refused ls malformedError)
+    cond (ltb (length xs) bitmapSize) (errorReply ls malformedError)
     (levelsReply s c (bitmap xs) ls (powerEntries (count (bitmap xs)) (drop bitmapSize xs)))
 
 -- enumerate: no PData, and the lamp count in the response
 unfoldable pub enumerateLamps : Settings → List ℕ → List Lamp → Reply (List Lamp)
-enumerateLamps s xs ls = cond (eqb (length xs) 0) (reply ls 0 (s .«lamp_count» ∷ [])) (refused ls 5)
+enumerateLamps s xs ls = cond (eqb (length xs) 0) (reply ls 0 (s .«lamp_count» ∷ [])) (errorReply ls 5)
 
 -- a request by its PCMD; an unknown one is error 2
 unfoldable pub lightsRequest : Settings → ℕ → List ℕ → List Lamp → Reply (List Lamp)
@@ -152,7 +152,7 @@ lightsRequest s pcmd xs ls =
     (cond (eqb pcmd (commandPcmd Raise)) (changeLamps s Raise xs ls)
     (cond (eqb pcmd (commandPcmd Lower)) (changeLamps s Lower xs ls)
     (cond (eqb pcmd enumeratePcmd) (enumerateLamps s xs ls)
-    (refused ls 2))))
+    (errorReply ls 2))))
 
 -- ---- results of inner functions of the code
 

@@ -54,7 +54,7 @@ fn selected_count(mask: u32) -> usize
 }
 
 // A reply with an error leaves the lamps and has no data.
-fn refuse(error: u8, lamps: [Lamp; LAMPS]) -> LampsReply
+fn error_reply(error: u8, lamps: [Lamp; LAMPS]) -> LampsReply
     ensures { λ r. ⌜ r ≡ record { error = error; length = 0; lamps = lamps } ⌝ }
 {
     LampsReply {
@@ -87,12 +87,12 @@ fn change_lamps(
     ensures { λ r. ⌜ replySeen (r .lamps) (r .error) (r .length) (now (out .exit)) ≡ replyInBuffer (changeLamps settings command (now (pdata .entry)) lamps) (now (out .entry)) ⌝ }
 {
     if pdata.len() < BITMAP_SIZE {
-        return refuse(error::DATA, lamps);
+        return error_reply(error::DATA, lamps);
     }
     let mask = mask_of(pdata);
     let length = selected_count(mask);
     if !power_entries_ok(pdata, length) {
-        return refuse(error::DATA, lamps);
+        return error_reply(error::DATA, lamps);
     }
     let after = apply(settings, command, mask, pdata, lamps, out);
     LampsReply {
@@ -108,7 +108,7 @@ fn enumerate(settings: Settings, lamps: [Lamp; LAMPS], pdata: &[u8], out: &mut [
     ensures { λ r. ⌜ replySeen (r .lamps) (r .error) (r .length) (now (out .exit)) ≡ replyInBuffer (enumerateLamps settings (now (pdata .entry)) lamps) (now (out .entry)) ⌝ }
 {
     if pdata.len() != 0 {
-        return refuse(error::DATA_LEN, lamps);
+        return error_reply(error::DATA_LEN, lamps);
     }
     out[0] = settings.lamp_count;
     LampsReply {
@@ -133,7 +133,7 @@ pub fn request(
         return enumerate(settings, lamps, pdata, out);
     }
     if LOWER < pcmd {
-        return refuse(error::PCMD, lamps);
+        return error_reply(error::PCMD, lamps);
     }
     change_lamps(settings, lamps, command_of(pcmd), pdata, out)
 }

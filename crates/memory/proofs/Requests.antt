@@ -9,38 +9,38 @@ use lib.ListN.{length, take, drop, getD, length-take, length-drop}
 use borrow.Author.Tests.{eqb-true, leb-false, eq-eqb, ne-eqb, lt-leb}
 use Rattle.dpa.specs.Frame.{pdataMax}
 use Rattle.dpa.specs.Lists.{slice}
-use Rattle.dpa.specs.Reply.{Harmless, Reply, reply, refused, replySeen, replyInBuffer}
+use Rattle.dpa.specs.Reply.{Harmless, Reply, reply, errorReply, replySeen, replyInBuffer}
 use Rattle.dpa.proofs.Bool.{by-cond, then-taken, else-taken}
 use Rattle.dpa.proofs.Lists.{slice-to-end}
 use Rattle.memory.specs.declared.block.Memory.{Memory}
 use Rattle.memory.specs.declared.block.Memory.the-variants.{Eeprom}
 use Rattle.memory.specs.Block.{sizeOf, longestOf, addressBytes, readCommand, writeCommand, overwrite}
-use Rattle.memory.specs.Request.{addressOf, startOf, lengthOf, dataOf, blockError, readError, writeError, readRequest, writeRequest, memoryRequest}
+use Rattle.memory.specs.Request.{addressOf, blockStart, blockLength, blockData, blockError, readError, writeError, readRequest, writeRequest, memoryRequest}
 use Rattle.memory.proofs.Blocks.{BlockFits, no-fault-fits, fits-no-fault, longest-max, slice-length}
 use Rattle.memory.proofs.Overwrite.{overwrite-length}
 
 module _ (m : Memory) (p : List ℕ) where
   -- an accepted read: PData has its length, and the block fits
   abbrev pub ReadFits : Type 0
-  ReadFits = (length p ≡ addressBytes m + 1) × BlockFits (sizeOf m) (longestOf m) (startOf m p) (lengthOf m p)
+  ReadFits = (length p ≡ addressBytes m + 1) × BlockFits (sizeOf m) (longestOf m) (blockStart m p) (blockLength m p)
 
   -- an accepted write
   abbrev pub WriteFits : Type 0
-  WriteFits = (addressBytes m < length p) × BlockFits (sizeOf m) (longestOf m) (startOf m p) (length p - addressBytes m)
+  WriteFits = (addressBytes m < length p) × BlockFits (sizeOf m) (longestOf m) (blockStart m p) (length p - addressBytes m)
 
   -- a read without an error is accepted
   pub read-fits : readError m p ≡ 0 → ReadFits
   unfolding readError
   read-fits e =
       let a = then-taken (eqb (length p) (addressBytes m + 1)) _ 5 0 (λ q. omega arith) e in
-      (eqb-true _ _ (a .0), no-fault-fits (sizeOf m) (longestOf m) (startOf m p) (lengthOf m p) 5 4 (λ q. omega arith) (λ q. omega arith) (a .1))
+      (eqb-true _ _ (a .0), no-fault-fits (sizeOf m) (longestOf m) (blockStart m p) (blockLength m p) 5 4 (λ q. omega arith) (λ q. omega arith) (a .1))
 
   -- a write without an error is accepted
   pub write-fits : writeError m p ≡ 0 → WriteFits
   unfolding writeError
   write-fits e =
       let a = else-taken (leb (length p) (addressBytes m)) 5 _ 0 (λ q. omega arith) e in
-      (leb-false _ _ (a .0), no-fault-fits (sizeOf m) (longestOf m) (startOf m p) (length p - addressBytes m) 5 4 (λ q. omega arith) (λ q. omega arith) (a .1))
+      (leb-false _ _ (a .0), no-fault-fits (sizeOf m) (longestOf m) (blockStart m p) (length p - addressBytes m) 5 4 (λ q. omega arith) (λ q. omega arith) (a .1))
 
   -- the error in the form of the code's tests
   pub read-error-by-tests : (w r a n : ℕ) → w ≡ addressBytes m → length p ≡ w + 1 → a ≡ addressOf w p → n ≡ getD p w 0
@@ -70,8 +70,8 @@ module _ (m : Memory) (p : List ℕ) where
       pub read-inside : (a + n ≤ length mem) × (n ≤ longestOf Eeprom)
       read-inside =
           let f = read-fits z .1 in
-          let s : a ≡ startOf m p = ea ∙ ap (λ (k : ℕ). addressOf k p) ew in
-          let l : n ≡ lengthOf m p = en ∙ ap (λ (k : ℕ). getD p k 0) ew in
+          let s : a ≡ blockStart m p = ea ∙ ap (λ (k : ℕ). addressOf k p) ew in
+          let l : n ≡ blockLength m p = en ∙ ap (λ (k : ℕ). getD p k 0) ew in
           (omega (arith, f .end-inside), omega (arith, f .length-max, longest-max m))
 
       -- the copied block is the reply
@@ -84,7 +84,7 @@ module _ (m : Memory) (p : List ℕ) where
       pub write-inside : length mem ≡ sizeOf m → a + (length p - w) ≤ length mem
       write-inside size =
           let f = write-fits z .1 in
-          let s : a ≡ startOf m p = ea ∙ ap (λ (k : ℕ). addressOf k p) ew in
+          let s : a ≡ blockStart m p = ea ∙ ap (λ (k : ℕ). addressOf k p) ew in
           omega (arith, f .end-inside)
 
       -- the overwritten memory is the reply
@@ -100,32 +100,32 @@ commands-differ Memory.External = refl
 
 module _ (m : Memory) (p mem : List ℕ) where
   -- the reply to an accepted read
-  pub read-accepted : ReadFits m p → memoryRequest m (readCommand m) p mem ≡ reply mem 0 (slice mem (startOf m p) (lengthOf m p))
+  pub read-accepted : ReadFits m p → memoryRequest m (readCommand m) p mem ≡ reply mem 0 (slice mem (blockStart m p) (blockLength m p))
   unfolding memoryRequest readRequest readError
   read-accepted f =
       simp (
         eq-eqb (readCommand m) (readCommand m) refl,
         eq-eqb _ _ (f .0),
-        fits-no-fault (sizeOf m) (longestOf m) (startOf m p) (lengthOf m p) 5 4 (f .1),
+        fits-no-fault (sizeOf m) (longestOf m) (blockStart m p) (blockLength m p) 5 4 (f .1),
       )
 
   -- the reply to an accepted write
-  pub write-accepted : WriteFits m p → memoryRequest m (writeCommand m) p mem ≡ reply (overwrite mem (startOf m p) (dataOf m p)) 0 []
+  pub write-accepted : WriteFits m p → memoryRequest m (writeCommand m) p mem ≡ reply (overwrite mem (blockStart m p) (blockData m p)) 0 []
   unfolding memoryRequest writeRequest writeError
   write-accepted f =
       simp (
         commands-differ m,
         eq-eqb (writeCommand m) (writeCommand m) refl,
         lt-leb _ _ (f .0),
-        fits-no-fault (sizeOf m) (longestOf m) (startOf m p) (length p - addressBytes m) 5 4 (f .1),
+        fits-no-fault (sizeOf m) (longestOf m) (blockStart m p) (length p - addressBytes m) 5 4 (f .1),
       )
 
   module _ (pcmd : ℕ) where
     -- a request is an accepted read, an accepted write or an error
     pub request-cases : (P : Reply (List ℕ) → Type 0)
-        → (readError m p ≡ 0 → P (reply mem 0 (slice mem (startOf m p) (lengthOf m p))))
-        → (writeError m p ≡ 0 → P (reply (overwrite mem (startOf m p) (dataOf m p)) 0 []))
-        → ((e : ℕ) → P (refused mem e))
+        → (readError m p ≡ 0 → P (reply mem 0 (slice mem (blockStart m p) (blockLength m p))))
+        → (writeError m p ≡ 0 → P (reply (overwrite mem (blockStart m p) (blockData m p)) 0 []))
+        → ((e : ℕ) → P (errorReply mem e))
         → P (memoryRequest m pcmd p mem)
     unfolding memoryRequest readRequest writeRequest
     request-cases P reads writes errors =
@@ -144,7 +144,7 @@ module _ (m : Memory) (p mem : List ℕ) where
     request-length size =
         request-cases (λ (x : Reply (List ℕ)). length (x .after) ≡ length mem)
         (λ z. refl)
-        (λ z. overwrite-length mem (startOf m p) (dataOf m p) (rw length-drop (omega (arith, write-fits m p z .1 .end-inside))))
+        (λ z. overwrite-length mem (blockStart m p) (blockData m p) (rw length-drop (omega (arith, write-fits m p z .1 .end-inside))))
         (λ e. refl)
 
     -- response data is no longer than the memory's longest block
@@ -165,8 +165,8 @@ pub write-byte-address : (m : Memory) (mem : List ℕ) (a : ℕ) (d : List ℕ) 
     → memoryRequest m (writeCommand m) (a ∷ d) mem ≡ reply (overwrite mem a d) 0 []
 unfolding addressOf
 write-byte-address m mem a d one some f =
-    let s : startOf m (a ∷ d) ≡ a = ap (λ (w : ℕ). addressOf w (a ∷ d)) one in
-    let t : dataOf m (a ∷ d) ≡ d = ap (λ (w : ℕ). drop w (a ∷ d)) one in
+    let s : blockStart m (a ∷ d) ≡ a = ap (λ (w : ℕ). addressOf w (a ∷ d)) one in
+    let t : blockData m (a ∷ d) ≡ d = ap (λ (w : ℕ). drop w (a ∷ d)) one in
     let l : length (a ∷ d) - addressBytes m ≡ length d = omega arith in
     let k : addressBytes m < length (a ∷ d) = omega arith in
     write-accepted m (a ∷ d) mem (k, rw (s, l) f) ∙ rw (s, t)

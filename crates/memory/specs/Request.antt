@@ -6,7 +6,7 @@ use lib.ListN.{length, drop, getD}
 use lib.Dec.{eqb, leb}
 use Rattle.dpa.specs.Number.{wordAt}
 use Rattle.dpa.specs.Lists.{slice}
-use Rattle.dpa.specs.Reply.{Reply, reply, refused}
+use Rattle.dpa.specs.Reply.{Reply, reply, errorReply}
 use Rattle.memory.specs.declared.block.Memory.{Memory}
 use Rattle.memory.specs.Block.{sizeOf, longestOf, addressBytes, readCommand, writeCommand, blockFault, overwrite}
 
@@ -15,14 +15,14 @@ unfoldable pub addressOf : ℕ → List ℕ → ℕ
 addressOf width pdata = cond (eqb width 1) (getD pdata 0 0) (wordAt pdata 0)
 
 -- the start of the block; a read's length or a write's data follows it
-abbrev pub startOf : Memory → List ℕ → ℕ
-startOf m pdata = addressOf (addressBytes m) pdata
+abbrev pub blockStart : Memory → List ℕ → ℕ
+blockStart m pdata = addressOf (addressBytes m) pdata
 
-abbrev pub lengthOf : Memory → List ℕ → ℕ
-lengthOf m pdata = getD pdata (addressBytes m) 0
+abbrev pub blockLength : Memory → List ℕ → ℕ
+blockLength m pdata = getD pdata (addressBytes m) 0
 
-abbrev pub dataOf : Memory → List ℕ → List ℕ
-dataOf m pdata = drop (addressBytes m) pdata
+abbrev pub blockData : Memory → List ℕ → List ℕ
+blockData m pdata = drop (addressBytes m) pdata
 
 -- the block rule for requests: 5 is too long, 4 is outside
 abbrev pub blockError : Memory → ℕ → ℕ → ℕ
@@ -32,32 +32,32 @@ blockError m start n = blockFault (sizeOf m) (longestOf m) start n 5 4
 unfoldable pub readError : Memory → List ℕ → ℕ
 readError m pdata =
     cond (eqb (length pdata) (addressBytes m + 1))
-    (blockError m (startOf m pdata) (lengthOf m pdata))
+    (blockError m (blockStart m pdata) (blockLength m pdata))
     5
 
 -- a write has at least one byte of data
 unfoldable pub writeError : Memory → List ℕ → ℕ
 writeError m pdata =
     cond (leb (length pdata) (addressBytes m)) 5
-    (blockError m (startOf m pdata) (length pdata - addressBytes m))
+    (blockError m (blockStart m pdata) (length pdata - addressBytes m))
 
--- the given reply, or a refusal if there is an error
-abbrev pub replyOrRefused : {S : Type 0} → ℕ → S → Reply S → Reply S
-replyOrRefused error s r = cond (eqb error 0) r (refused s error)
+-- the given reply, or that of an error if there is one
+abbrev pub replyOrError : {S : Type 0} → ℕ → S → Reply S → Reply S
+replyOrError error s r = cond (eqb error 0) r (errorReply s error)
 
 -- a read leaves the memory and returns the block
 unfoldable pub readRequest : Memory → List ℕ → List ℕ → Reply (List ℕ)
 readRequest m pdata mem =
-    replyOrRefused (readError m pdata) mem (reply mem 0 (slice mem (startOf m pdata) (lengthOf m pdata)))
+    replyOrError (readError m pdata) mem (reply mem 0 (slice mem (blockStart m pdata) (blockLength m pdata)))
 
 -- a write returns no data
 unfoldable pub writeRequest : Memory → List ℕ → List ℕ → Reply (List ℕ)
 writeRequest m pdata mem =
-    replyOrRefused (writeError m pdata) mem (reply (overwrite mem (startOf m pdata) (dataOf m pdata)) 0 [])
+    replyOrError (writeError m pdata) mem (reply (overwrite mem (blockStart m pdata) (blockData m pdata)) 0 [])
 
 -- a PCMD that is neither is error 2
 unfoldable pub memoryRequest : Memory → ℕ → List ℕ → List ℕ → Reply (List ℕ)
 memoryRequest m pcmd pdata mem =
     cond (eqb pcmd (readCommand m)) (readRequest m pdata mem)
     (cond (eqb pcmd (writeCommand m)) (writeRequest m pdata mem)
-    (refused mem 2))
+    (errorReply mem 2))

@@ -12,7 +12,7 @@ use Rattle.dpa.proofs.Bool.{and-left, and-right, by-cond}
 use Rattle.lights.specs.Lamp.{off, actualLevel}
 use Rattle.node.specs.declared.record.Node.{Node}
 use Rattle.node.specs.Node.{nodeOk}
-use Rattle.node.specs.Frc.{onCommand, notAsked, twoBits, bitSet, lampAsked, isCommand, asksLamp, isOn, frcValue, frcAnswer, frcOf}
+use Rattle.node.specs.Frc.{onCommand, notImplemented, twoBits, bitSet, lampAsked, isCommand, asksLamp, isOn, frcValue, frcAnswer, frcOf}
 
 -- a command that asks about a lamp has two bytes of user data
 pub asks-two-bytes : (count command : ℕ) (user : List ℕ) → asksLamp count command user ≡ true → 2 ≤ length user
@@ -34,9 +34,9 @@ module _ (n : Node) (k stuck : ℕ) (v : ℕ) (e : v ≡ actualLevel (n .setting
 
 module _ (n : Node) (command : ℕ) (user : List ℕ) (stuck alarm : ℕ) (s : nodeOk n ≡ true) where
   -- this node is not asked
-  pub frc-not-asked : asksLamp (n .settings .«lamp_count») command user ≡ false → frcAnswer 0 notAsked ≡ frcOf n command user stuck alarm
+  pub frc-not-implemented : asksLamp (n .settings .«lamp_count») command user ≡ false → frcAnswer 0 notImplemented ≡ frcOf n command user stuck alarm
   unfolding frcOf frcValue
-  frc-not-asked a = rw (s, a)
+  frc-not-implemented a = rw (s, a)
 
   module _ (a : asksLamp (n .settings .«lamp_count») command user ≡ true) where
     -- is the lamp on?

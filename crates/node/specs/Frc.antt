@@ -17,9 +17,9 @@ onCommand = 0x10
 abbrev pub alarmCommand : ℕ
 alarmCommand = 0x11
 
--- the value if this node is not asked
-abbrev pub notAsked : ℕ
-notAsked = 1
+-- the value if the command or the lamp is not implemented
+abbrev pub notImplemented : ℕ
+notImplemented = 1
 
 -- the value otherwise: 3 for yes, 2 for no
 abbrev pub twoBits : Bool → ℕ
@@ -30,8 +30,11 @@ unfoldable pub bitSet : ℕ → ℕ → Bool
 bitSet mask i = eqb (mask / 2 ^ i % 2) 1
 
 -- the lamp that is asked about: the low five bits of the second byte
+abbrev pub lampIndexRange : ℕ
+lampIndexRange = 32
+
 abbrev pub lampAsked : List ℕ → ℕ
-lampAsked user = getD user 1 0 % 32
+lampAsked user = getD user 1 0 % lampIndexRange
 
 -- one of the two commands
 unfoldable pub isCommand : ℕ → Bool
@@ -51,7 +54,7 @@ unfoldable pub frcValue : Node → ℕ → List ℕ → ℕ → ℕ → ℕ
 frcValue n command user stuck alarm =
     cond (asksLamp (n .settings .«lamp_count») command user)
     (twoBits (cond (eqb command onCommand) (isOn n (lampAsked user) stuck) (bitSet alarm (lampAsked user))))
-    notAsked
+    notImplemented
 
 abbrev pub frcAnswer : ℕ → ℕ → FrcAnswer
 frcAnswer refusal v = record { refusal = refusal; value = v }

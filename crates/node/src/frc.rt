@@ -4,7 +4,6 @@ use crate::record::node_ok;
 use dpa::number::wide;
 use dpa::pnum;
 use dpa::refusal;
-use dpa::settings::MAX_LAMPS;
 use lights::lamp::actual_level;
 ghost use mathlib.Core.Path.{_≡_};
 ghost use mathlib.Core.Bool.{true};
@@ -18,12 +17,15 @@ pub const ON: u8 = 0x10;
 
 pub const ALARM: u8 = 0x11;
 
-// The values: this node is not asked, no, yes.
-const NOT_ASKED: u8 = 1;
+// The values: the command or the lamp is not implemented, no, yes.
+const NOT_IMPLEMENTED: u8 = 1;
 
 const NO: u8 = 2;
 
 const YES: u8 = 3;
+
+// The lamp is in the low five bits of a byte.
+const LAMP_INDEX_RANGE: u8 = 32;
 
 #[repr(C)]
 pub struct FrcAnswer {
@@ -66,7 +68,7 @@ fn asks_lamp(count: u8, command: u8, user_data: &[u8]) -> bool
     if user_data[0] != pnum::LIGHTS {
         return false;
     }
-    user_data[1] % MAX_LAMPS < count
+    user_data[1] % LAMP_INDEX_RANGE < count
 }
 
 // Whether a lamp is on. A lamp that is stuck on counts too.
@@ -98,9 +100,9 @@ pub fn frc(node: Node, command: u8, user_data: &[u8], stuck: u32, alarm: u32) ->
         return frc_answer(refusal::NODE, 0);
     }
     if !asks_lamp(node.settings.lamp_count, command, user_data) {
-        return frc_answer(refusal::NONE, NOT_ASKED);
+        return frc_answer(refusal::NONE, NOT_IMPLEMENTED);
     }
-    let index = user_data[1] % MAX_LAMPS;
+    let index = user_data[1] % LAMP_INDEX_RANGE;
     if command == ON {
         let on = is_on(node, index, stuck);
         return frc_answer(refusal::NONE, two_bits(on));

@@ -68,21 +68,20 @@ outputInBuffer o out = record { refusal = 0; step = 0; length = length o; buffer
 unfoldable pub addressOk : ℕ → Bool
 addressOk a = eqb a broadcastNadr || nodeAddress a
 
--- the result of a scene by its first bad step, if it has one (refusal 8, with its number); otherwise the output of its requests, if
--- the buffer has room for every output (otherwise refusal 9)
+-- refusal 8 with the number of the first bad step; else 9 if the buffer is too small; else the output
 abbrev pub compileSteps : Option ℕ → List (List ℕ) → List ℕ → CompileResult
 compileSteps (some j) requests out = refusedWith 8 j out
 compileSteps none requests out =
     cond (ltb (length out) minOutput) (refusedWith 9 0 out)
     (outputInBuffer (output requests) out)
 
--- scene k of book b, with any rule from steps to requests; 6 is not a valid book, 7 no scene of that number
+-- scene k of book b, where `requests` turns steps into requests: refusal 6 for an ill-formed book, 7 if it has no scene k
 unfoldable pub compileScene : List ℕ → ℕ → (List Step → List (List ℕ)) → List ℕ → CompileResult
 compileScene b k requests out =
     cond (not (bookOk b)) (refusedWith 6 0 out)
     (cond (leb (sceneCount b) k) (refusedWith 7 0 out)
     (compileSteps (firstBadFrom 0 (sceneOf b k)) (requests (sceneOf b k)) out))
 
--- the call: scene k of book b, for address a and profile h; 1 is an address that cannot be used
+-- the call: scene k of book b, for address a and profile h; refusal 1 for an invalid address
 unfoldable pub compileFor : List ℕ → ℕ → ℕ → ℕ → List ℕ → CompileResult
 compileFor b k a h out = cond (not (addressOk a)) (refusedWith 1 0 out) (compileScene b k (sceneRequests a h) out)

@@ -61,7 +61,7 @@ fn address_ok(address: u16) -> bool
     address <= LAST_ADDRESS
 }
 
-// Compiles the steps of a scene. A bad step is refused before an output buffer that is too small.
+// Compiles the steps of a scene. Refusal 8 comes before 9.
 fn compile_steps(
     body: &[u8],
     count: usize,

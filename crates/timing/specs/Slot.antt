@@ -25,9 +25,9 @@ slotOf n net = baseSlot n + networkExtra net
 unfoldable pub directionTime : ℕ → ℕ → ℕ
 directionTime hops slot = (hops + 1) * slot * 10
 
--- the longest time for one direction: 256 slots of at most 2,550 ms
+-- an upper bound of that time for hops and a slot that fit a byte
 abbrev pub directionMax : ℕ
-directionMax = 652800
+directionMax = 256 * 255 * 10
 
 -- `timeslot`: refusal 5 if PData is over 56 bytes
 unfoldable pub timeslotOf : ℕ → Network → SlotAnswer

@@ -1,4 +1,4 @@
--- `run::handle_all`: each turn handles one request, of the length that its length byte gives.
+-- `run::handle_all`: each call handles one request, of the length that its length byte gives.
 use borrow.Author.Needs.{needs}
 use native.Mathlib.Omega.{arith}
 use mathlib.Core.Path.{sym, _∙_}

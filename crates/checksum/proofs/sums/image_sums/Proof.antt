@@ -27,18 +27,18 @@ loop-less c =
 loop-again : tie.Need-loop-again Inv-loop μ-loop
 loop-again c =
     let block = c .before .before in
-    let turn = block .before .before in
-    let image = turn .before .before .before .args .image .now in
-    let end = turn .loop .at + block .smaller .result in (
+    let iteration = block .before .before in
+    let image = iteration .before .before .before .args .image .now in
+    let end = iteration .loop .at + block .smaller .result in (
       omega (arith, block .smaller .ensures .1),
-      sym (sums-next-block image (turn .loop .s) (c .add-block .result) (turn .loop .at) end (omega arith) (c .add-block .ensures)) ∙ turn .loop .inv .1,
+      sym (sums-next-block image (iteration .loop .s) (c .add-block .result) (iteration .loop .at) end (omega arith) (c .add-block .ensures)) ∙ iteration .loop .inv .1,
     )
 
 returns : tie.Need-returns Inv-loop μ-loop
 returns c =
-    let turn = c .before in
-    let image = turn .before .before .before .args .image .now in
-    sym (sums-done image (turn .loop .s) (turn .loop .at) (c .loop-test .left)) ∙ turn .loop .inv .1
+    let iteration = c .before in
+    let image = iteration .before .before .before .args .image .now in
+    sym (sums-done image (iteration .loop .s) (iteration .loop .at) (c .loop-test .left)) ∙ iteration .loop .inv .1
 
 pub image-sums-spec : {M : Type 1} → statement M
 image-sums-spec =

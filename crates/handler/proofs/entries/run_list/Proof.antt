@@ -26,14 +26,14 @@ abbrev at-loop : tie.After-next-entry Inv-loop μ-loop → tie.At-loop Inv-loop 
 at-loop c = c .before .before .before .before .before
 
 -- after an entry was read: the loop, the list, the position in it, and the length of the entry
-abbrev turn : tie.After-known-told Inv-loop μ-loop → tie.At-loop Inv-loop μ-loop
-turn c = at-loop (c .before .before .before)
+abbrev iteration : tie.After-known-told Inv-loop μ-loop → tie.At-loop Inv-loop μ-loop
+iteration c = at-loop (c .before .before .before)
 
 abbrev list : tie.After-known-told Inv-loop μ-loop → List ℕ
-list c = turn c .before .before .before .before .before .args .list .now
+list c = iteration c .before .before .before .before .before .args .list .now
 
 abbrev position : tie.After-known-told Inv-loop μ-loop → ℕ
-position c = turn c .loop .at
+position c = iteration c .loop .at
 
 abbrev len : tie.After-known-told Inv-loop μ-loop → ℕ
 len c = c .before .len .given .0 .0
@@ -44,7 +44,7 @@ first-entry-is : (c : tie.After-known-told Inv-loop μ-loop) →
     nextEntry (take (length (list c) - position c) (drop (position c) (list c))) ≡ Entry (g .0) (g .1 .0) (g .1 .1 .0) (g .1 .1 .1 .0)
 first-entry-is c = sym (c .before .before .before .next-entry .ensures) ∙ c .before .len .given .1
 
--- the place where it ran, from the end of a turn
+-- the place where it ran, from the end of an iteration
 abbrev ran : tie.After-slice-known6 Inv-loop μ-loop → tie.After-run-entry Inv-loop μ-loop
 ran c = c .before .before .before .before .before .before
 
@@ -54,7 +54,7 @@ read c = c .before .before .before .before .before
 
 -- it lies in the list
 sized : (c : tie.After-known-told Inv-loop μ-loop) → (entryHeadSize ≤ len c) × (position c + len c ≤ length (list c))
-sized c = entry-in-list _ _ _ _ (turn c .loop .inv .0) (first-entry-is c)
+sized c = entry-in-list _ _ _ _ (iteration c .loop .inv .0) (first-entry-is c)
 
 loop-holds : tie.Need-loop-holds Inv-loop μ-loop
 loop-holds c = (run-starts _ _ (c .before .before .before .before .pre), refl, refl, refl)
@@ -64,12 +64,12 @@ returns c =
     fault-ends _ _ _ _ (at-loop (c .before .before) .loop .inv .0) (sym (c .before .before .next-entry .ensures) ∙ c .enum-told .given .1)
 
 run-entry-requires : tie.Need-run-entry-requires Inv-loop μ-loop
-run-entry-requires c κs = turn (c .before .before .before .before) .loop .inv .0 .sound
+run-entry-requires c κs = iteration (c .before .before .before .before) .loop .inv .0 .sound
 
 loop-again : tie.Need-loop-again Inv-loop μ-loop
 loop-again c =
     let call = ran c in
-    let i = turn (read call) .loop .inv in (
+    let i = iteration (read call) .loop .inv in (
       entry-runs _ _ _ _ (i .0) (first-entry-is (read call)) (call .run-entry .ensures),
       call .run-entry .kept .1 .1 .1 .1 .1 .1 .0 ∙ i .1,
       call .run-entry .kept .1 .1 .1 .1 .1 .1 .1 .0 ∙ i .2,

@@ -25,7 +25,7 @@ returns-3 c = simp (sym (c .before .before .before .before .node-ok .ensures) �
 -- after the first three tests
 past : (c : tie.Else3) →
     let a = c .before .before .before .before .before .args in
-    (nodeOk (a .node) ≡ true) × (frameFits (a .frame) ≡ true) × (ltb (a .response) longestResponse ≡ false)
+    (nodeOk (a .node) ≡ true) × (frameFits (a .frame-length) ≡ true) × (ltb (a .response-length) longestResponse ≡ false)
 past c = (sym (c .before .before .before .before .node-ok .ensures) ∙ not-false _ (c .before .before .before .if1 .left), sym (c .before .before .fits2 .ensures) ∙ not-false _ (c .before .if2 .left), le-ltb _ _ (c .if3 .left))
 
 returns-4 : tie.Need-returns-4

@@ -10,7 +10,7 @@ use Rattle.dpa.specs.Settings.{maxLamps}
 use Rattle.dpa.specs.Lists.{Bytes}
 use Rattle.lights.specs.Bits.{bitmapSize, bits, count}
 use Rattle.lights.specs.Lights.{powerEntries, areValid}
-use Rattle.lights.proofs.Replies.{reply-refused, change-no-bitmap, change-malformed, change-applied}
+use Rattle.lights.proofs.Replies.{reply-error, change-no-bitmap, change-malformed, change-applied}
 use borrow.Author.Needs.{needs}
 use Rattle.lights.proofs.request.change_lamps.Statement.{statement}
 use Rattle.lights.proofs.request.change_lamps.Tie as tie
@@ -22,7 +22,7 @@ start c = c .before .before .before .before .before .before
 returns : tie.Need-returns
 returns c =
     let a = c .before .before .before .before .args in
-    reply-refused _ _ 6 (a .lamps) (now (a .out)) (c .refuse .ensures) (change-no-bitmap (a .settings) (a .command) (now (a .pdata)) (a .lamps) (c .before .if1 .taken))
+    reply-error _ _ 6 (a .lamps) (now (a .out)) (c .error-reply .ensures) (change-no-bitmap (a .settings) (a .command) (now (a .pdata)) (a .lamps) (c .before .if1 .taken))
 
 -- PData is bytes
 small : (c : tie.After-power-entries-ok) → Bytes (now (start c .args .pdata))
@@ -32,7 +32,7 @@ returns-2 : tie.Need-returns-2
 returns-2 c =
     let r = c .before .before in
     let a = start r .args in
-    reply-refused _ _ 6 (a .lamps) (now (a .out)) (c .refuse2 .ensures)
+    reply-error _ _ 6 (a .lamps) (now (a .out)) (c .error-reply2 .ensures)
     (change-malformed (a .settings) (a .command) (now (a .pdata)) (a .lamps) (r .before .before .mask-of .result) (r .before .selected-count .result)
     (omega arith) (small r) (r .before .before .mask-of .ensures) (r .before .selected-count .ensures .0)
     (sym (r .power-entries-ok .ensures) ∙ not-true _ (c .before .if2 .taken)))

@@ -1,7 +1,7 @@
 -- `request::enumerate` meets its contract, by the definition's test.
 use denote.Ref.{now}
 use lib.ListN.{length}
-use Rattle.lights.proofs.Replies.{reply-refused, enumerate-with-data}
+use Rattle.lights.proofs.Replies.{reply-error, enumerate-with-data}
 use borrow.Author.Tests.{eq-eqb}
 use native.Mathlib.Omega.{arith}
 use Rattle.lights.specs.Lights.{enumerateLamps}
@@ -13,7 +13,7 @@ use Rattle.lights.proofs.request.enumerate.Tie as tie
 returns : tie.Need-returns
 returns c =
     let a = c .before .before .before .before .args in
-    reply-refused _ _ 5 (a .lamps) (now (a .out)) (c .refuse .ensures) (enumerate-with-data (a .settings) (now (a .pdata)) (a .lamps) (c .before .if1 .taken))
+    reply-error _ _ 5 (a .lamps) (now (a .out)) (c .error-reply .ensures) (enumerate-with-data (a .settings) (now (a .pdata)) (a .lamps) (c .before .if1 .taken))
 
 returns-2 : tie.Need-returns-2
 unfolding enumerateLamps

@@ -1,7 +1,7 @@
 -- `request::request` meets its contract, by the PCMD.
 use denote.Ref.{now}
 use Rattle.lights.specs.Lights.{lightsRequest}
-use Rattle.lights.proofs.Replies.{reply-refused, known-pcmd, unknown-pcmd}
+use Rattle.lights.proofs.Replies.{reply-error, known-pcmd, unknown-pcmd}
 use borrow.Author.Needs.{needs}
 use Rattle.lights.proofs.request.request.Statement.{statement}
 use Rattle.lights.proofs.request.request.Tie as tie
@@ -13,7 +13,7 @@ returns c = rw (c .before .before .before .before .if1 .taken) (c .before .befor
 returns-2 : tie.Need-returns-2
 returns-2 c =
     let a = c .before .before .before .before .before .args in
-    reply-refused _ _ 2 (a .lamps) (now (a .out)) (c .refuse .ensures)
+    reply-error _ _ 2 (a .lamps) (now (a .out)) (c .error-reply .ensures)
     (unknown-pcmd (a .settings) (a .pcmd) (now (a .pdata)) (a .lamps) (c .before .if2 .taken) (c .before .before .if1 .left))
 
 returns-3 : tie.Need-returns-3

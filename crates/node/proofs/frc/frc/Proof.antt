@@ -6,7 +6,7 @@ use native.Mathlib.Omega.{arith}
 use borrow.Author.Tests.{not-true, not-false}
 use Rattle.node.specs.Node.{nodeOk}
 use Rattle.node.specs.Frc.{asksLamp, frcOf}
-use Rattle.node.proofs.FrcAnswers.{asks-two-bytes, frc-not-asked, frc-on, frc-alarm}
+use Rattle.node.proofs.FrcAnswers.{asks-two-bytes, frc-not-implemented, frc-on, frc-alarm}
 use Rattle.node.proofs.frc.frc.Statement.{statement}
 use Rattle.node.proofs.frc.frc.Tie as tie
 
@@ -25,7 +25,7 @@ returns-2 : tie.Need-returns-2
 returns-2 c =
     let test = c .before in
     c .frc-answer2 .ensures
-    ∙ frc-not-asked _ _ _ _ _ (sound (test .before .before)) (sym (test .before .asks-lamp .ensures) ∙ not-true _ (test .if2 .taken))
+    ∙ frc-not-implemented _ _ _ _ _ (sound (test .before .before)) (sym (test .before .asks-lamp .ensures) ∙ not-true _ (test .if2 .taken))
 
 shared-slice-read-index : tie.Need-shared-slice-read-index
 shared-slice-read-index c = asks-two-bytes _ _ _ (asked (c .before))

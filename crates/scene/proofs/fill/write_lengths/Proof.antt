@@ -1,4 +1,4 @@
--- `fill::write_lengths`: each turn writes the span of one entry, and a length byte if the entry does not fit the open list.
+-- `fill::write_lengths`: each iteration writes the span of one entry, and a length byte if the entry does not fit the open list.
 use mathlib.Core.List.{List, [], _∷_, _++_}
 use mathlib.Core.Path.{_≡_, refl, ap, _∙_}
 use Prim.Native.Nat.{ℕ, _+_, _-_, _≤_}
@@ -38,7 +38,7 @@ start c = c .before .before .before .before .before
 abbrev start-of : tie.After-entry-from Inv-loop μ-loop → tie.Start Inv-loop μ-loop
 start-of d = start (d .before .before .before)
 
--- where the entry was found, from the end of a turn
+-- where the entry was found, from the end of an iteration
 abbrev found : tie.After-struct-known3 Inv-loop μ-loop → tie.After-entry-from Inv-loop μ-loop
 found c = c .before .before .before .before .before .before .before
 

@@ -1,4 +1,4 @@
--- `request::write_requests`: each turn writes the entry of one span, and what separates it from the entry before.
+-- `request::write_requests`: each iteration writes the entry of one span, and what separates it from the entry before.
 use mathlib.Core.List.{List, [], _∷_, _++_}
 use mathlib.Core.Path.{_≡_, refl, sym, ap, _∙_}
 use Prim.Native.Nat.{ℕ, _+_, _-_, _≤_}
@@ -49,14 +49,14 @@ some c = c .before .before .before .before
 abbrev start : tie.After-slice-known2 Inv-loop μ-loop → tie.Start Inv-loop μ-loop
 start c = some-start (some c)
 
--- the turn and the start, from where both bytes of a span are read
-abbrev turn : tie.After-wide2 Inv-loop μ-loop → tie.In-loop Inv-loop μ-loop
-turn e = e .before .before .before .before
+-- the iteration and the start, from where both bytes of a span are read
+abbrev iteration : tie.After-wide2 Inv-loop μ-loop → tie.In-loop Inv-loop μ-loop
+iteration e = e .before .before .before .before
 
 abbrev start-of : tie.After-wide2 Inv-loop μ-loop → tie.Start Inv-loop μ-loop
-start-of e = start (turn e .before .before)
+start-of e = start (iteration e .before .before)
 
--- where the list was chosen and where the span was read, from the end of a turn
+-- where the list was chosen and where the span was read, from the end of an iteration
 abbrev chosen : tie.After-slice-known4 Inv-loop μ-loop → tie.After-next-list Inv-loop μ-loop
 chosen c = c .before .before .before .before .before .before
 
@@ -129,27 +129,27 @@ add-index c = omega (arith, span (c .before .before .before .before) .in-range)
 -- its steps and size, as the span gives them
 entry : (e : tie.After-wide2 Inv-loop μ-loop) → let d = e .before .before .before .before in let s = start (d .before .before) in
     FirstEntry (s .args .limits .entry) (drop (d .before .loop .step) (steps s)) (e .before .before .wide .result) (e .wide2 .result)
-entry e = rw (e .before .before .wide .ensures .0, e .wide2 .ensures .0) (span (turn e) .entry)
+entry e = rw (e .before .before .wide .ensures .0, e .wide2 .ensures .0) (span (iteration e) .entry)
 
 -- its PData fits a frame
 pdata-fits : (e : tie.After-wide2 Inv-loop μ-loop) → e .wide2 .result ≤ pdataMax
 pdata-fits e = omega (arith, entry e .small, entry-limit (start-of e .pre .3) .frame)
 
 -- its steps are within the scene
-in-scene : (e : tie.After-wide2 Inv-loop μ-loop) → turn e .before .loop .step + e .before .before .wide .result ≤ start-of e .args .count
+in-scene : (e : tie.After-wide2 Inv-loop μ-loop) → iteration e .before .loop .step + e .before .before .wide .result ≤ start-of e .args .count
 in-scene e =
     let s = start-of e in
-    omega (arith, entry e .within, length-drop (turn e .before .loop .step) (steps s), count-of s, turn e .loop-test .taken)
+    omega (arith, entry e .within, length-drop (iteration e .before .loop .step) (steps s), count-of s, iteration e .loop-test .taken)
 
 next-list-requires : tie.Need-next-list-requires Inv-loop μ-loop
 next-list-requires c κs =
     let e = c .before in
     let s = start-of e in
-    let l = turn e .before .loop in (
+    let l = iteration e .before .loop in (
       l .inv .0 .small,
       pdata-fits e,
       omega (arith, s .pre .3 .frame),
-      separator-room (s .pre .3) _ _ _ _ _ _ _ _ _ (entry e) _ _ (l .inv .0) (room (turn e .before .before)),
+      separator-room (s .pre .3) _ _ _ _ _ _ _ _ _ (entry e) _ _ (l .inv .0) (room (iteration e .before .before)),
     )
 
 write-entry-at-requires : tie.Need-write-entry-at-requires Inv-loop μ-loop
@@ -157,7 +157,7 @@ write-entry-at-requires c κs =
     let t = c .before .before .before .next-list .ensures in
     let e = c .before .before .before .before .before in
     let s = start-of e in
-    let l = turn e .before .loop in
+    let l = iteration e .before .loop in
     let f = entry e in
     let slice = in-scene e in (
       omega (arith, slice, s .pre .0),
@@ -166,7 +166,7 @@ write-entry-at-requires c κs =
       pdata-fits e,
       f .fits ∙ ap (λ (t : List Step). length (groupData t))
           (steps-slice (s .args .count) (l .step) (e .before .before .wide .result) (s .args .body .now) slice),
-      entry-room (s .pre .3) _ _ _ _ _ _ _ _ _ f _ _ (l .inv .0) _ _ (t .2) (t .0) (room (turn e .before .before)),
+      entry-room (s .pre .3) _ _ _ _ _ _ _ _ _ f _ _ (l .inv .0) _ _ (t .2) (t .0) (room (iteration e .before .before)),
       entry-writable (s .args .limits .entry) (s .pre .3 .entry) _ _ _ _ _ (s .pre .2) slice f,
     )
 
@@ -176,13 +176,13 @@ loop-again c =
     let t = chosen c .next-list in
     let e = read c in
     let s = start-of e in
-    let l = turn e .before .loop in
+    let l = iteration e .before .loop in
     let k = e .before .before .wide .result in (
       bytes-more (s .pre .3) _ _ _ _ _ _ _ _ _ (entry e) _ _ (l .inv .0) _ _ (t .ensures .2) (t .ensures .0) _ _ _
           (w .1 ∙ ap (λ (x : List Step). sets (t .last .1 .1 .1 .1 .1 .0) (t .result .at) (entryBytes (joinedItem (s .args .header .hwpid) x)))
           (sym (steps-slice (s .args .count) (l .step) k (s .args .body .now) (in-scene e))))
           (w .0) (t .ensures .1),
-      rw (← (e .before .before .wide .ensures .0), drop-drop k (l .step) (steps s)) at (span (turn e) .rest),
+      rw (← (e .before .before .wide .ensures .0), drop-drop k (l .step) (steps s)) at (span (iteration e) .rest),
     )
 
 -- ---- after the last entry
@@ -233,7 +233,7 @@ write-requests-spec =
     next-list-requires
     write-entry-at-requires
     (λ c. omega (arith, in-scene (read c), start-of (read c) .pre .1))
-    (λ c. omega (arith, entry (read c) .some, turn (read c) .loop-test .taken))
+    (λ c. omega (arith, entry (read c) .some, iteration (read c) .loop-test .taken))
     loop-again
     slice-write-out
     add-result
