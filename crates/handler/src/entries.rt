@@ -1,6 +1,6 @@
 // Runs the entries of a batch in order.
 use crate::hwpid::hwpid_matches;
-use crate::peripheral::peripheral;
+use crate::peripheral::peripheral_request;
 use batch::entry::HEAD_SIZE;
 use batch::entry::NextEntry;
 use batch::entry::at_end;
@@ -32,7 +32,7 @@ fn run_entry(
 {
     if hwpid_matches(fixed.settings, hwpid) {
         let mut scratch = [0u8; Frame::PDATA_MAX];
-        let reply = peripheral(
+        let reply = peripheral_request(
             fixed,
             lamps,
             pnum,

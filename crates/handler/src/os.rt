@@ -25,7 +25,7 @@ pub const BATCH: u8 = 0x05;
 pub const CODE_CHECK: u8 = 0x0A;
 
 // Checks the whole list before the first entry runs, so a broken list changes nothing.
-fn run_batch(
+fn batch_request(
     fixed: ReadOnly,
     lamps: [Lamp; LAMPS],
     pdata: &[u8],
@@ -49,7 +49,7 @@ fn run_batch(
 }
 
 // Executes an OS request.
-pub fn os(
+pub fn os_request(
     fixed: ReadOnly,
     lamps: [Lamp; LAMPS],
     pcmd: u8,
@@ -64,7 +64,7 @@ pub fn os(
         ≡ outcomeInBuffer (osRequest pcmd (now (pdata .entry)) (stateFromParts fixed lamps (now (ram .entry)) (now (eeprom .entry)) (now (external .entry)))) (now (out .entry)) ⌝ }
 {
     if pcmd == BATCH {
-        return run_batch(fixed, lamps, pdata, ram, eeprom, external);
+        return batch_request(fixed, lamps, pdata, ram, eeprom, external);
     }
     if pcmd == CODE_CHECK {
         let checked = code_check(external, pdata, out);

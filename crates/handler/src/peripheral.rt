@@ -16,7 +16,7 @@ ghost use Rattle.handler.specs.Request.{SoundState, peripheralRequest};
 ghost use Rattle.handler.specs.Seen.{stateFromParts};
 
 // Executes a request to the peripheral of this PNUM and writes the response data to the front of `out`.
-pub fn peripheral(
+pub fn peripheral_request(
     fixed: ReadOnly,
     lamps: [Lamp; LAMPS],
     pnum: u8,

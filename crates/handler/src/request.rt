@@ -4,8 +4,8 @@ use crate::answer::RequestAnswer;
 use crate::answer::answer_handled;
 use crate::answer::answer_unhandled;
 use crate::hwpid::hwpid_matches;
-use crate::os::os;
-use crate::peripheral::peripheral;
+use crate::os::os_request;
+use crate::peripheral::peripheral_request;
 use crate::reply::RequestReply;
 use crate::reply::peripheral_reply;
 use crate::reply::without_data;
@@ -51,9 +51,9 @@ fn execute(
     }
     let pcmd = header.pcmd;
     if header.pnum == pnum::OS {
-        return os(fixed, lamps, pcmd, pdata, ram, eeprom, external, out);
+        return os_request(fixed, lamps, pcmd, pdata, ram, eeprom, external, out);
     }
-    let reply = peripheral(
+    let reply = peripheral_request(
         fixed,
         lamps,
         header.pnum,

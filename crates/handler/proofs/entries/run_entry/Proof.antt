@@ -7,15 +7,15 @@ use Rattle.handler.proofs.BatchEntries.{entry-match, entry-mismatch}
 use Rattle.handler.proofs.entries.run_entry.Statement.{statement}
 use Rattle.handler.proofs.entries.run_entry.Tie as tie
 
--- the call of `peripheral`, from the return
-abbrev requested : tie.After-result → tie.After-peripheral
+-- the call of `peripheral_request`, from the return
+abbrev requested : tie.After-result → tie.After-peripheral-request
 requested c = c .before .before .before .before .before .before .before .before
 
 returns : tie.Need-returns
 returns c =
     let call = requested c in
     let test = call .before .before .before .before .before in
-    ap (λ (l : SeenReply State). l .after) (call .peripheral .ensures)
+    ap (λ (l : SeenReply State). l .after) (call .peripheral-request .ensures)
     ∙ sym (ap (λ (x : Reply State). x .after) (entry-match _ _ (sym (test .before .hwpid-matches .ensures) ∙ test .if1 .taken)))
 
 returns-2 : tie.Need-returns-2

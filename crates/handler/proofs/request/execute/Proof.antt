@@ -13,10 +13,10 @@ abbrev start : tie.Else1 → tie.Start
 start c = c .before .before .before .before .before .before .before
 
 -- the two calls, from their returns
-abbrev os-call : tie.After-slice-known8 → tie.After-os
+abbrev os-call : tie.After-slice-known8 → tie.After-os-request
 os-call c = c .before .before .before .before .before .before .before .before
 
-abbrev peripheral-call : tie.After-peripheral-reply → tie.After-peripheral
+abbrev peripheral-call : tie.After-peripheral-reply → tie.After-peripheral-request
 peripheral-call c = c .before .before .before .before .before .before .before .before .before
 
 -- after the test of the HWPID
@@ -34,7 +34,7 @@ returns-2 : tie.Need-returns-2
 returns-2 c =
     let call = os-call c in
     let test = call .before .before .before .before .before in
-    call .os .ensures ∙ in-buffer _ (execute-os _ _ (hwpid-ok (test .before .before)) (test .if2 .taken))
+    call .os-request .ensures ∙ in-buffer _ (execute-os _ _ (hwpid-ok (test .before .before)) (test .if2 .taken))
 
 returns-3 : tie.Need-returns-3
 returns-3 c =
@@ -42,7 +42,7 @@ returns-3 c =
     let test = call .before .before .before .before .before in
     let o = start (test .before .before) .args .out .now in
     outcome-as (c .peripheral-reply .ensures)
-    ∙ outcome-reply-only (peripheralRequest _ _ _ _) o (call .peripheral .ensures)
+    ∙ outcome-reply-only (peripheralRequest _ _ _ _) o (call .peripheral-request .ensures)
     ∙ in-buffer o (execute-peripheral _ _ (hwpid-ok (test .before .before)) (test .if2 .left))
 
 pub execute-spec : {M : Type 1} → statement M

@@ -1,4 +1,4 @@
--- `peripheral`: one law of `peripheralRequest` for each PNUM.
+-- `peripheral_request`: one law of `peripheralRequest` for each PNUM.
 use borrow.Author.Needs.{needs}
 use mathlib.Core.Path.{ap, sym, _∙_}
 use mathlib.Core.List.{List}
@@ -11,8 +11,8 @@ use Rattle.node.proofs.Nodes.{node-settings, node-levels-in-range, node-ram}
 use Rattle.handler.specs.Request.{State}
 use Rattle.handler.specs.Seen.{stateFromParts}
 use Rattle.handler.proofs.Peripherals.{peripheral-lights, peripheral-unknown, reply-as, memory-seen}
-use Rattle.handler.proofs.peripheral.peripheral.Statement.{statement}
-use Rattle.handler.proofs.peripheral.peripheral.Tie as tie
+use Rattle.handler.proofs.peripheral.peripheral_request.Statement.{statement}
+use Rattle.handler.proofs.peripheral.peripheral_request.Tie as tie
 
 -- the start, from where the PNUM is neither EEPROM's nor that of external memory
 abbrev start : tie.Else2 → tie.Start
@@ -55,8 +55,8 @@ returns-5 c =
     let o = start (c .before .before) .args .out .now in
     ap (λ (x : Reply State). replyInBuffer x o) (sym (peripheral-unknown _ _ _ _ (c .before .before .before .if1 .left) (c .before .before .if2 .left) (c .before .if3 .left) (c .if4 .left)))
 
-pub peripheral-spec : {M : Type 1} → statement M
-peripheral-spec =
+pub peripheral-request-spec : {M : Type 1} → statement M
+peripheral-request-spec =
     tie.close (tie.spec (λ c κs. search needs) (λ c κs. search needs) (λ c. search needs) (λ c. search needs) returns
     (λ c κs. search needs) (λ c κs. search needs) (λ c. search needs) (λ c. search needs) returns-2 request-requires-3
     (λ c κs. search needs) (λ c. search needs) (λ c. search needs) returns-3 request-requires-4 (λ c. search needs)

@@ -1,18 +1,18 @@
--- `os`: one law of `osRequest` for each PCMD.
+-- `os_request`: one law of `osRequest` for each PCMD.
 use borrow.Author.Needs.{needs}
 use mathlib.Core.Path.{_∙_}
 use Rattle.handler.proofs.Outcomes.{os-batch, os-check, os-unknown, outcome-as, outcome-check, in-buffer}
-use Rattle.handler.proofs.os.os.Statement.{statement}
-use Rattle.handler.proofs.os.os.Tie as tie
+use Rattle.handler.proofs.os.os_request.Statement.{statement}
+use Rattle.handler.proofs.os.os_request.Tie as tie
 
--- the call of `run_batch`, from the return
-abbrev ran : tie.After-slice-known7 → tie.After-run-batch
+-- the call of `batch_request`, from the return
+abbrev ran : tie.After-slice-known7 → tie.After-batch-request
 ran c = c .before .before .before .before .before .before
 
 returns : tie.Need-returns
 returns c =
     let run = ran c in
-    run .run-batch .ensures _ ∙ in-buffer _ (os-batch _ _ _ (run .before .before .before .before .if1 .taken))
+    run .batch-request .ensures _ ∙ in-buffer _ (os-batch _ _ _ (run .before .before .before .before .if1 .taken))
 
 returns-2 : tie.Need-returns-2
 returns-2 c =
@@ -22,7 +22,7 @@ returns-2 c =
 returns-3 : tie.Need-returns-3
 returns-3 c = outcome-as (c .without-data .ensures) ∙ in-buffer _ (os-unknown _ _ _ (c .before .before .if1 .left) (c .before .if2 .left))
 
-pub os-spec : {M : Type 1} → statement M
-os-spec =
+pub os-request-spec : {M : Type 1} → statement M
+os-request-spec =
     tie.close (tie.spec (λ c κs. search needs) (λ c. search needs) (λ c. search needs) (λ c. search needs) returns
     (λ c κs. search needs) (λ c. search needs) (λ c. search needs) returns-2 (λ c κs. search needs) returns-3)

@@ -1,4 +1,4 @@
--- `run_batch`: one law of `batchRequest` for each return.
+-- `batch_request`: one law of `batchRequest` for each return.
 use borrow.Author.Needs.{needs}
 use mathlib.Core.Path.{ap, sym, _∙_}
 use mathlib.Core.List.{[]}
@@ -7,8 +7,8 @@ use Rattle.batch.specs.Batch.{listError}
 use Rattle.handler.specs.Request.{State, replyOnly}
 use Rattle.handler.specs.Seen.{outcomeInBuffer}
 use Rattle.handler.proofs.Outcomes.{batch-empty, batch-broken, batch-runs, outcome-as, in-buffer}
-use Rattle.handler.proofs.os.run_batch.Statement.{statement}
-use Rattle.handler.proofs.os.run_batch.Tie as tie
+use Rattle.handler.proofs.os.batch_request.Statement.{statement}
+use Rattle.handler.proofs.os.batch_request.Tie as tie
 
 -- the call of `run_list`, from the last return
 abbrev ran : tie.After-without-data3 → tie.After-run-list
@@ -33,7 +33,7 @@ returns-3 c = λ o.
     ∙ ap (λ (x : State). outcomeInBuffer (replyOnly (reply x 0 [])) o) (run .run-list .ensures)
     ∙ in-buffer o (batch-runs _ _ (list .before .if1 .left) (sym (list .check-list .ensures) ∙ sound .enum-told .given .1))
 
-pub run-batch-spec : {M : Type 1} → statement M
-run-batch-spec =
+pub batch-request-spec : {M : Type 1} → statement M
+batch-request-spec =
     tie.close (tie.spec (λ c κs. search needs) returns (λ c κs. search needs) (λ c. search needs) (λ c. search needs) (λ c κs. search needs) (λ c κs. search needs)
     returns-2 (λ c κs. search needs) (λ c κs. search needs) (λ c. search needs) (λ c. search needs) (λ c. search needs) returns-3)
