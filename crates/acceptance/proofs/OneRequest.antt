@@ -66,16 +66,16 @@ module _ (pcmd a h : ℕ) (pdata : List ℕ) (st : State) (o : List ℕ) (k : So
   abbrev request : List ℕ
   request = headerBytes (frame a osPnum pcmd h) ++ pdata
 
-  back : headerOf request ≡ frame a osPnum pcmd h
-  back = read-written (frame a osPnum pcmd h) pdata
+  header-read : headerOf request ≡ frame a osPnum pcmd h
+  header-read = read-written (frame a osPnum pcmd h) pdata
 
   -- the item in the frame is the one that was executed
   request-executed : execute (frameItem request) st ≡ noErrorOutcome end es
-  request-executed = ap (λ (x : Frame). execute (item (x .pnum) (x .pcmd) (x .hwpid) pdata) st) back ∙ executed
+  request-executed = ap (λ (x : Frame). execute (item (x .pnum) (x .pcmd) (x .hwpid) pdata) st) header-read ∙ executed
 
   call-result : handleRequest request st o ≡ resultAt a (st .node .settings) (frameItem request) (noErrorOutcome end es) o
   call-result =
-      result-at request st o k (not-refused request st o k (omega arith) length-max room) a (ap (λ (x : Frame). x .nadr) back) addressed-to
+      result-at request st o k (not-refused request st o k (omega arith) length-max room) a (ap (λ (x : Frame). x .nadr) header-read) addressed-to
       ∙ ap (λ (x : Outcome). resultAt a (st .node .settings) (frameItem request) x o) request-executed
 
   -- the call leaves the state that executing leaves

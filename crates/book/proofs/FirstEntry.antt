@@ -93,7 +93,7 @@ module _ (limit : ℕ) where
 
   -- the first step starts the entry
   pub first-steps-start : oneStepMax ≤ limit → (n : ℕ) (a : List ℕ) (size : ℕ) → 0 < n → size ≡ firstSize (stepAt a 0) → size ≤ oneStepMax → FirstSteps n a 1 size
-  first-steps-start room n a size h e small =
+  first-steps-start room n a size h e size-max =
       let ss = stepsIn n a in
       let long : 0 < length ss = omega (arith, steps-length n a) in
       (omega arith, omega arith, omega arith, e ∙ ap firstSize (sym (steps-at n a 0 h)) ∙ sym (size-one ss long), group-start (joins limit) ss long)
@@ -101,7 +101,7 @@ module _ (limit : ℕ) where
   -- an entry that ends here is the first
   entry-here : (n : ℕ) (a : List ℕ) (k size : ℕ) → FirstSteps n a k size
       → entriesOf limit (stepsIn n a) ≡ take k (stepsIn n a) ∷ entriesOf limit (drop k (stepsIn n a)) → FirstEntry limit (stepsIn n a) k size
-  entry-here n a k size i e = record { some = i .0; within = omega (arith, steps-length n a, i .1); small = i .2; fits = i .3; first = e }
+  entry-here n a k size i e = record { some = i .0; within = omega (arith, steps-length n a, i .1); size-max = i .2; size-is = i .3; first = e }
 
   -- the scene ends with the entry
   pub first-steps-end : (n : ℕ) (a : List ℕ) (k size : ℕ) → FirstSteps n a k size → n ≤ k → FirstEntry limit (stepsIn n a) k size

@@ -42,8 +42,11 @@ pub record EntryLimit (limit : ℕ) : Type 0 where
 
 -- the first entry has k steps and `size` bytes of PData
 pub record FirstEntry (limit : ℕ) (ss : List Step) (k size : ℕ) : Type 0 where
+  -- at least one of the steps
   pub some : 1 ≤ k
   pub within : k ≤ length ss
-  pub small : size ≤ limit
-  pub fits : size ≡ length (groupData (take k ss))
+  -- the size of its PData, within the limit
+  pub size-max : size ≤ limit
+  pub size-is : size ≡ length (groupData (take k ss))
+  -- the other entries are those of the other steps
   pub first : entriesOf limit ss ≡ take k ss ∷ entriesOf limit (drop k ss)

@@ -91,9 +91,9 @@ step-small s e =
     by-test (leb s 100)
     (λ t. leb-true _ _ t)
     (λ t. let l : 100 < s = leb-false _ _ t in
-    let apart : (k : ℕ) → k ≤ 100 → eqb s k ≡ false = λ k h. ne-eqb s k (λ x. omega (arith, l, h, x)) in
+    let differs : (k : ℕ) → k ≤ 100 → eqb s k ≡ false = λ k h. ne-eqb s k (λ x. omega (arith, l, h, x)) in
     let z : false ≡ true
-    = rw (apart 1 (omega arith), apart 2 (omega arith), apart 4 (omega arith), apart 5 (omega arith), apart 10 (omega arith), apart 20 (omega arith), apart 25 (omega arith), apart 50 (omega arith), apart 100 (omega arith)) at e in
+    = rw (differs 1 (omega arith), differs 2 (omega arith), differs 4 (omega arith), differs 5 (omega arith), differs 10 (omega arith), differs 20 (omega arith), differs 25 (omega arith), differs 50 (omega arith), differs 100 (omega arith)) at e in
     let y : _≡_ {A = ℕ} 0 1 = cc in absurd (omega (arith, y)))
 
 module _ (s : Settings) (h : settingsOk s ≡ true) where

@@ -58,14 +58,14 @@ module _ (old : List ℕ) (at : ℕ) (all out : List ℕ) (w : ℕ) (rest : List
 pub record Progress (entryMax listMax : ℕ) (remaining : ℕ → List (List Step) → List ℕ) (ss : List Step) (old : List ℕ) (at step size : ℕ)
     (out : List ℕ) (w : ℕ) : Type 0 where
   pub within : step ≤ length ss
-  pub small : size ≤ listMax
+  pub size-max : size ≤ listMax
   pub rest : Remaining old at (remaining emptyListSize (entriesOf entryMax ss)) out w (remaining size (entriesOf entryMax (drop step ss)))
 
 module _ {entryMax listMax : ℕ} {front : List ℕ} (l : Limits entryMax listMax front) (remaining : ℕ → List (List Step) → List ℕ)
     (ss : List Step) (old : List ℕ) (at : ℕ) where
   -- before the first entry
   pub progress-start : Progress entryMax listMax remaining ss old at 0 emptyListSize old at
-  progress-start = record { within = omega arith; small = omega (arith, l .list); rest = remaining-start _ _ _ }
+  progress-start = record { within = omega arith; size-max = omega (arith, l .list); rest = remaining-start _ _ _ }
 
   module _ (step size : ℕ) (out : List ℕ) (w : ℕ) (o : Progress entryMax listMax remaining ss old at step size out w) where
     -- after an entry of k steps
@@ -77,7 +77,7 @@ module _ {entryMax listMax : ℕ} {front : List ℕ} (l : Limits entryMax listMa
         rw es
         (record {
           within = omega (arith, f .within, length-drop step ss, o .within);
-          small = next-small l size sz (f .small);
+          size-max = next-small l size sz (f .size-max);
           rest = remaining-more old at _ out w _ (o .rest) xs _ out′ w′ e eo ew;
         })
 
@@ -133,14 +133,14 @@ module _ {entryMax listMax : ℕ} {front : List ℕ} (l : Limits entryMax listMa
             arith,
             remaining-room old at _ out′ w′ _ x entry laterBytes refl c,
             entry-length (joinedItem h (take k (drop step ss))),
-            f .fits,
+            f .size-is,
           )
 
       -- after both the loop goes on
       pub bytes-more : (out″ : List ℕ) (w″ size′ : ℕ) → out″ ≡ sets out′ w′ entry → w″ ≡ w′ + entryHeadSize + sz → size′ ≡ nextSize listMax size sz
           → Progress entryMax listMax (remainingBytes listMax prefix h) ss old at (step + k) size′ out″ w″
       bytes-more out″ w″ size′ fo fw =
-          let n : w″ ≡ w′ + length entry = omega (arith, entry-length (joinedItem h (take k (drop step ss))), f .fits) in
+          let n : w″ ≡ w′ + length entry = omega (arith, entry-length (joinedItem h (take k (drop step ss))), f .size-is) in
           let both = two-writes out out′ out″ separator entry (separator ++ entry) w w′ w″ eo ew fo n refl in
           progress-more l (remainingBytes listMax prefix h) ss old at step size out w o k sz f (separator ++ entry) out″ w″ size′
           (bytes-next entryMax listMax ss step k sz f prefix h size ∙ sym (append-assoc separator entry laterBytes)) (both .1) (both .0)

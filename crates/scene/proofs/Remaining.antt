@@ -136,9 +136,9 @@ module _ (entryMax listMax : ℕ) (ss : List Step) (step k sz : ℕ) (f : FirstE
   pub bytes-next : (prefix : List ℕ) (h size : ℕ) → remainingBytes listMax prefix h size (entriesOf entryMax (drop step ss))
       ≡ separatorBytes listMax prefix size sz
       ++ (entryBytes (joinedItem h (take k (drop step ss))) ++ remainingBytes listMax prefix h (nextSize listMax size sz) (entriesOf entryMax (drop (step + k) ss)))
-  bytes-next prefix h size = rw (entries-next, f .fits)
+  bytes-next prefix h size = rw (entries-next, f .size-is)
 
   -- the length bytes that remain
   pub lengths-next : (prefix size : ℕ) → remainingLengths listMax prefix size (entriesOf entryMax (drop step ss))
       ≡ lengthByteIfFull listMax prefix size sz ++ remainingLengths listMax prefix (nextSize listMax size sz) (entriesOf entryMax (drop (step + k) ss))
-  lengths-next prefix size = rw (entries-next, f .fits)
+  lengths-next prefix size = rw (entries-next, f .size-is)

@@ -78,8 +78,8 @@ module _ (entryMax : ℕ) (min : oneStepMax ≤ entryMax) (xs : List Step) (good
           ap length (take-append-drop (length r) xs),
           ap length same,
         );
-        small = q .1;
-        fits = ap (λ (l : List Step). length (groupData l)) (sym same);
+        size-max = q .1;
+        size-is = ap (λ (l : List Step). length (groupData l)) (sym same);
         first = e ∙ ap₂ (λ (l : List Step) (ls : List (List Step)). l ∷ ls) (sym same) (c .rest ∙ ap (entriesOf entryMax) (sym rest));
       }
 
@@ -117,7 +117,7 @@ spans-room entryMax ss = omega (arith, spans-length (entriesOf entryMax ss), len
 module _ (entryMax : ℕ) (ss : List Step) (old : List ℕ) (step : ℕ) (spans : List ℕ) (m : ℕ) (l : SpansWritten entryMax ss old step spans m) where
   module _ (k sz : ℕ) (f : FirstEntry entryMax (drop step ss) k sz) where
     spans-next : spanBytes (entriesOf entryMax (drop step ss)) ≡ (k ∷ sz ∷ []) ++ spanBytes (entriesOf entryMax (drop (step + k) ss))
-    spans-next = ap spanBytes (entries-next entryMax 0 ss step k sz f) ∙ rw (length-take-le k (drop step ss) (f .within), ← (f .fits))
+    spans-next = ap spanBytes (entries-next entryMax 0 ss step k sz f) ∙ rw (length-take-le k (drop step ss) (f .within), ← (f .size-is))
 
     -- the next span has room
     pub span-room : m + spanLength ≤ spanLength * length ss

@@ -44,11 +44,11 @@ first-entry-is : (c : tie.After-known-told Inv-loop μ-loop) →
     nextEntry (take (length (list c) - position c) (drop (position c) (list c))) ≡ Entry (g .0) (g .1 .0) (g .1 .1 .0) (g .1 .1 .1 .0)
 first-entry-is c = sym (c .before .before .before .next-entry .ensures) ∙ c .before .len .given .1
 
--- the place where it ran, from the end of an iteration
-abbrev ran : tie.After-slice-known6 Inv-loop μ-loop → tie.After-run-entry Inv-loop μ-loop
-ran c = c .before .before .before .before .before .before
+-- the call of `run_entry`, from the end of an iteration
+abbrev run-call : tie.After-slice-known6 Inv-loop μ-loop → tie.After-run-entry Inv-loop μ-loop
+run-call c = c .before .before .before .before .before .before
 
--- the place where it was read, from where it ran
+-- the place where the entry was read, from that call
 abbrev read : tie.After-run-entry Inv-loop μ-loop → tie.After-known-told Inv-loop μ-loop
 read c = c .before .before .before .before .before
 
@@ -68,7 +68,7 @@ run-entry-requires c κs = iteration (c .before .before .before .before) .loop .
 
 loop-again : tie.Need-loop-again Inv-loop μ-loop
 loop-again c =
-    let call = ran c in
+    let call = run-call c in
     let i = iteration (read call) .loop .inv in (
       entry-runs _ _ _ _ (i .0) (first-entry-is (read call)) (call .run-entry .ensures),
       call .run-entry .kept .1 .1 .1 .1 .1 .1 .0 ∙ i .1,
@@ -88,5 +88,5 @@ run-list-spec =
     (λ c κs. search needs) (λ c. search needs) (λ c. search needs) (λ c. search needs) (λ c. search needs)
     (λ c. search needs) returns (λ c. omega (arith, sized c)) (λ c. omega (arith, sized c))
     (λ c. omega (arith, sized c)) (λ c. omega (arith, sized c)) (λ c. omega (arith, sized c)) run-entry-requires
-    (λ c. omega (arith, sized (read (ran c)))) (λ c. omega (arith, sized (read (ran c)))) loop-again
+    (λ c. omega (arith, sized (read (run-call c)))) (λ c. omega (arith, sized (read (run-call c)))) loop-again
     (λ c. search needs) (λ c. search needs) (λ c. search needs) returns-2)

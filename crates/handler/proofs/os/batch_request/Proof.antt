@@ -11,8 +11,8 @@ use Rattle.handler.proofs.os.batch_request.Statement.{statement}
 use Rattle.handler.proofs.os.batch_request.Tie as tie
 
 -- the call of `run_list`, from the last return
-abbrev ran : tie.After-without-data3 → tie.After-run-list
-ran c = c .before .before .before .before .before .before .before
+abbrev run-call : tie.After-without-data3 → tie.After-run-list
+run-call c = c .before .before .before .before .before .before .before
 
 returns : tie.Need-returns
 returns c = λ o. outcome-as (c .without-data .ensures) ∙ in-buffer o (batch-empty _ _ (c .before .if1 .taken))
@@ -26,7 +26,7 @@ returns-2 c = λ o.
 
 returns-3 : tie.Need-returns-3
 returns-3 c = λ o.
-    let run = ran c in
+    let run = run-call c in
     let sound = run .before .before .before .before in
     let list = sound .before .before in
     outcome-as (c .without-data3 .ensures)

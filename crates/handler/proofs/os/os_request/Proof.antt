@@ -6,12 +6,12 @@ use Rattle.handler.proofs.os.os_request.Statement.{statement}
 use Rattle.handler.proofs.os.os_request.Tie as tie
 
 -- the call of `batch_request`, from the return
-abbrev ran : tie.After-slice-known7 → tie.After-batch-request
-ran c = c .before .before .before .before .before .before
+abbrev batch-call : tie.After-slice-known7 → tie.After-batch-request
+batch-call c = c .before .before .before .before .before .before
 
 returns : tie.Need-returns
 returns c =
-    let run = ran c in
+    let run = batch-call c in
     run .batch-request .ensures _ ∙ in-buffer _ (os-batch _ _ _ (run .before .before .before .before .if1 .taken))
 
 returns-2 : tie.Need-returns-2

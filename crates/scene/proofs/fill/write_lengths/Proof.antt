@@ -115,7 +115,7 @@ in-scene d =
 
 -- its PData fits a frame
 pdata-fits : (d : tie.After-entry-from Inv-loop μ-loop) → d .entry-from .result .size ≤ pdataMax
-pdata-fits d = omega (arith, d .entry-from .ensures .small, entry-limit (start-of d .pre .3) .frame)
+pdata-fits d = omega (arith, d .entry-from .ensures .size-max, entry-limit (start-of d .pre .3) .frame)
 
 cast-spans : tie.Need-cast-spans Inv-loop μ-loop
 cast-spans c = omega (arith, in-scene (c .before), start-of (c .before) .pre .1)
@@ -135,7 +135,7 @@ next-length-requires c κs =
     let d = c .before .before .before in
     let s = start-of d in
     let l = d .before .before .loop in (
-      l .inv .0 .small,
+      l .inv .0 .size-max,
       pdata-fits d,
       omega (arith, s .pre .3 .frame),
       lengths-room (s .pre .3) _ _ _ _ _ _ _ _ _ (d .entry-from .ensures) _ (l .inv .0) (room (d .before .before .before)),
@@ -155,7 +155,7 @@ loop-again c =
 
 -- the last length byte fits a byte
 last-small : (c : tie.After-loop Inv-loop μ-loop) → c .before .loop .size + prefix (start (c .before .before)) ≤ headerSize + pdataMax
-last-small c = omega (arith, c .before .loop .inv .0 .small, start (c .before .before) .pre .3 .frame)
+last-small c = omega (arith, c .before .loop .inv .0 .size-max, start (c .before .before) .pre .3 .frame)
 
 all-done : (c : tie.After-loop Inv-loop μ-loop) → length (steps (start (c .before .before))) ≤ c .before .loop .step
 all-done c = omega (arith, count-of (start (c .before .before)), c .loop-test .left)

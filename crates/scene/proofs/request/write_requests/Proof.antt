@@ -133,7 +133,7 @@ entry e = rw (e .before .before .wide .ensures .0, e .wide2 .ensures .0) (span (
 
 -- its PData fits a frame
 pdata-fits : (e : tie.After-wide2 Inv-loop μ-loop) → e .wide2 .result ≤ pdataMax
-pdata-fits e = omega (arith, entry e .small, entry-limit (start-of e .pre .3) .frame)
+pdata-fits e = omega (arith, entry e .size-max, entry-limit (start-of e .pre .3) .frame)
 
 -- its steps are within the scene
 in-scene : (e : tie.After-wide2 Inv-loop μ-loop) → iteration e .before .loop .step + e .before .before .wide .result ≤ start-of e .args .count
@@ -146,7 +146,7 @@ next-list-requires c κs =
     let e = c .before in
     let s = start-of e in
     let l = iteration e .before .loop in (
-      l .inv .0 .small,
+      l .inv .0 .size-max,
       pdata-fits e,
       omega (arith, s .pre .3 .frame),
       separator-room (s .pre .3) _ _ _ _ _ _ _ _ _ (entry e) _ _ (l .inv .0) (room (iteration e .before .before)),
@@ -164,7 +164,7 @@ write-entry-at-requires c κs =
       f .some,
       omega (arith, slice, s .pre .1),
       pdata-fits e,
-      f .fits ∙ ap (λ (t : List Step). length (groupData t))
+      f .size-is ∙ ap (λ (t : List Step). length (groupData t))
           (steps-slice (s .args .count) (l .step) (e .before .before .wide .result) (s .args .body .now) slice),
       entry-room (s .pre .3) _ _ _ _ _ _ _ _ _ f _ _ (l .inv .0) _ _ (t .2) (t .0) (room (iteration e .before .before)),
       entry-writable (s .args .limits .entry) (s .pre .3 .entry) _ _ _ _ _ (s .pre .2) slice f,
