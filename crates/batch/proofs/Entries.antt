@@ -1,7 +1,7 @@
 -- Laws of the end of a list and of the next entry.
 use mathlib.Core.Path.{_≡_, refl, sym, ap, subst, _∙_}
 use mathlib.Core.List.{List}
-use mathlib.Core.Bool.{Bool, true, false, cond}
+use mathlib.Core.Bool.{Bool, true, false, cond, and-false}
 use Prim.Native.Nat.{ℕ, _≤_, _<_}
 use native.Mathlib.Omega.{arith}
 use borrow.Author.Tests.{lt-ltb, le-ltb, eq-eqb, ne-eqb, ltb-false, ltb-true, eqb-true, eqb-false}
@@ -29,6 +29,10 @@ module _ (s : List ℕ) where
   -- no byte, or several, are not the end
   pub not-at-end : (length s ≡ 1 → ⊥) → atEnd s ≡ false
   not-at-end h = rw (ne-eqb (length s) 1 h) refl
+
+  -- a byte other than zero is not the end
+  pub nonzero-not-at-end : 0 < getD s 0 0 → atEnd s ≡ false
+  nonzero-not-at-end h = rw (ne-eqb (getD s 0 0) closingZero (omega arith)) (and-false (eqb (length s) 1))
 
   -- a zero that is not the end has bytes after it
   zero-not-at-end : atEnd s ≡ false → getD s 0 0 ≡ closingZero → length s ≡ 1 → ⊥

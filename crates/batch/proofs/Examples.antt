@@ -2,7 +2,7 @@
 use mathlib.Core.Path.{_≡_, refl}
 use mathlib.Core.List.{[], _∷_}
 use Rattle.batch.specs.declared.list.ListCheck.the-variants.{Sound, Broken}
-use Rattle.batch.specs.Batch.{closingZero, shortReason, unclosedReason, trailingReason, nextEntry, readingFrom, reading}
+use Rattle.batch.specs.Batch.{closingZero, shortReason, pastEndReason, unclosedReason, trailingReason, nextEntry, readingFrom, reading}
 
 -- `00` has no entries
 pub zero-alone : reading (closingZero ∷ []) ≡ record { items = []; check = Sound }
@@ -13,6 +13,21 @@ zero-alone = refl
 pub four-zero : (reading (4 ∷ 0 ∷ [])) .check ≡ Broken shortReason 0
 unfolding nextEntry readingFrom
 four-zero = refl
+
+-- `03` has such a length too; that comes before the end of the list
+pub three-alone : (reading (3 ∷ [])) .check ≡ Broken shortReason 0
+unfolding nextEntry readingFrom
+three-alone = refl
+
+-- `05 71 3E FF` has an entry that runs past the end
+pub one-byte-missing : (reading (5 ∷ 0x71 ∷ 0x3E ∷ 0xFF ∷ [])) .check ≡ Broken pastEndReason 0
+unfolding nextEntry readingFrom
+one-byte-missing = refl
+
+-- `05 71 3E FF FF` is a whole entry without a closing zero
+pub zero-missing : (reading (5 ∷ 0x71 ∷ 0x3E ∷ 0xFF ∷ 0xFF ∷ [])) .check ≡ Broken unclosedReason 5
+unfolding nextEntry readingFrom
+zero-missing = refl
 
 -- `00 00` has a byte after the closing zero
 pub zero-zero : (reading (0 ∷ 0 ∷ [])) .check ≡ Broken trailingReason 1

@@ -2,5 +2,6 @@ pub mod Entries
 pub mod Lists
 pub mod Faults
 pub mod RoundTrip
+pub mod Places
 pub mod Running
 pub mod Examples

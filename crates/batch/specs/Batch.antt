@@ -3,7 +3,7 @@ use Prim.Native.Nat.{ℕ, zero, suc, _+_, _-_, _≤_, _<_}
 use mathlib.Core.List.{List, [], _∷_, _++_}
 use mathlib.Core.Bool.{Bool, cond, _&&_}
 use mathlib.Core.Path.{_≡_}
-use lib.ListN.{length, getD}
+use lib.ListN.{length, getD, take}
 use lib.Dec.{ltb, eqb}
 use Rattle.dpa.specs.Number.{low, high, wordAt}
 use Rattle.dpa.specs.Lists.{Bytes, slice}
@@ -143,12 +143,33 @@ abbrev pub listError : ListCheck → ℕ
 listError Sound = 0
 listError (Broken r a) = nextEntryError (Fault r a)
 
--- what reason r at position a says about the list s
+-- the reason and the place that a batch with this list reports; 0 and 0 for a sound list
+abbrev pub reasonOf : ListCheck → ℕ
+reasonOf Sound = 0
+reasonOf (Broken r a) = r
+
+abbrev pub placeOf : ListCheck → ℕ
+placeOf Sound = 0
+placeOf (Broken r a) = a
+
+-- ---- what a reason and a place say about the bytes of a list, without the reader
+
+-- the bytes at position a of the list s that reason r stands for
 pub data FaultAt (s : List ℕ) (r a : ℕ) : Type 0 where
   short : r ≡ shortReason → a < length s → 0 < getD s a 0 → getD s a 0 < entryHeadSize → FaultAt s r a
   pastEnd : r ≡ pastEndReason → a < length s → entryHeadSize ≤ getD s a 0 → length s < a + getD s a 0 → FaultAt s r a
   unclosed : r ≡ unclosedReason → a ≡ length s → FaultAt s r a
   trailing : r ≡ trailingReason → 0 < a → a < length s → getD s (a - 1) 0 ≡ closingZero → FaultAt s r a
+
+-- where the entries before place a end: at the place; for bytes after the closing zero, at that zero
+abbrev pub entriesEnd : ℕ → ℕ → ℕ
+entriesEnd r a = cond (eqb r trailingReason) (a - 1) a
+
+-- the list s has fault r at place a: whole entries lead up to it
+pub record ListFault (s : List ℕ) (r a : ℕ) : Type 0 where
+  pub items : List Item
+  pub before : take (entriesEnd r a) s ≡ entriesBytes items
+  pub fault : FaultAt s r a
 
 -- ---- running entries
 

@@ -1,5 +1,7 @@
 // Why a list cannot be split into entries. Each reason comes with a position in the list.
 
+// A list without a fault.
+pub const NONE: u8 = 0;
 // A length byte of 1 to 4; the position is that byte's.
 pub const SHORT: u8 = 1;
 // An entry that runs past the end of the list; the position is its length byte's.

@@ -10,7 +10,7 @@ use borrow.Rule.Slice.PartMut.{midOf, putMid}
 use borrow.Author.Tests.{eq-eqb, ne-eqb, eqb-true, ltb-false}
 use Rattle.dpa.specs.declared.frame.Frame.{Frame}
 use Rattle.dpa.specs.Lists.{overwriteFront}
-use Rattle.dpa.specs.Frame.{headerSize, responseHeaderSize, longestResponse, broadcastNadr, headerOf, frameFits, responseHeader}
+use Rattle.dpa.specs.Frame.{headerSize, longestFrame, responseHeaderSize, longestResponse, broadcastNadr, headerOf, frameFits, responseHeader}
 use Rattle.dpa.proofs.Bool.{by-cond, then-taken, else-taken}
 use Rattle.dpa.proofs.Headers.{fits-sizes}
 use Rattle.dpa.proofs.Lists.{slice-to-end, tail-borrowed, tail-returned, overwrite-append}
@@ -87,7 +87,7 @@ addressed-exact f st o =
 
 module _ (n : Node) (f e x r : ℕ) (z : requestRefusal n f e x r ≡ 0) where
   -- what a call without a refusal was given
-  pub not-refused-facts : (nodeOk n ≡ true) × (headerSize ≤ f) × (longestResponse ≤ r) × (e ≡ sizeOf Eeprom) × (x ≡ sizeOf External)
+  pub not-refused-facts : (nodeOk n ≡ true) × (headerSize ≤ f) × (f ≤ longestFrame) × (longestResponse ≤ r) × (e ≡ sizeOf Eeprom) × (x ≡ sizeOf External)
   unfolding requestRefusal
   not-refused-facts =
       let a = then-taken (nodeOk n) _ 1 0 (λ q. omega arith) z in
@@ -95,13 +95,13 @@ module _ (n : Node) (f e x r : ℕ) (z : requestRefusal n f e x r ≡ 0) where
       let c = else-taken (ltb r longestResponse) 3 _ 0 (λ q. omega arith) (b .1) in
       let d = then-taken (eqb e (sizeOf Eeprom)) _ 4 0 (λ q. omega arith) (c .1) in
       let g = then-taken (eqb x (sizeOf External)) 0 4 0 (λ q. omega arith) (d .1) in
-      (a .0, fits-sizes f (b .0) .0, ltb-false _ _ (c .0), eqb-true _ _ (d .0), eqb-true _ _ (g .0))
+      (a .0, fits-sizes f (b .0) .0, fits-sizes f (b .0) .1, ltb-false _ _ (c .0), eqb-true _ _ (d .0), eqb-true _ _ (g .0))
 
 -- a call without a refusal was given a sound state
 pub accepted-sound : (n : Node) (e x : List ℕ) (f r : ℕ) → requestRefusal n f (length e) (length x) r ≡ 0 → SoundState (state n e x)
 accepted-sound n e x f r z =
     let k = not-refused-facts n f (length e) (length x) r z in
-    record { node-ok = k .0; eeprom-size = k .3; external-size = k .4 }
+    record { node-ok = k .0; eeprom-size = k .4; external-size = k .5 }
 
 -- ---- as the code shows it
 

@@ -9,7 +9,7 @@ use Rattle.checksum.specs.Check.{codeCheck}
 use Rattle.checksum.proofs.Checks.{check-harmless}
 use Rattle.batch.specs.Batch.{Item, reading, listError}
 use Rattle.node.specs.Node.{withLamps}
-use Rattle.handler.specs.Request.{State, withNode, memoryOf, withMemory, peripheralRequest, executeEntry, loadReport, noReport, Outcome, replyOnly, batchRequest, codeCheckRequest, execute, frameItem, CallResult, unhandledResult, callRefusal, handleRequest}
+use Rattle.handler.specs.Request.{State, withNode, memoryOf, withMemory, peripheralRequest, executeEntry, loadReport, faultReport, noReport, Outcome, outcome, replyOnly, batchRequest, codeCheckRequest, execute, frameItem, CallResult, unhandledResult, callRefusal, handleRequest}
 use Rattle.handler.proofs.Peripherals.{memory-same, peripheral-cases}
 use Rattle.handler.proofs.BatchEntries.{entry-cases}
 use Rattle.handler.proofs.Outcomes.{batch-cases, os-cases, execute-cases}
@@ -34,11 +34,11 @@ entry-harmless i st =
 
 -- a batch that cannot be read runs nothing
 pub batch-unread : (d : List ℕ) (st : State) → (listError (reading d .check) ≡ 0 → ⊥) → (batchRequest d st .after ≡ st) × (batchRequest d st .entries ≡ [])
-batch-unread d st n = batch-cases (λ (a : Outcome). (a .after ≡ st) × (a .entries ≡ [])) st (λ e. (refl, refl)) d (λ z. absurd (n z))
+batch-unread d st n = batch-cases (λ (a : Outcome). (a .after ≡ st) × (a .entries ≡ [])) st (λ e. (refl, refl)) d (λ z. absurd (n z)) (refl, refl)
 
--- an outcome with an error: nothing changed, no data, no entry ran, nothing to report
+-- an outcome with an error: nothing changed, no data, no entry ran, no load mark
 abbrev HarmlessOutcome : State → Outcome → Type 0
-HarmlessOutcome st a = (a .error ≡ 0 → ⊥) → a ≡ replyOnly (errorReply st (a .error))
+HarmlessOutcome st a = (a .error ≡ 0 → ⊥) → a ≡ outcome (errorReply st (a .error)) [] (faultReport (a .report .reason) (a .report .place))
 
 -- a code check with an error
 check-outcome-harmless : (d : List ℕ) (st : State) → HarmlessOutcome st (codeCheckRequest d st)
@@ -53,11 +53,12 @@ peripheral-outcome-harmless pnum pcmd d st n =
     let h = peripheral-harmless pnum pcmd d st n in
     λ j. record { after = h .0 j; error = peripheralRequest pnum pcmd d st .error; bytes = h .1 j; entries = []; report = noReport }
 
--- a request with an error changes nothing, has no data, ran no entry and has nothing to report
-pub execute-harmless : (i : Item) (st : State) → (execute i st .error ≡ 0 → ⊥) → execute i st ≡ replyOnly (errorReply st (execute i st .error))
+-- a request with an error changes nothing, has no data, ran no entry and has no load mark
+pub execute-harmless : (i : Item) (st : State) → (execute i st .error ≡ 0 → ⊥)
+    → execute i st ≡ outcome (errorReply st (execute i st .error)) [] (faultReport (execute i st .report .reason) (execute i st .report .place))
 execute-harmless i st =
     execute-cases (HarmlessOutcome st) st (λ e n. refl) i
-    (os-cases (HarmlessOutcome st) st (λ e n. refl) (i .pcmd) (i .pdata) (λ n. absurd (n refl)) (check-outcome-harmless (i .pdata) st))
+    (os-cases (HarmlessOutcome st) st (λ e n. refl) (i .pcmd) (i .pdata) (λ n. absurd (n refl)) (λ n. refl) (check-outcome-harmless (i .pdata) st))
     (peripheral-outcome-harmless (i .pnum) (i .pcmd) (i .pdata) st)
 
 -- a call whose request has an error leaves the state as it was, whether the ErrN is sent or not

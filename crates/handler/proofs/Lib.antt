@@ -6,3 +6,4 @@ pub mod Soundness
 pub mod Batches
 pub mod Sizes
 pub mod Errors
+pub mod Reports

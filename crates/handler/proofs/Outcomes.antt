@@ -1,5 +1,5 @@
 -- Executing a request, by the tests on the way: batch, OS request, HWPID and PNUM.
-use mathlib.Core.Path.{_≡_, ap, sym}
+use mathlib.Core.Path.{_≡_, ap, sym, _∙_}
 use mathlib.Core.List.{List}
 use mathlib.Core.Bool.{Bool, true, false}
 use Prim.Native.Nat.{ℕ}
@@ -10,11 +10,14 @@ use Rattle.dpa.specs.Pnum.{osPnum}
 use Rattle.dpa.specs.Reply.{Reply, SeenReply, replySeen, replyInBuffer, errorReply}
 use Rattle.dpa.proofs.Bool.{by-cond}
 use Rattle.checksum.specs.Check.{codeCheck}
-use Rattle.batch.specs.Batch.{Item, reading, listError}
-use Rattle.batch.specs.declared.list.ListCheck.the-variants.{Sound, Broken}
+use Rattle.batch.specs.Batch.{Item, reading, listError, reasonOf, placeOf}
+use Rattle.batch.specs.declared.list.ListCheck.{ListCheck}
+use Rattle.batch.specs.declared.list.ListCheck.the-variants.{Sound}
+use Rattle.batch.proofs.Faults.{error-sound}
 use Rattle.node.specs.declared.record.ReadOnly.{ReadOnly}
+use Rattle.handler.specs.declared.reply.Report.{Report}
 use Rattle.handler.specs.declared.reply.RequestReply.{RequestReply}
-use Rattle.handler.specs.Request.{State, peripheralRequest, hwpidMatches, loadReport, noReport, Outcome, replyOnly, batchOutcome, batchRequest, codeCheckRequest, batchPcmd, codeCheckPcmd, osRequest, execute}
+use Rattle.handler.specs.Request.{State, peripheralRequest, hwpidMatches, loadReport, faultReport, noReport, Outcome, replyOnly, batchOutcome, brokenOutcome, batchRequest, codeCheckRequest, batchPcmd, codeCheckPcmd, osRequest, execute}
 use Rattle.handler.specs.Seen.{outcomeSeen, outcomeInBuffer}
 
 module _ (d : List ℕ) (st : State) where
@@ -24,9 +27,9 @@ module _ (d : List ℕ) (st : State) where
   batch-empty e = rw (eq-eqb (length d) 0 e)
 
   -- a list that cannot be read runs nothing
-  pub batch-broken : (length d ≡ 0 → ⊥) → {r a : ℕ} → reading d .check ≡ Broken r a → {k : ℕ} → k ≡ listError (reading d .check) → batchRequest d st ≡ replyOnly (errorReply st k)
+  pub batch-broken : (length d ≡ 0 → ⊥) → ¬ (reading d .check ≡ Sound) → batchRequest d st ≡ brokenOutcome (reading d .check) st
   unfolding batchRequest
-  batch-broken n e q = rw (q, ne-eqb (length d) 0 n, e)
+  batch-broken n b = rw (ne-eqb (length d) 0 n, ne-eqb (listError (reading d .check)) 0 (λ z. b (error-sound (reading d .check) z)))
 
   -- a sound list runs its entries
   pub batch-runs : (length d ≡ 0 → ⊥) → reading d .check ≡ Sound → batchRequest d st ≡ batchOutcome (reading d .items) st
@@ -68,18 +71,18 @@ module _ (i : Item) (st : State) where
 
 -- A property of outcomes holds for every request if it holds for each kind of request and for every error.
 module _ (P : Outcome → Type 0) (st : State) (error : (e : ℕ) → P (replyOnly (errorReply st e))) where
-  -- batches: a list that can be read runs, any other is an error
-  pub batch-cases : (d : List ℕ) → (listError (reading d .check) ≡ 0 → P (batchOutcome (reading d .items) st)) → P (batchRequest d st)
+  -- batches: a list that can be read runs, one that cannot is reported, no list is an error
+  pub batch-cases : (d : List ℕ) → (listError (reading d .check) ≡ 0 → P (batchOutcome (reading d .items) st)) → P (brokenOutcome (reading d .check) st) → P (batchRequest d st)
   unfolding batchRequest
-  batch-cases d runs =
+  batch-cases d runs broken =
       by-cond P (eqb (length d) 0) _ _ (λ _. error 5)
-      (λ _. by-cond P (eqb (listError (reading d .check)) 0) _ _ (λ z. runs (eqb-true _ _ z)) (λ _. error (listError (reading d .check))))
+      (λ _. by-cond P (eqb (listError (reading d .check)) 0) _ _ (λ z. runs (eqb-true _ _ z)) (λ _. broken))
 
-  -- OS requests: a batch that runs, the code check, an error
-  pub os-cases : (pcmd : ℕ) (d : List ℕ) → P (batchOutcome (reading d .items) st) → P (codeCheckRequest d st) → P (osRequest pcmd d st)
+  -- OS requests: a batch that runs or is broken, the code check, an error
+  pub os-cases : (pcmd : ℕ) (d : List ℕ) → P (batchOutcome (reading d .items) st) → P (brokenOutcome (reading d .check) st) → P (codeCheckRequest d st) → P (osRequest pcmd d st)
   unfolding osRequest
-  os-cases pcmd d runs check =
-      by-cond P (eqb pcmd batchPcmd) _ _ (λ _. batch-cases d (λ _. runs))
+  os-cases pcmd d runs broken check =
+      by-cond P (eqb pcmd batchPcmd) _ _ (λ _. batch-cases d (λ _. runs) broken)
       (λ _. by-cond P (eqb pcmd codeCheckPcmd) _ _ (λ _. check) (λ _. error 2))
 
   -- all requests: an OS request, a request to a peripheral, an error
@@ -95,6 +98,14 @@ module _ (P : Outcome → Type 0) (st : State) (error : (e : ℕ) → P (replyOn
 -- equal replies show equal outcomes
 pub outcome-as : {k : ReadOnly} {c d : RequestReply} {r e x o : List ℕ} → c ≡ d → outcomeSeen k c r e x o ≡ outcomeSeen k d r e x o
 outcome-as {k} {c} {d} {r} {e} {x} {o} q = ap (λ (t : RequestReply). outcomeSeen k t r e x o) q
+
+-- the reply to a broken list shows its outcome
+pub outcome-broken : (st : State) (o : List ℕ) {x y : ListCheck} {e : ℕ} {r : Report} → e ≡ listError x → r ≡ faultReport (reasonOf x) (placeOf x) → x ≡ y
+    → record { after = st; error = e; length = 0; report = r; out = o } ≡ outcomeInBuffer (brokenOutcome y st) o
+outcome-broken st o {x} {y} {e} {r} p q w =
+    ap (λ (n : ℕ). record { after = st; error = n; length = 0; report = r; out = o }) p
+    ∙ ap (λ (t : Report). record { after = st; error = listError x; length = 0; report = t; out = o }) q
+    ∙ ap (λ (z : ListCheck). outcomeInBuffer (brokenOutcome z st) o) w
 
 -- the reply of a peripheral shows its outcome
 pub outcome-reply-only : {st : State} {e n : ℕ} {out : List ℕ} (a : Reply State) (o : List ℕ) → replySeen st e n out ≡ replyInBuffer a o

@@ -1,16 +1,19 @@
--- The response data of a request fits a frame.
+-- The response data of a request fits a frame, and a reported place is in PData.
+use mathlib.Core.Path.{_≡_}
 use mathlib.Core.List.{List}
-use Prim.Native.Nat.{ℕ, _≤_}
+use Prim.Native.Nat.{ℕ, _-_, _≤_}
 use native.Mathlib.Omega.{arith}
-use lib.ListN.{length}
-use Rattle.dpa.specs.Frame.{pdataMax}
+use lib.ListN.{length, take, drop, length-take, length-drop}
+use Rattle.dpa.specs.declared.frame.Frame.{Frame}
+use Rattle.dpa.specs.Frame.{headerSize, pdataMax, longestFrame}
 use Rattle.dpa.specs.Reply.{Reply}
 use Rattle.memory.proofs.Requests.{request-max}
 use Rattle.lights.proofs.Requests.{answer-max}
 use Rattle.batch.specs.Batch.{Item}
+use Rattle.batch.proofs.Places.{place-max}
 use Rattle.checksum.proofs.Checks.{check-max}
 use Rattle.node.proofs.Nodes.{node-lamps}
-use Rattle.handler.specs.Request.{State, SoundState, memoryOf, peripheralRequest, Outcome, codeCheckRequest, execute}
+use Rattle.handler.specs.Request.{State, SoundState, memoryOf, peripheralRequest, Outcome, codeCheckRequest, execute, headerItem}
 use Rattle.handler.proofs.Peripherals.{peripheral-cases}
 use Rattle.handler.proofs.Outcomes.{os-cases, execute-cases}
 
@@ -33,5 +36,22 @@ pub execute-fits : (i : Item) (st : State) → SoundState st → OutcomeFits (ex
 unfolding codeCheckRequest
 execute-fits i st h =
     execute-cases OutcomeFits st (λ e. omega arith) i
-    (os-cases OutcomeFits st (λ e. omega arith) (i .pcmd) (i .pdata) (omega arith) (omega (arith, check-max (st .external) (i .pdata))))
+    (os-cases OutcomeFits st (λ e. omega arith) (i .pcmd) (i .pdata) (omega arith) (omega arith) (omega (arith, check-max (st .external) (i .pdata))))
     (peripheral-fits (i .pnum) (i .pcmd) (i .pdata) st h)
+
+-- the reported place is at most the length of PData
+pub execute-place : (i : Item) (st : State) → execute i st .report .place ≤ length (i .pdata)
+unfolding codeCheckRequest
+execute-place i st =
+    let InPData : Outcome → Type 0 = λ a. a .report .place ≤ length (i .pdata) in
+    execute-cases InPData st (λ e. omega arith) i
+    (os-cases InPData st (λ e. omega arith) (i .pcmd) (i .pdata) (omega arith) (place-max (i .pdata)) (omega arith))
+    (omega arith)
+
+-- the place that the request in a frame reports is at most the longest PData
+pub frame-place : (f : List ℕ) → length f ≤ longestFrame → (h : Frame) (st : State) {n : ℕ}
+    → n ≡ execute (headerItem h (take (length f - headerSize) (drop headerSize f))) st .report .place → n ≤ pdataMax
+frame-place f l h st e =
+    let d = take (length f - headerSize) (drop headerSize f) in
+    let k : length d ≤ pdataMax = simp (length-take, length-drop) (omega arith) in
+    omega (arith, execute-place (headerItem h d) st)

@@ -18,7 +18,8 @@ use Rattle.memory.specs.Block.{memoryPnum, sizeOf}
 use Rattle.memory.specs.Request.{memoryRequest}
 use Rattle.lights.specs.Lights.{lightsRequest}
 use Rattle.checksum.specs.Check.{codeCheck}
-use Rattle.batch.specs.Batch.{Item, item, reading, listError, runItems, errorsOf}
+use Rattle.batch.specs.declared.list.ListCheck.{ListCheck}
+use Rattle.batch.specs.Batch.{Item, item, reading, listError, reasonOf, placeOf, runItems, errorsOf}
 use Rattle.node.specs.declared.record.Node.{Node}
 use Rattle.node.specs.Node.{nodeOk, withLamps, withRam}
 use Rattle.handler.specs.declared.reply.Report.{Report}
@@ -102,9 +103,13 @@ entryError i st = executeEntry i st .error
 
 -- ---- requests
 
--- what a request reports to the caller besides the response: the load mark of the code check
+-- what a request reports to the caller besides the response: the load mark of the code check, or the reason and the place in PData
+-- of the first fault of a batch's list
 abbrev pub loadReport : Bool → Report
-loadReport mark = record { load = mark }
+loadReport mark = record { load = mark; reason = 0; place = 0 }
+
+abbrev pub faultReport : ℕ → ℕ → Report
+faultReport reason place = record { load = false; reason = reason; place = place }
 
 abbrev pub noReport : Report
 noReport = loadReport false
@@ -129,12 +134,16 @@ replyOnly a = outcome a [] noReport
 abbrev pub batchOutcome : List Item → State → Outcome
 batchOutcome is st = outcome (reply (runItems entryAfter is st) 0 []) (errorsOf entryError entryAfter is st) noReport
 
--- a batch: without PData ErrN 5; a list that cannot be read is ErrN 6 and runs nothing
+-- the outcome of a batch whose list cannot be read: ErrN 6; nothing runs, and the fault is reported
+abbrev pub brokenOutcome : ListCheck → State → Outcome
+brokenOutcome check st = outcome (errorReply st (listError check)) [] (faultReport (reasonOf check) (placeOf check))
+
+-- a batch: without PData ErrN 5; a list that can be read runs
 unfoldable pub batchRequest : List ℕ → State → Outcome
 batchRequest pdata st =
     cond (eqb (length pdata) 0) (replyOnly (errorReply st 5))
     (cond (eqb (listError (reading pdata .check)) 0) (batchOutcome (reading pdata .items) st)
-    (replyOnly (errorReply st (listError (reading pdata .check)))))
+    (brokenOutcome (reading pdata .check) st))
 
 -- a code check: the state stays, and its load mark, the `after` of `codeCheck`, is reported
 unfoldable pub codeCheckRequest : List ℕ → State → Outcome

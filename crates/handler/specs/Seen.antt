@@ -67,11 +67,19 @@ callResultFromParts fixed handled ram eeprom external response =
 -- the struct that the call returns; it has the fields of the report among its own
 abbrev pub requestAnswer : ℕ → ℕ → Report → Bool → Node → RequestAnswer
 requestAnswer refusal size report addressed node =
-    record { refusal = refusal; length = size; load = report .load; addressed = addressed; node = node }
+    record {
+      refusal = refusal;
+      length = size;
+      load = report .load;
+      addressed = addressed;
+      reason = report .reason;
+      place = report .place;
+      node = node;
+    }
 
 -- the report in that struct
 abbrev pub answerReport : RequestAnswer → Report
-answerReport answer = record { load = answer .load }
+answerReport answer = record { load = answer .load; reason = answer .reason; place = answer .place }
 
 -- the result of a call, from the struct that it returns, both memories and the response buffer
 abbrev pub callResult : RequestAnswer → List ℕ → List ℕ → List ℕ → CallResult

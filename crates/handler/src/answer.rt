@@ -9,18 +9,22 @@ use node::record::ReadOnly;
 use node::record::node_from_parts;
 ghost use mathlib.Core.Path.{_≡_};
 ghost use mathlib.Core.Bool.{true, false};
+ghost use Prim.Native.Nat.{_≤_};
+ghost use Rattle.dpa.specs.Frame.{pdataMax};
 ghost use Rattle.node.specs.Node.{nodeFromParts};
 ghost use Rattle.handler.specs.Request.{noReport};
 ghost use Rattle.handler.specs.Seen.{requestAnswer};
 
-// The refusal, the length of the response, the load mark, whether the frame was addressed to this node or to all, and the node
-// after the call.
+// The refusal, the length of the response, the load mark, whether the frame was addressed to this node or to all, the reason and the
+// place in PData of a batch that cannot be read, and the node after the call.
 #[repr(C)]
 pub struct RequestAnswer {
     pub refusal: u8,
     pub length: usize,
     pub load: bool,
     pub addressed: bool,
+    pub reason: u8,
+    pub place: u8,
     pub node: Node,
 }
 
@@ -31,7 +35,7 @@ pub struct Handled {
     pub lamps: [Lamp; LAMPS],
 }
 
-// The C struct has the fields of the report among its own.
+// The C struct has the fields of the report among its own. A place in PData fits a byte.
 fn request_answer(
     refusal: u8,
     size: usize,
@@ -39,6 +43,7 @@ fn request_answer(
     addressed: bool,
     node: Node,
 ) -> RequestAnswer
+    requires { ⌜ report .place ≤ pdataMax ⌝ }
     ensures { λ r. ⌜ r ≡ requestAnswer refusal size report addressed node ⌝ }
 {
     RequestAnswer {
@@ -46,6 +51,8 @@ fn request_answer(
         length: size,
         load: report.load,
         addressed,
+        reason: report.reason,
+        place: report.place as u8,
         node,
     }
 }
@@ -59,6 +66,7 @@ pub fn answer_unhandled(node: Node, refusal: u8) -> RequestAnswer
 
 // Executed: the node is put together again from its parts.
 pub fn answer_handled(fixed: ReadOnly, done: Handled, ram: [u8; RAM_SIZE]) -> RequestAnswer
+    requires { ⌜ done .report .place ≤ pdataMax ⌝ }
     ensures { λ r. ⌜ r ≡ requestAnswer 0 (done .length) (done .report) true (nodeFromParts fixed (done .lamps) ram) ⌝ }
 {
     let lamps = done.lamps;

@@ -2,6 +2,7 @@
 use crate::entries::run_list;
 use crate::reply::Report;
 use crate::reply::RequestReply;
+use crate::reply::list_report;
 use crate::reply::without_data;
 use batch::list::ListCheck;
 use batch::list::check_list;
@@ -42,7 +43,12 @@ fn batch_request(
     }
     let check = check_list(pdata);
     let ListCheck::Sound = check else {
-        return without_data(lamps, list_error(check));
+        return RequestReply {
+            error: list_error(check),
+            report: list_report(check),
+            length: 0,
+            lamps,
+        };
     };
     let after = run_list(fixed, lamps, pdata, ram, eeprom, external);
     without_data(after, error::NONE)

@@ -1,18 +1,42 @@
 // The reply to a request, made from the reply of the part of the node that executed it.
+use batch::fault;
+use batch::list::ListCheck;
 use dpa::reply::Reply;
 use lights::lamp::LAMPS;
 use lights::lamp::Lamp;
 use lights::request::LampsReply;
 ghost use mathlib.Core.Path.{_≡_};
-ghost use Rattle.handler.specs.Request.{noReport};
+ghost use Rattle.batch.specs.Batch.{reasonOf, placeOf};
+ghost use Rattle.handler.specs.Request.{faultReport, noReport};
 
-// What a request reports to the caller besides the response: the load mark.
+// What a request reports to the caller besides the response: the load mark; why the list of a batch cannot be read, and the place
+// of that fault in PData.
 pub struct Report {
     pub load: bool,
+    pub reason: u8,
+    pub place: usize,
 }
 
 impl Report {
-    pub const NONE: Report = Report { load: false };
+    pub const NONE: Report = Report {
+        load: false,
+        reason: fault::NONE,
+        place: 0,
+    };
+}
+
+// The report of a batch with this list; nothing if the list is sound.
+pub fn list_report(check: ListCheck) -> Report
+    ensures { λ r. ⌜ r ≡ faultReport (reasonOf check) (placeOf check) ⌝ }
+{
+    match check {
+        ListCheck::Sound => Report::NONE,
+        ListCheck::Broken { reason, at } => Report {
+            load: false,
+            reason,
+            place: at,
+        },
+    }
 }
 
 // ErrN, the report, the length of the response data, and the lamps after the request.

@@ -26,7 +26,7 @@ ghost use mathlib.Core.Path.{_≡_};
 ghost use mathlib.Core.List.{List};
 ghost use Prim.Native.Nat.{ℕ, _≤_};
 ghost use lib.ListN.{length};
-ghost use Rattle.dpa.specs.Frame.{headerSize, pdataMax, longestResponse};
+ghost use Rattle.dpa.specs.Frame.{headerSize, longestFrame, pdataMax, longestResponse};
 ghost use Rattle.handler.specs.Request.{state, SoundState, execute, headerItem, broadcastResult, unicastResult, handleFrame, requestRefusal, handleRequest};
 ghost use Rattle.handler.specs.Seen.{stateFromParts, outcomeSeen, outcomeInBuffer, callResult, callResultFromParts};
 
@@ -154,7 +154,7 @@ fn handle_frame(
     external: &mut [u8],
     response: &mut [u8],
 ) -> RequestAnswer
-    requires { ⌜ SoundState (state node (now eeprom) (now external)) × (headerSize ≤ length (now frame)) × (longestResponse ≤ length (now response)) ⌝ }
+    requires { ⌜ SoundState (state node (now eeprom) (now external)) × (headerSize ≤ length (now frame)) × (length (now frame) ≤ longestFrame) × (longestResponse ≤ length (now response)) ⌝ }
     ensures { λ r. ⌜ callResult r (now (eeprom .exit)) (now (external .exit)) (now (response .exit))
         ≡ handleFrame (now (frame .entry)) (state node (now (eeprom .entry)) (now (external .entry))) (now (response .entry)) ⌝ }
 {

@@ -3,15 +3,15 @@ use borrow.Author.Needs.{needs}
 use mathlib.Core.Path.{ap, sym, _∙_}
 use mathlib.Core.List.{[]}
 use Rattle.dpa.specs.Reply.{reply}
-use Rattle.batch.specs.Batch.{listError}
+use Rattle.batch.proofs.Faults.{broken-not-sound}
 use Rattle.handler.specs.Request.{State, replyOnly}
 use Rattle.handler.specs.Seen.{outcomeInBuffer}
-use Rattle.handler.proofs.Outcomes.{batch-empty, batch-broken, batch-runs, outcome-as, in-buffer}
+use Rattle.handler.proofs.Outcomes.{batch-empty, batch-broken, batch-runs, outcome-as, outcome-broken, in-buffer}
 use Rattle.handler.proofs.os.batch_request.Statement.{statement}
 use Rattle.handler.proofs.os.batch_request.Tie as tie
 
 -- the call of `run_list`, from the last return
-abbrev run-call : tie.After-without-data3 → tie.After-run-list
+abbrev run-call : tie.After-without-data2 → tie.After-run-list
 run-call c = c .before .before .before .before .before .before .before
 
 returns : tie.Need-returns
@@ -20,16 +20,15 @@ returns c = λ o. outcome-as (c .without-data .ensures) ∙ in-buffer o (batch-e
 returns-2 : tie.Need-returns-2
 returns-2 c = λ o.
     let list = c .before .before .before .before in
-    outcome-as (c .without-data2 .ensures)
-    ∙ in-buffer o
-    (batch-broken _ _ (list .before .if1 .left) (sym (list .check-list .ensures) ∙ c .before .before .enum-told2 .given .1) (c .before .list-error .ensures ∙ ap listError (list .check-list .ensures)))
+    outcome-broken _ o (c .before .list-error .ensures) (c .list-report .ensures) (list .check-list .ensures)
+    ∙ in-buffer o (batch-broken _ _ (list .before .if1 .left) (λ z. broken-not-sound (sym (c .before .before .enum-told2 .given .1) ∙ list .check-list .ensures ∙ z)))
 
 returns-3 : tie.Need-returns-3
 returns-3 c = λ o.
     let run = run-call c in
     let sound = run .before .before .before .before in
     let list = sound .before .before in
-    outcome-as (c .without-data3 .ensures)
+    outcome-as (c .without-data2 .ensures)
     ∙ ap (λ (x : State). outcomeInBuffer (replyOnly (reply x 0 [])) o) (run .run-list .ensures)
     ∙ in-buffer o (batch-runs _ _ (list .before .if1 .left) (sym (list .check-list .ensures) ∙ sound .enum-told .given .1))
 

@@ -1,14 +1,16 @@
 -- `handle_frame`: one law of `handleFrame` for each return. The code works on the parts of the node.
 use borrow.Author.Needs.{needs}
 use mathlib.Core.Path.{_≡_, ap, sym, subst, _∙_}
+use mathlib.Core.List.{[]}
 use Rattle.dpa.specs.declared.frame.Frame.{Frame}
 use Rattle.dpa.specs.Frame.{headerOf}
 use Rattle.batch.specs.Batch.{Item}
 use Rattle.node.specs.declared.record.ReadOnly.{ReadOnly}
 use Rattle.node.proofs.Nodes.{node-ram}
-use Rattle.handler.specs.Request.{State, SoundState, frameItem, execute, broadcastResult, unicastResult}
+use Rattle.handler.specs.Request.{State, SoundState, frameItem, execute, CallResult, broadcastResult, unicastResult}
 use Rattle.handler.specs.Seen.{stateFromParts}
 use Rattle.handler.proofs.Calls.{frame-item-read, frame-broadcast, frame-unicast, frame-other, call-result-as}
+use Rattle.handler.proofs.Sizes.{frame-place}
 use Rattle.handler.proofs.request.handle_frame.Statement.{statement}
 use Rattle.handler.proofs.request.handle_frame.Tie as tie
 
@@ -52,6 +54,22 @@ parts-sound c = subst (λ (k : ReadOnly). SoundState (inParts (start c) k)) (sym
 handle-broadcast-requires : tie.Need-handle-broadcast-requires
 handle-broadcast-requires c κs = parts-sound (parts-all (c .before .before .before))
 
+answer-handled-requires : tie.Need-answer-handled-requires
+answer-handled-requires c κs =
+    let call = c .before .before .before .before .before in
+    let parts = parts-all (call .before .before .before .before) in
+    let s = start parts in
+    frame-place (s .args .frame .now) (s .pre .2) (header parts .read .result) (inParts s (parts .read-only .result))
+    (ap (λ (a : CallResult). a .report .place) (call .handle-broadcast .ensures []))
+
+answer-handled-requires-2 : tie.Need-answer-handled-requires-2
+answer-handled-requires-2 c κs =
+    let call = c .before .before .before .before .before .before .before in
+    let parts = parts-own (call .before .before .before .before .before) in
+    let s = start parts in
+    frame-place (s .args .frame .now) (s .pre .2) (header parts .read .result) (inParts s (parts .read-only .result))
+    (ap (λ (a : CallResult). a .report .place) (call .handle-unicast .ensures))
+
 returns : tie.Need-returns
 returns c =
     let call = broadcast c in
@@ -72,7 +90,7 @@ slice-aggregate-handle-unicast c = sym (node-ram _ (start (parts-own (c .before)
 handle-unicast-requires : tie.Need-handle-unicast-requires
 handle-unicast-requires c κs =
     let parts = parts-own (c .before .before .before .before) in
-    (parts-sound parts, start parts .pre .2)
+    (parts-sound parts, start parts .pre .3)
 
 returns-2 : tie.Need-returns-2
 returns-2 c =
@@ -97,6 +115,6 @@ returns-3 c =
 pub handle-frame-spec : {M : Type 1} → statement M
 handle-frame-spec =
     tie.close (tie.spec (λ c κs. search needs) (λ c. search needs) (λ c. search needs) (λ c. search needs)
-    (λ c κs. search needs) (λ c. search needs) handle-broadcast-requires (λ c κs. search needs) (λ c. search needs)
-    (λ c. search needs) returns slice-aggregate-handle-unicast handle-unicast-requires (λ c κs. search needs)
+    (λ c κs. search needs) (λ c. search needs) handle-broadcast-requires answer-handled-requires (λ c. search needs)
+    (λ c. search needs) returns slice-aggregate-handle-unicast handle-unicast-requires answer-handled-requires-2
     (λ c. search needs) (λ c. search needs) (λ c. search needs) returns-2 (λ c κs. search needs) returns-3)

@@ -29,7 +29,7 @@ handle-frame-requires : tie.Need-handle-frame-requires
 handle-frame-requires c κs =
     let z = not-refused (c .before .before .before) in
     let k = not-refused-facts _ _ _ _ _ z in
-    (accepted-sound _ _ _ _ _ z, k .1, k .2)
+    (accepted-sound _ _ _ _ _ z, k .1, k .2, k .3)
 
 returns-2 : tie.Need-returns-2
 returns-2 c =
