@@ -1,4 +1,4 @@
-// Runs the worked examples of document 01 and of the DPA guide through the public calls and prints the results.
+// Runs worked examples of the buyer's documents and of the DPA guide through the public calls and prints the results.
 use dpa::frame::Frame;
 use dpa::number::wide;
 use dpa::pnum;
@@ -122,19 +122,59 @@ fn external_end(node: Node, eeprom: &mut [u8], external: &mut [u8]) -> Node {
     )
 }
 
-// A malformed batch, and a broadcast, which has no response.
-fn batch_and_broadcast(node: Node, eeprom: &mut [u8], external: &mut [u8]) {
+// Sends a batch that cannot be read; prints the reason, the place and the response.
+fn send_broken(node: Node, frame: &[u8], eeprom: &mut [u8], external: &mut [u8]) {
+    let mut response = [0u8; Frame::RESPONSE_LONGEST];
+    let answer = handle_request(node, frame, eeprom, external, &mut response);
+    print_text(b", reason");
+    print_number(answer.reason as u64);
+    print_text(b" at");
+    print_number(answer.place as u64);
+    print_text(b":");
+    print_hex(&response, answer.length);
+}
+
+// Lists with a length byte that is too small or too large.
+fn wrong_lengths(node: Node, eeprom: &mut [u8], external: &mut [u8]) {
     print_text(b"batch 04 00");
-    let one = send(node, b"\x01\x00\x02\x05\xFF\xFF\x04\x00", eeprom, external);
+    send_broken(node, b"\x01\x00\x02\x05\xFF\xFF\x04\x00", eeprom, external);
+    print_text(b"batch 03");
+    send_broken(node, b"\x01\x00\x02\x05\xFF\xFF\x03", eeprom, external);
+    print_text(b"batch 05 71 3E FF");
+    send_broken(
+        node,
+        b"\x01\x00\x02\x05\xFF\xFF\x05\x71\x3E\xFF",
+        eeprom,
+        external,
+    );
+}
+
+// Lists without a closing zero or with bytes after it; the last is sent to all nodes and gets no response.
+fn wrong_ends(node: Node, eeprom: &mut [u8], external: &mut [u8]) {
+    print_text(b"batch 05 71 3E FF FF");
+    send_broken(
+        node,
+        b"\x01\x00\x02\x05\xFF\xFF\x05\x71\x3E\xFF\xFF",
+        eeprom,
+        external,
+    );
+    print_text(b"batch 00 00");
+    send_broken(node, b"\x01\x00\x02\x05\xFF\xFF\x00\x00", eeprom, external);
+    print_text(b"batch 00 00 to all");
+    send_broken(node, b"\xFF\x00\x02\x05\xFF\xFF\x00\x00", eeprom, external);
+}
+
+// A broadcast, which has no response.
+fn broadcast(node: Node, eeprom: &mut [u8], external: &mut [u8]) {
     print_text(b"broadcast, lamp 1 to 7");
-    let two = send(
-        one,
+    let after = send(
+        node,
         b"\xFF\x00\x71\x00\xFF\xFF\x02\x00\x00\x00\x07",
         eeprom,
         external,
     );
     print_text(b"lamps");
-    print_lamps(two);
+    print_lamps(after);
 }
 
 // The confirmation of the DPA guide, and the earliest next send of document 01.
@@ -169,6 +209,8 @@ fn main() {
     views(&eeprom, &external);
     let lit = lights(started.node, &mut eeprom, &mut external);
     let read = external_end(lit, &mut eeprom, &mut external);
-    batch_and_broadcast(read, &mut eeprom, &mut external);
+    wrong_lengths(read, &mut eeprom, &mut external);
+    wrong_ends(read, &mut eeprom, &mut external);
+    broadcast(read, &mut eeprom, &mut external);
     gateway();
 }
