@@ -1,9 +1,9 @@
 /* grelfint: lamp node, scene compiler and gateway timing.
  *
- * Every call returns an answer for every input. Its refusal is 0 or the first
- * number of this list that applies. A refused call returns 0 for every other
- * number (except `step` with 8), false for every flag and the node unchanged,
- * and writes no buffer.
+ * Every call returns an answer for every input. Its refusal is 0 or, from the
+ * top, the first of this list that applies. A refused call returns 0 for every
+ * other number (except `step` with 81 to 84), false for every flag and the
+ * node unchanged, and writes no buffer.
  *
  *    1  the node record is not sound; settings or an address out of range
  *    2  the frame has fewer than 6 or more than 62 bytes
@@ -12,11 +12,17 @@
  *    5  more than 56 bytes of PData
  *    6  the scene book is malformed
  *    7  the book has no scene with that number
- *    8  a bad step; `step` is the number of the first one, from 0
+ *   81  a step with a kind over 4
+ *   82  a step with a target over 31 (lamp), 47 (RAM) or 191 (EEPROM)
+ *   83  a lamp step with a value over 100
+ *   84  a step with an invalid time: 0x80 for a lamp, not 0 for a memory
  *    9  fewer than 4,096 bytes for a compiled scene
  *   10  a view of neither memory
  *   15  a view of more bytes than one request can transfer
  *   16  a view that starts or ends outside its memory
+ *
+ * 81 to 84 are about the first bad step of the scene, whose number, from 0, is
+ * in `step`. If several of its parts are bad, the lowest of the four is given.
  *
  * A node record is sound if its address is 1 to 239, its lamp count 1 to 32
  * and its step a divisor of 100; no level is over 100; no timer is over 7,620
@@ -76,6 +82,19 @@ typedef struct grelfint_request_answer {
     bool addressed; /* not refused, and NADR is this node's address or 0x00FF.
                      * A broadcast that was carried out and a frame for another
                      * node both have length 0; this field separates them. */
+    uint8_t reason; /* why the list of a batch cannot be read (ErrN 6); given
+                     * for a broadcast too:
+                     *   1  a length byte of 1 to 4
+                     *   2  an entry that reaches past the end of PData
+                     *   3  no closing zero
+                     *   4  bytes after the closing zero
+                     * This is the first fault from the start of the list; 1
+                     * comes before 2. 0 for a list that can be read, even if
+                     * an entry in it fails, for a request with another error,
+                     * and for any other frame. */
+    uint8_t place;  /* offset of the fault in PData: of the length byte for 1
+                     * and 2, of the first byte after the zero for 4; for 3 the
+                     * length of PData; 0 if reason is 0 */
     grelfint_node node;
 } grelfint_request_answer;
 
@@ -101,7 +120,7 @@ typedef struct grelfint_send_answer {
 
 typedef struct grelfint_compile_answer {
     uint8_t refusal;
-    uint8_t step; /* the first bad step, with refusal 8 */
+    uint8_t step; /* the first bad step, with refusals 81 to 84 */
     size_t length;
 } grelfint_compile_answer;
 
@@ -123,7 +142,8 @@ uint8_t grelfint_tick_in_place(grelfint_node *node);
 /* Handles one request frame (NADR 2, PNUM, PCMD, HWPID 2, PData 0 to 56).
  * Answer: refusal; length of the response (0 for a broadcast and for a frame
  * to another node); load mark; whether the frame was addressed to this node;
- * node afterwards. An error in the request itself is not a refusal: the
+ * reason and place if it is a batch whose list cannot be read (otherwise 0 and
+ * 0); node afterwards. An error in the request itself is not a refusal: the
  * response reports it as ErrN.
  * Refusals: 1, 2, 3, 4.
  * Written: `eeprom` and `external` as the request asks; the first `length`
@@ -177,8 +197,8 @@ grelfint_send_answer grelfint_earliest_send(
 
 /* Compiles a scene of a book into requests to an address (1 to 239, or 255
  * for broadcast), with this HWPID in each request and entry.
- * Answer: refusal; step (only with 8); length of the output.
- * Refusals: 1, 6, 7, 8, 9.
+ * Answer: refusal; step (only with 81 to 84); length of the output.
+ * Refusals: 1, 6, 7, 81 to 84, 9.
  * Written: the first `length` bytes of `out`: the number of requests, one
  * length byte for each, then the requests. Later bytes are unchanged. */
 grelfint_compile_answer grelfint_compile(

@@ -1,5 +1,5 @@
-/* Document 01's worked examples in C, with include/grelfint.h. From the
- * repository's root:
+/* Document 01's worked examples in C, with broken lists and bad steps (02,
+ * change 1/12) and include/grelfint.h. From the repository's root:
  *
  *   rt staticlib grelfint && mkdir -p target/tests
  *   gcc -std=c11 -Wall -Wextra -Werror -Iinclude tests/c/examples.c \
@@ -33,7 +33,10 @@ _Static_assert(offsetof(grelfint_node, lamps) == 8, "lamps");
 _Static_assert(offsetof(grelfint_node, ram) == 136, "ram");
 _Static_assert(offsetof(grelfint_request_answer, load) == 16, "load");
 _Static_assert(offsetof(grelfint_request_answer, addressed) == 17, "addressed");
-_Static_assert(offsetof(grelfint_request_answer, node) == 18, "node of a request's answer");
+_Static_assert(offsetof(grelfint_request_answer, reason) == 18, "reason");
+_Static_assert(offsetof(grelfint_request_answer, place) == 19, "place");
+_Static_assert(offsetof(grelfint_request_answer, node) == 20, "node of a request's answer");
+_Static_assert(sizeof(grelfint_request_answer) == 208, "a request's answer");
 
 static grelfint_node node;
 static uint8_t eeprom[GRELFINT_EEPROM];
@@ -71,7 +74,7 @@ static void request(const char *name, uint8_t pnum, uint8_t pcmd,
     answer = grelfint_handle_request(node, frame, 6 + pdata_length, eeprom, sizeof eeprom,
                                      external, sizeof external, response, GRELFINT_RESPONSE);
     check(name, answer.refusal == 0 && answer.addressed && answer.length == 8 + data_length &&
-                    memcmp(response, want, sizeof want) == 0);
+                    answer.reason == 0 && answer.place == 0 && memcmp(response, want, sizeof want) == 0);
     node = answer.node;
     load_mark = answer.load;
 }
@@ -187,11 +190,92 @@ static void batches(void)
 {
     fresh(3, 1);
     request("batch of nothing", 2, 5, BYTES(0), 0, NO_BYTES);
-    request("batch with a short entry", 2, 5, BYTES(4, 0), 6, NO_BYTES);
     request("batch", 2, 5,
             BYTES(10, 0x71, 0, 0xFF, 0xFF, 1, 0, 0, 0, 10, 10, 0x71, 1, 0xFF, 0xFF, 2, 0, 0, 0, 20, 0),
             0, NO_BYTES);
     check("both entries", lamp_is(0, 10, 0) && lamp_is(1, 20, 0) && lamp_is(2, 0, 0));
+}
+
+/* The padding between the fields is not compared. */
+static bool same_node(const grelfint_node *a, const grelfint_node *b)
+{
+    int i;
+
+    for (i = 0; i < GRELFINT_LAMPS; i++) {
+        if (a->lamps[i].level != b->lamps[i].level || a->lamps[i].seconds != b->lamps[i].seconds)
+            return false;
+    }
+    return a->settings.address == b->settings.address && a->settings.hwpid == b->settings.hwpid &&
+           a->settings.dpa_value == b->settings.dpa_value && a->settings.lamp_count == b->settings.lamp_count &&
+           a->settings.step == b->settings.step && memcmp(a->ram, b->ram, sizeof a->ram) == 0;
+}
+
+/* Sends a frame to a fresh node 1 that changes nothing, and compares the whole
+ * answer and the response buffer. The response, if there is one, is only a
+ * header with this ErrN. */
+static void send_frame(const char *name, const uint8_t *frame, size_t frame_length, size_t response_length,
+                       uint8_t refusal, bool addressed, size_t length, uint8_t error,
+                       uint8_t reason, uint8_t place)
+{
+    const uint8_t header[8] = {1, 0, frame[2], (uint8_t)(frame[3] | 0x80), 0x71, 0x24, error, 7};
+    uint8_t want[sizeof response];
+    grelfint_request_answer answer;
+
+    fresh(3, 1);
+    memset(response, 0xEE, sizeof response);
+    memset(want, 0xEE, sizeof want);
+    memcpy(want, header, length);
+    answer = grelfint_handle_request(node, frame, frame_length, eeprom, sizeof eeprom,
+                                     external, sizeof external, response, response_length);
+    check(name, answer.refusal == refusal && answer.length == length && !answer.load &&
+                    answer.addressed == addressed && answer.reason == reason && answer.place == place &&
+                    same_node(&answer.node, &node) && memcmp(response, want, sizeof want) == 0);
+}
+
+/* Sends a request to node 1 and then to all nodes. */
+static void send_both(const char *name, uint8_t pnum, uint8_t pcmd, uint16_t hwpid,
+                      const uint8_t *pdata, size_t pdata_length, uint8_t error, uint8_t reason, uint8_t place)
+{
+    uint8_t frame[62] = {1, 0, pnum, pcmd, (uint8_t)(hwpid & 0xFF), (uint8_t)(hwpid >> 8)};
+
+    if (pdata_length > 0)
+        memcpy(frame + 6, pdata, pdata_length);
+    send_frame(name, frame, 6 + pdata_length, GRELFINT_RESPONSE, 0, true, 8, error, reason, place);
+    frame[0] = 0xFF;
+    send_frame(name, frame, 6 + pdata_length, GRELFINT_RESPONSE, 0, true, 0, error, reason, place);
+}
+
+static void broken_lists(void)
+{
+    static const uint8_t to_another[] = {2, 0, 2, 5, 0xFF, 0xFF, 4, 0};
+    static const uint8_t to_all[] = {0xFF, 0, 2, 5, 0xFF, 0xFF, 4, 0};
+
+    send_both("under five", 2, 5, 0xFFFF, BYTES(4, 0), 6, 1, 0);
+    send_both("under five and over the end", 2, 5, 0xFFFF, BYTES(3), 6, 1, 0);
+    send_both("over the end", 2, 5, 0xFFFF, BYTES(5, 0x71, 0x3E, 0xFF), 6, 2, 0);
+    send_both("no closing zero", 2, 5, 0xFFFF, BYTES(5, 0x71, 0x3E, 0xFF, 0xFF), 6, 3, 5);
+    send_both("bytes after the zero", 2, 5, 0xFFFF, BYTES(0, 0), 6, 4, 1);
+
+    /* after an entry that sets lamp 0 */
+    send_both("entry, then under five", 2, 5, 0xFFFF,
+              BYTES(10, 0x71, 0, 0xFF, 0xFF, 1, 0, 0, 0, 10, 4, 0), 6, 1, 10);
+    send_both("entry, then over the end", 2, 5, 0xFFFF,
+              BYTES(10, 0x71, 0, 0xFF, 0xFF, 1, 0, 0, 0, 10, 5, 0x71, 0x3E, 0xFF), 6, 2, 10);
+    send_both("entry, then no zero", 2, 5, 0xFFFF,
+              BYTES(10, 0x71, 0, 0xFF, 0xFF, 1, 0, 0, 0, 10), 6, 3, 10);
+    send_both("entry, then bytes after the zero", 2, 5, 0xFFFF,
+              BYTES(10, 0x71, 0, 0xFF, 0xFF, 1, 0, 0, 0, 10, 0, 0), 6, 4, 11);
+
+    send_both("entry with an error", 2, 5, 0xFFFF, BYTES(6, 0x71, 0x3E, 0xFF, 0xFF, 0, 0), 0, 0, 0);
+    send_both("entry with a broken list", 2, 5, 0xFFFF, BYTES(7, 2, 5, 0xFF, 0xFF, 4, 0, 0), 0, 0, 0);
+    send_both("empty PData", 2, 5, 0xFFFF, NO_BYTES, 5, 0, 0);
+    send_both("wrong HWPID", 2, 5, 0x1234, BYTES(4, 0), 7, 0, 0);
+    send_both("unknown PNUM", 6, 5, 0xFFFF, BYTES(4, 0), 3, 0, 0);
+    send_both("unknown PCMD", 2, 6, 0xFFFF, BYTES(4, 0), 2, 0, 0);
+    send_both("code check of length 1", 2, 0x0A, 0xFFFF, BYTES(0, 0, 0, 1, 0, 0, 0), 6, 0, 0);
+    send_both("lamps", 0x71, 0, 0xFFFF, BYTES(4, 0), 6, 0, 0);
+    send_frame("another node's list", to_another, sizeof to_another, GRELFINT_RESPONSE, 0, false, 0, 0, 0, 0);
+    send_frame("no room", to_all, sizeof to_all, GRELFINT_RESPONSE - 1, 3, false, 0, 0, 0, 0);
 }
 
 static void frc(void)
@@ -229,10 +313,51 @@ static void gateway(void)
     check("broadcast", grelfint_earliest_send(2, 5, 20, 3, 20, false, true).milliseconds == 140);
 }
 
+static void bad_steps(void)
+{
+    static const struct {
+        const char *name;
+        uint8_t step[4], refusal;
+    } table[] = {
+        {"kind", {5, 0, 0, 0}, 81},
+        {"target", {0, 32, 0, 0}, 82},
+        {"value", {0, 0, 101, 0}, 83},
+        {"time", {0, 0, 0, 0x80}, 84},
+        {"everything", {5, 255, 255, 0x80}, 81},
+        {"target and value", {0, 32, 101, 0}, 82},
+        {"value and time", {0, 0, 101, 0x80}, 83},
+        {"good RAM step", {3, 47, 255, 0}, 0},
+        {"good EEPROM step", {4, 191, 255, 0}, 0},
+        {"RAM target", {3, 48, 255, 0}, 82},
+        {"EEPROM target", {4, 192, 255, 0}, 82},
+        {"RAM time", {3, 47, 255, 1}, 84},
+        {"EEPROM time", {4, 191, 255, 1}, 84},
+    };
+    static const size_t rooms[] = {GRELFINT_COMPILED, GRELFINT_COMPILED - 1, 0};
+    static uint8_t out[GRELFINT_COMPILED], untouched[GRELFINT_COMPILED];
+    size_t i, j;
+
+    memset(untouched, 0xEE, sizeof untouched);
+    for (i = 0; i < sizeof table / sizeof table[0]; i++) {
+        uint8_t book[] = {1, 4, 0, 2, 0, 0, 10, 0, 0, 0, 0, 0};
+        memcpy(book + 8, table[i].step, 4);
+        for (j = 0; j < sizeof rooms / sizeof rooms[0]; j++) {
+            bool bad = table[i].refusal != 0;
+            uint8_t refusal = !bad && rooms[j] < GRELFINT_COMPILED ? 9 : table[i].refusal;
+            grelfint_compile_answer answer;
+
+            memset(out, 0xEE, sizeof out);
+            answer = grelfint_compile_default(book, sizeof book, 0, 1, out, rooms[j]);
+            check(table[i].name, answer.refusal == refusal && answer.step == (bad ? 1 : 0) &&
+                                     (answer.length == 0) == (refusal != 0) &&
+                                     (memcmp(out, untouched, sizeof out) == 0) == (refusal != 0));
+        }
+    }
+}
+
 static void scenes(void)
 {
     static const uint8_t book[] = {1, 4, 0, 2, 0, 0, 0x0A, 0, 0, 2, 0x64, 2};
-    static const uint8_t bad[] = {1, 4, 0, 2, 0, 0, 0x0A, 0, 5, 2, 0x64, 2};
     static const uint8_t want[] = {1, 0x13, 1, 0, 2, 5, 0xFF, 0xFF, 0x0C, 0x71, 0, 0xFF,
                                    0xFF, 5, 0, 0, 0, 0x0A, 0xE4, 2, 0, 0xEE};
     static uint8_t out[GRELFINT_COMPILED];
@@ -250,8 +375,6 @@ static void scenes(void)
     check("same as the steps", lamp_is(0, 10, 0) && lamp_is(1, 0, 0) && lamp_is(2, 100, 120));
     answer = grelfint_compile(book, sizeof book, 0, 255, 0x2471, out, sizeof out);
     check("broadcast", answer.refusal == 0 && out[2] == 0xFF && out[3] == 0 && out[6] == 0x71 && out[7] == 0x24);
-    answer = grelfint_compile_default(bad, sizeof bad, 0, 1, out, sizeof out);
-    check("bad step", answer.refusal == 8 && answer.step == 1 && answer.length == 0);
     check("address 240", grelfint_compile_default(book, sizeof book, 0, 240, out, sizeof out).refusal == 1);
     check("cut book", grelfint_compile_default(book, sizeof book - 1, 0, 1, out, sizeof out).refusal == 6);
     check("no such scene", grelfint_compile_default(book, sizeof book, 1, 1, out, sizeof out).refusal == 7);
@@ -265,9 +388,11 @@ int main(void)
     ticks();
     memories_and_code();
     batches();
+    broken_lists();
     frc();
     gateway();
     scenes();
+    bad_steps();
     if (failed > 0) {
         printf("%d passed, %d failed\n", passed, failed);
         return 1;

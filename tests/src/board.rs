@@ -1,5 +1,5 @@
-//! A node with its memories and response buffer, run on one of the sides, and
-//! books built from steps.
+//! A node with its memories and response buffer, run on one of the sides; frames
+//! built from their fields; books built from steps.
 use crate::ffi::{Node, RequestAnswer, Settings};
 use crate::reference::{EEPROM_SIZE, EXTERNAL_SIZE};
 use crate::sides::Side;
@@ -47,29 +47,46 @@ impl Board {
         )
     }
 
-    /// The response bytes and the load mark of a frame for this node or for all nodes.
-    pub fn frame(&mut self, frame: &[u8]) -> (Vec<u8>, bool) {
+    /// The answer and the response bytes of a frame for this node or for all nodes.
+    fn send(&mut self, frame: &[u8]) -> (RequestAnswer, Vec<u8>) {
         self.response.fill(0xEE);
         let a = self.request(self.node, frame, Lengths::USUAL);
         assert_eq!((a.refusal, a.addressed), (0, true));
         assert!(self.response[a.length..].iter().all(|&b| b == 0xEE), "a byte after the response changed");
         self.node = a.node;
-        (self.response[..a.length].to_vec(), a.load)
+        (a, self.response[..a.length].to_vec())
+    }
+
+    /// The response bytes and the load mark of a frame for this node or for all nodes.
+    pub fn frame(&mut self, frame: &[u8]) -> (Vec<u8>, bool) {
+        let (a, bytes) = self.send(frame);
+        (bytes, a.load)
     }
 
     /// ErrN and data of a request to this node with HWPID 0xFFFF.
     pub fn take(&mut self, pnum: u8, pcmd: u8, pdata: &[u8]) -> (u8, Vec<u8>) {
-        let mut frame = vec![1, 0, pnum, pcmd, 0xFF, 0xFF];
-        frame.extend_from_slice(pdata);
-        let (bytes, _) = self.frame(&frame);
+        let (a, bytes) = self.send(&frame_of(1, pnum, pcmd, 0xFFFF, pdata));
         assert_eq!(bytes[..6], [1, 0, pnum, pcmd | 0x80, 0x71, 0x24]);
         assert_eq!(bytes[7], 7);
+        if (pnum, pcmd, bytes[6]) == (2, 5, 6) {
+            assert!((1..=4).contains(&a.reason), "a broken list with reason {}", a.reason);
+        } else {
+            assert_eq!((a.reason, a.place), (0, 0), "not a broken list");
+        }
         (bytes[6], bytes[8..].to_vec())
     }
 
     pub fn lamps(&self, n: usize) -> Vec<(u8, u16)> {
         self.node.lamps[..n].iter().map(|l| (l.level, l.seconds)).collect()
     }
+}
+
+pub fn frame_of(nadr: u16, pnum: u8, pcmd: u8, hwpid: u16, pdata: &[u8]) -> Vec<u8> {
+    let mut frame = nadr.to_le_bytes().to_vec();
+    frame.extend_from_slice(&[pnum, pcmd]);
+    frame.extend_from_slice(&hwpid.to_le_bytes());
+    frame.extend_from_slice(pdata);
+    frame
 }
 
 /// A well-formed book with these scenes.

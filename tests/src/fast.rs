@@ -1,4 +1,4 @@
-//! Document 01's rules implemented for speed and without allocation, as the
+//! The reference's rules implemented for speed and without allocation, as the
 //! benchmark's baseline. `sessions.rs` compares it with the plain reference.
 use super::ffi::{CompileAnswer, Lamp, Node, NodeAnswer, RequestAnswer};
 
@@ -40,6 +40,14 @@ struct Memories<'a> {
     external: &'a mut [u8; 16384],
 }
 
+/// What a request reports besides ErrN and its data.
+#[derive(Default)]
+struct Marks {
+    load: bool,
+    reason: u8,
+    place: u8,
+}
+
 #[inline]
 fn refusal(node: &Node, frame: &[u8], eeprom: &[u8], external: &[u8], response: &[u8]) -> u8 {
     if !sound(node) {
@@ -65,28 +73,30 @@ pub fn handle_request(
 ) -> RequestAnswer {
     let refusal = refusal(&node, frame, eeprom, external, response);
     if refusal != 0 {
-        return RequestAnswer { refusal, length: 0, load: false, addressed: false, node };
+        return RequestAnswer { refusal, ..RequestAnswer::zeros(node) };
     }
     let nadr = u16::from_le_bytes([frame[0], frame[1]]);
     let broadcast = nadr == 0xFF;
     if !broadcast && nadr != node.settings.address {
-        return RequestAnswer { refusal: 0, length: 0, load: false, addressed: false, node };
+        return RequestAnswer::zeros(node);
     }
     let mut memories = Memories { eeprom: eeprom.try_into().unwrap(), external: external.try_into().unwrap() };
     let mut scratch = [0u8; 56];
     let data: &mut [u8; 56] = if broadcast { &mut scratch } else { (&mut response[8..64]).try_into().unwrap() };
-    let mut load = false;
-    let (error, length) = match one(&mut node, &mut memories, &frame[2..6], &frame[6..], Some(data), &mut load) {
+    let mut marks = Marks::default();
+    let (error, data_length) = match one(&mut node, &mut memories, &frame[2..6], &frame[6..], Some(data), &mut marks) {
         Ok(length) => (0, length),
         Err(error) => (error, 0),
     };
-    if broadcast {
-        return RequestAnswer { refusal: 0, length: 0, load, addressed: true, node };
+    let mut length = 0;
+    if !broadcast {
+        let s = &node.settings;
+        let (a, h) = (s.address.to_le_bytes(), s.hwpid.to_le_bytes());
+        response[..8].copy_from_slice(&[a[0], a[1], frame[2], frame[3] | 0x80, h[0], h[1], error, s.dpa_value]);
+        length = 8 + data_length;
     }
-    let s = &node.settings;
-    let (a, h) = (s.address.to_le_bytes(), s.hwpid.to_le_bytes());
-    response[..8].copy_from_slice(&[a[0], a[1], frame[2], frame[3] | 0x80, h[0], h[1], error, s.dpa_value]);
-    RequestAnswer { refusal: 0, length: 8 + length, load, addressed: true, node }
+    let Marks { load, reason, place } = marks;
+    RequestAnswer { refusal: 0, length, load, addressed: true, reason, place, node }
 }
 
 /// `data` is none for an entry of a batch, whose answer is not sent.
@@ -97,7 +107,7 @@ fn one(
     head: &[u8],
     p: &[u8],
     data: Option<&mut [u8; 56]>,
-    load: &mut bool,
+    marks: &mut Marks,
 ) -> Result<usize, u8> {
     let hwpid = u16::from_le_bytes([head[2], head[3]]);
     if hwpid != node.settings.hwpid && hwpid != 0xFFFF {
@@ -121,8 +131,8 @@ fn one(
         (0x02, c) => {
             let Some(data) = data else { return Err(3) };
             match c {
-                0x05 => batch(node, m, p),
-                0x0A => code_check(m, p, data, load),
+                0x05 => batch(node, m, p, marks),
+                0x0A => code_check(m, p, data, &mut marks.load),
                 _ => Err(2),
             }
         }
@@ -250,29 +260,35 @@ fn change(l: &mut Lamp, pcmd: u8, power: u8, seconds: u16) {
     l.seconds = if l.level == 0 { 0 } else { seconds };
 }
 
-fn batch(node: &mut Node, m: &mut Memories, p: &[u8]) -> Result<usize, u8> {
+/// Reason and place of a list's first fault; zeros for a sound list.
+#[inline]
+fn list_fault(p: &[u8]) -> (u8, usize) {
+    let mut i = 0;
+    while let Some(&l) = p.get(i) {
+        match l {
+            0 if i + 1 == p.len() => return (0, 0),
+            0 => return (4, i + 1),
+            1..=4 => return (1, i),
+            _ if i + l as usize > p.len() => return (2, i),
+            _ => i += l as usize,
+        }
+    }
+    (3, i)
+}
+
+fn batch(node: &mut Node, m: &mut Memories, p: &[u8], marks: &mut Marks) -> Result<usize, u8> {
     if p.is_empty() {
         return Err(5);
     }
-    let mut i = 0;
-    loop {
-        let Some(&l) = p.get(i) else { return Err(6) };
-        let l = l as usize;
-        if l == 0 {
-            if i + 1 != p.len() {
-                return Err(6);
-            }
-            break;
-        }
-        if l < 5 || i + l > p.len() {
-            return Err(6);
-        }
-        i += l;
+    let (reason, place) = list_fault(p);
+    if reason != 0 {
+        (marks.reason, marks.place) = (reason, place as u8);
+        return Err(6);
     }
     let mut i = 0;
     while p[i] != 0 {
         let entry = &p[i..i + p[i] as usize];
-        let _ = one(node, m, &entry[1..5], &entry[5..], None, &mut false);
+        let _ = one(node, m, &entry[1..5], &entry[5..], None, &mut Marks::default());
         i += entry.len();
     }
     Ok(0)
@@ -307,12 +323,23 @@ fn code_check(m: &Memories, p: &[u8], data: &mut [u8; 56], load: &mut bool) -> R
     Ok(1)
 }
 
-fn good(s: &[u8]) -> bool {
-    match s[0] {
-        0..=2 => s[1] < 32 && s[2] <= 100 && s[3] != 0x80,
-        3 => s[1] < 48 && s[3] == 0,
-        4 => s[1] < 192 && s[3] == 0,
-        _ => false,
+/// The refusal for a step's first bad part; 0 for a good step.
+#[inline]
+fn step_refusal(s: &[u8]) -> u8 {
+    let (targets, highest, bad_time) = match s[0] {
+        0..=2 => (32, 100, s[3] == 0x80),
+        3 => (48, 255, s[3] != 0),
+        4 => (192, 255, s[3] != 0),
+        _ => return 81,
+    };
+    if s[1] >= targets {
+        82
+    } else if s[2] > highest {
+        83
+    } else if bad_time {
+        84
+    } else {
+        0
     }
 }
 
@@ -436,8 +463,9 @@ pub fn compile(book: &[u8], scene: usize, address: u16, hwpid: u16, out: &mut [u
         Err(refusal) => return refused(refusal, 0),
     };
     for (i, s) in steps.chunks_exact(4).enumerate() {
-        if !good(s) {
-            return refused(8, i as u8);
+        let refusal = step_refusal(s);
+        if refusal != 0 {
+            return refused(refusal, i as u8);
         }
     }
     if out.len() < 4096 {

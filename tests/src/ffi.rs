@@ -48,7 +48,16 @@ pub struct RequestAnswer {
     pub length: usize,
     pub load: bool,
     pub addressed: bool,
+    pub reason: u8,
+    pub place: u8,
     pub node: Node,
+}
+
+impl RequestAnswer {
+    /// Every number 0, every flag false.
+    pub fn zeros(node: Node) -> RequestAnswer {
+        RequestAnswer { refusal: 0, length: 0, load: false, addressed: false, reason: 0, place: 0, node }
+    }
 }
 
 #[repr(C)]

@@ -1,6 +1,6 @@
 //! Random nodes, boards, frames and books: mostly valid, often at a limit, and
 //! occasionally with each kind of fault.
-use crate::board::{book_of, Board, Lengths};
+use crate::board::{book_of, frame_of, Board, Lengths};
 use crate::ffi::{Lamp, Node, Settings};
 use crate::reference::{self, EEPROM_SIZE, EXTERNAL_SIZE};
 use crate::rng::Rng;
@@ -12,6 +12,15 @@ pub const GUARD: usize = 64;
 pub const EXCESS: usize = 64;
 /// The longest response buffer passed to a call.
 const RESPONSE: usize = 300;
+
+/// A number from a to b; each limit is drawn more often than the numbers between them.
+fn edge(g: &mut Rng, a: usize, b: usize) -> usize {
+    match g.below(4) {
+        0 => a,
+        1 => b,
+        _ => g.within(a, b),
+    }
+}
 
 /// A board of random bytes, with guard bytes after each buffer.
 pub fn board(g: &mut Rng, side: Side, node: Node) -> Board {
@@ -222,7 +231,32 @@ pub fn hwpid(g: &mut Rng, node: &Node) -> u16 {
     }
 }
 
+/// A HWPID that this node does not accept.
+pub fn wrong_hwpid(g: &mut Rng, node: &Node) -> u16 {
+    loop {
+        let hwpid = g.word();
+        if hwpid != node.settings.hwpid && hwpid != 0xFFFF {
+            return hwpid;
+        }
+    }
+}
+
+/// An entry of at most `room` bytes, which are at least five.
+fn entry(g: &mut Rng, node: &Node, room: usize) -> Vec<u8> {
+    let limit = if g.chance(1, 4) { room - 5 } else { (room - 5).min(g.within(0, 20)) };
+    let (pnum, pcmd, pdata) =
+        if g.chance(1, 20) { (2, g.pick(&[5, 0x0A]), vec![0; limit.min(7)]) } else { plain_request(g, node, limit) };
+    let mut entry = vec![5 + pdata.len() as u8, pnum, pcmd];
+    entry.extend_from_slice(&hwpid(g, node).to_le_bytes());
+    entry.extend_from_slice(&pdata);
+    entry
+}
+
 fn batch_pdata(g: &mut Rng, node: &Node) -> Vec<u8> {
+    if g.chance(1, 8) {
+        let (reason, whole) = (g.within(1, 4) as u8, g.within(0, 8));
+        return broken_list(g, node, reason, whole).0;
+    }
     let mut list = Vec::new();
     let wanted = g.within(0, 8);
     for _ in 0..wanted {
@@ -230,24 +264,58 @@ fn batch_pdata(g: &mut Rng, node: &Node) -> Vec<u8> {
         if room < 5 {
             break;
         }
-        let limit = if g.chance(1, 4) { room - 5 } else { (room - 5).min(g.within(0, 20)) };
-        let (pnum, pcmd, pdata) = if g.chance(1, 20) {
-            (2, g.pick(&[5, 0x0A]), vec![0; limit.min(7)])
-        } else {
-            plain_request(g, node, limit)
-        };
-        list.push(5 + pdata.len() as u8);
-        list.push(pnum);
-        list.push(pcmd);
-        list.extend_from_slice(&hwpid(g, node).to_le_bytes());
-        list.extend_from_slice(&pdata);
+        list.extend_from_slice(&entry(g, node, room));
     }
     list.push(0);
-    if g.chance(1, 8) {
+    if g.chance(1, 16) {
         spoil_list(g, &mut list);
     }
     list.truncate(56);
     list
+}
+
+/// A list that breaks for this reason after `whole` whole entries, and the place of the fault. Without its closing zero
+/// a list has at least one entry.
+pub fn broken_list(g: &mut Rng, node: &Node, reason: u8, whole: usize) -> (Vec<u8>, u8) {
+    let (whole, fewest) = match reason {
+        3 => (whole.max(1), 0),
+        4 => (whole, 2),
+        _ => (whole, 1),
+    };
+    let mut list = Vec::new();
+    for left in (0..whole).rev() {
+        let room = 56 - list.len() - 5 * left - fewest;
+        list.extend_from_slice(&entry(g, node, room));
+    }
+    let end = list.len();
+    let room = 56 - end;
+    let place = match reason {
+        1 => {
+            list.push(g.within(1, 4) as u8);
+            list.extend_from_slice(&any_bytes(g, 0, room - 1));
+            end
+        }
+        2 => {
+            let rest = any_bytes(g, 0, room - 1);
+            let there = 1 + rest.len();
+            list.push(edge(g, 5.max(there + 1), 255) as u8);
+            list.extend_from_slice(&rest);
+            end
+        }
+        3 => end,
+        _ => {
+            list.push(0);
+            list.extend_from_slice(&any_bytes(g, 1, room - 1));
+            end + 1
+        }
+    };
+    (list, place as u8)
+}
+
+/// Random bytes, many of them 0.
+fn any_bytes(g: &mut Rng, least: usize, most: usize) -> Vec<u8> {
+    let length = edge(g, least, most);
+    (0..length).map(|_| if g.chance(1, 3) { 0 } else { g.byte() }).collect()
 }
 
 fn spoil_list(g: &mut Rng, list: &mut Vec<u8>) {
@@ -312,12 +380,7 @@ pub fn frame(g: &mut Rng, node: &Node, external: &[u8]) -> Vec<u8> {
         _ => plain_request(g, node, 56),
     };
     pdata.truncate(56);
-    let mut frame = nadr.to_le_bytes().to_vec();
-    frame.push(pnum);
-    frame.push(pcmd);
-    frame.extend_from_slice(&hwpid(g, node).to_le_bytes());
-    frame.extend_from_slice(&pdata);
-    frame
+    frame_of(nadr, pnum, pcmd, hwpid(g, node), &pdata)
 }
 
 /// Buffer lengths for a call; occasionally, or `often`, lengths that it refuses.
@@ -359,20 +422,52 @@ fn step(g: &mut Rng, before: Option<[u8; 4]>, bad: usize, runs: usize, timed: us
         },
     };
     if bad > 0 && g.chance(1, bad) {
-        match g.below(6) {
-            0 => step[0] = g.pick(&[5, 6, 255]),
-            1 => step[1] = g.pick(&[32, 48, 191, 192, 255]),
-            2 => step[2] = g.pick(&[101, 127, 128, 255]),
-            3 => step[3] = 0x80,
-            4 => step[3] = g.byte(),
-            _ => step[g.below(4)] = g.byte(),
+        if g.chance(1, 2) {
+            let parts = [(); 4].map(|_| g.chance(1, 3));
+            step = step_with(g, parts);
+        } else {
+            spoil_step(g, &mut step);
         }
     }
     step
 }
 
+fn spoil_step(g: &mut Rng, step: &mut [u8; 4]) {
+    match g.below(6) {
+        0 => step[0] = g.pick(&[5, 6, 255]),
+        1 => step[1] = g.pick(&[32, 48, 191, 192, 255]),
+        2 => step[2] = g.pick(&[101, 127, 128, 255]),
+        3 => step[3] = 0x80,
+        4 => step[3] = g.byte(),
+        _ => step[g.below(4)] = g.byte(),
+    }
+}
+
+/// A step with these parts bad: kind, target, value, time. With a bad kind nothing tells whether another part is bad:
+/// the others are any bytes.
+pub fn step_with(g: &mut Rng, bad: [bool; 4]) -> [u8; 4] {
+    if bad[0] {
+        return [edge(g, 5, 255) as u8, g.byte(), g.byte(), g.byte()];
+    }
+    let kind = g.below(if bad[2] { 3 } else { 5 }) as u8; // a memory step has no bad value
+    let (targets, highest) = match kind {
+        3 => (48, 255),
+        4 => (EEPROM_SIZE, 255),
+        _ => (32, 100),
+    };
+    let target = if bad[1] { edge(g, targets, 255) } else { edge(g, 0, targets - 1) };
+    let value = if bad[2] { edge(g, highest + 1, 255) } else { edge(g, 0, highest) };
+    let time = match (kind, bad[3]) {
+        (0..=2, true) => 0x80,
+        (0..=2, false) => g.pick(&[0, 1, 0x7F, 0x81, 0xFF]),
+        (_, true) => edge(g, 1, 255),
+        (_, false) => 0,
+    };
+    [kind, target as u8, value as u8, time as u8]
+}
+
 /// A random scene; about one step in `bad` may be bad (0: none).
-fn scene(g: &mut Rng, bad: usize) -> Vec<[u8; 4]> {
+pub fn scene(g: &mut Rng, bad: usize) -> Vec<[u8; 4]> {
     let length = match g.below(6) {
         0 => 0,
         1 => 64,
@@ -399,7 +494,7 @@ pub fn book(g: &mut Rng) -> Vec<u8> {
         1 => 16,
         _ => g.within(1, 5),
     };
-    let bad = if g.chance(1, 4) { 80 } else { 0 };
+    let bad = if g.chance(1, 4) { g.pick(&[80, 80, 8, 2]) } else { 0 };
     let scenes: Vec<Vec<[u8; 4]>> = (0..n).map(|_| scene(g, bad)).collect();
     let mut book = book_of(&scenes);
     if g.chance(1, 10) {

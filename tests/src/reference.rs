@@ -1,5 +1,6 @@
-//! Document 01, "Exact rules and what to build", implemented as plainly as
-//! possible, without regard to speed. Headings name the document's sections.
+//! Document 01, "Exact rules and what to build", with change 1/12 of document 02,
+//! implemented as plainly as possible, without regard to speed. Headings name
+//! document 01's sections.
 use super::ffi::{
     CompileAnswer, FrcAnswer, Lamp, LengthAnswer, Node, NodeAnswer, RequestAnswer, SendAnswer, Settings, SlotAnswer,
 };
@@ -106,8 +107,23 @@ pub struct Request<'a> {
     pub pdata: &'a [u8],
 }
 
-/// The answer's data and the load mark, or ErrN.
-type DataOrError = Result<(Vec<u8>, bool), u8>;
+/// The answer's data and the load mark, or the error: ErrN alone, or a `RequestError`.
+type DataOr<E> = Result<(Vec<u8>, bool), E>;
+type DataOrError = DataOr<u8>;
+
+/// ErrN and, if the list of a batch is broken, the reason and the place in PData; else 0 and 0.
+#[derive(Debug)]
+pub struct RequestError {
+    pub errn: u8,
+    pub reason: u8,
+    pub place: u8,
+}
+
+impl From<u8> for RequestError {
+    fn from(errn: u8) -> RequestError {
+        RequestError { errn, reason: 0, place: 0 }
+    }
+}
 
 pub fn handle_request(
     node: Node,
@@ -116,7 +132,7 @@ pub fn handle_request(
     external: &mut [u8],
     response: &mut [u8],
 ) -> RequestAnswer {
-    let nothing_done = |refusal| RequestAnswer { refusal, length: 0, load: false, addressed: false, node };
+    let nothing_done = |refusal| RequestAnswer { refusal, ..RequestAnswer::zeros(node) };
     if !node_rule(&node) {
         return nothing_done(1);
     }
@@ -136,22 +152,22 @@ pub fn handle_request(
     let (pnum, pcmd) = (frame[2], frame[3]);
     let request = Request { pnum, pcmd, hwpid: word(frame[4], frame[5]), pdata: &frame[6..] };
     let mut parts = Parts { node, eeprom, external };
-    let (error, data, load) = match do_request(&mut parts, &request) {
-        Ok((data, load)) => (0, data, load),
+    let (RequestError { errn, reason, place }, data, load) = match do_request(&mut parts, &request) {
+        Ok((data, load)) => (RequestError::from(0), data, load), // ErrN 0: none
         Err(error) => (error, Vec::new(), false),
     };
     let mut length = 0;
     if nadr != 0x00FF {
-        let bytes = response_bytes(&node.settings, pnum, pcmd, error, &data);
+        let bytes = response_bytes(&node.settings, pnum, pcmd, errn, &data);
         length = bytes.len();
         response[..length].copy_from_slice(&bytes);
     }
-    RequestAnswer { refusal: 0, length, load, addressed: true, node: parts.node }
+    RequestAnswer { refusal: 0, length, load, addressed: true, reason, place, node: parts.node }
 }
 
-fn response_bytes(s: &Settings, pnum: u8, pcmd: u8, error: u8, data: &[u8]) -> Vec<u8> {
+fn response_bytes(s: &Settings, pnum: u8, pcmd: u8, errn: u8, data: &[u8]) -> Vec<u8> {
     let mut bytes = vec![low(s.address), high(s.address), pnum, pcmd | 0x80];
-    bytes.extend_from_slice(&[low(s.hwpid), high(s.hwpid), error, s.dpa_value]);
+    bytes.extend_from_slice(&[low(s.hwpid), high(s.hwpid), errn, s.dpa_value]);
     bytes.extend_from_slice(data);
     bytes
 }
@@ -160,16 +176,17 @@ fn wrong_hwpid(node: &Node, request: &Request) -> bool {
     request.hwpid != node.settings.hwpid && request.hwpid != 0xFFFF
 }
 
-fn do_request(parts: &mut Parts, request: &Request) -> DataOrError {
+fn do_request(parts: &mut Parts, request: &Request) -> DataOr<RequestError> {
     if wrong_hwpid(&parts.node, request) {
-        return Err(HWPID);
+        return Err(HWPID.into());
     }
-    match (request.pnum, request.pcmd) {
-        (0x02, 0x05) => do_batch(parts, request.pdata).map(|_| (Vec::new(), false)),
+    let done = match (request.pnum, request.pcmd) {
+        (0x02, 0x05) => return do_batch(parts, request.pdata).map(|_| (Vec::new(), false)),
         (0x02, 0x0A) => code_check(parts, request.pdata),
         (0x02, _) => Err(PCMD),
         _ => do_peripheral(parts, request),
-    }
+    };
+    Ok(done?)
 }
 
 /// An entry of a batch.
@@ -362,31 +379,42 @@ fn new_level(pcmd: u8, level: u8, power: u8) -> u8 {
 }
 
 // ---- OS ----
-/// The entries of a list; none if it is malformed.
-fn read_batch(list: &[u8]) -> Option<Vec<Request<'_>>> {
+/// The entries of a list, or its first fault in reading order.
+fn read_batch(list: &[u8]) -> Result<Vec<Request<'_>>, RequestError> {
+    let broken = |reason, place: usize| Err(RequestError { errn: DATA, reason, place: place as u8 });
     let mut entries = Vec::new();
     let mut at = 0;
     loop {
-        let length = *list.get(at)? as usize; // none: the closing zero is missing
-        if length == 0 {
-            // the closing zero must be the last byte
-            return if at + 1 == list.len() { Some(entries) } else { None };
+        if at == list.len() {
+            return broken(3, list.len()); // no closing zero
         }
-        if length < 5 || at + length > list.len() {
-            return None;
+        let length = list[at] as usize;
+        if length == 0 {
+            break;
+        }
+        if length < 5 {
+            return broken(1, at);
+        }
+        if at + length > list.len() {
+            return broken(2, at);
         }
         let e = &list[at..at + length];
         entries.push(Request { pnum: e[1], pcmd: e[2], hwpid: word(e[3], e[4]), pdata: &e[5..] });
         at += length;
     }
+    let behind = at + 1; // the zero is at `at`
+    if behind < list.len() {
+        return broken(4, behind);
+    }
+    Ok(entries)
 }
 
-/// The ErrN of each entry, which is never sent, or the ErrN of the batch.
-pub fn do_batch(parts: &mut Parts, pdata: &[u8]) -> Result<Vec<u8>, u8> {
+/// The ErrN of each entry, which is never sent, or the error of the batch.
+pub fn do_batch(parts: &mut Parts, pdata: &[u8]) -> Result<Vec<u8>, RequestError> {
     if pdata.is_empty() {
-        return Err(DATA_LEN);
+        return Err(DATA_LEN.into());
     }
-    let Some(entries) = read_batch(pdata) else { return Err(DATA) };
+    let entries = read_batch(pdata)?;
     let mut errors = Vec::new();
     for entry in entries {
         errors.push(match do_entry(parts, &entry) {
@@ -547,20 +575,35 @@ pub fn read_book(book: &[u8]) -> Option<Vec<Vec<Step>>> {
     Some(scenes)
 }
 
-pub fn step_is_good(step: Step) -> bool {
+/// The refusal for the first bad part of a step; none for a good step.
+pub fn bad_part(step: Step) -> Option<u8> {
     let [kind, target, value, time] = step;
-    match kind {
-        0..=2 => target < 32 && value <= 100 && time != 0x80,
-        3 => target < 48 && time == 0,
-        4 => (target as usize) < EEPROM_SIZE && time == 0,
-        _ => false,
+    if kind > 4 {
+        return Some(81);
     }
+    let is_lamp = kind <= 2;
+    let targets = match kind {
+        3 => 48,
+        4 => EEPROM_SIZE,
+        _ => 32,
+    };
+    if target as usize >= targets {
+        return Some(82);
+    }
+    if is_lamp && value > 100 {
+        return Some(83);
+    }
+    let time_is_bad = if is_lamp { time == 0x80 } else { time != 0 };
+    if time_is_bad {
+        return Some(84);
+    }
+    None
 }
 
 /// The step machine. It shares no arithmetic with `lights`, because the two are
 /// compared.
 pub fn do_step(parts: &mut Parts, step: Step) {
-    if !step_is_good(step) {
+    if bad_part(step).is_some() {
         return;
     }
     let [kind, target, value, time] = step;
@@ -679,8 +722,8 @@ pub fn compile(book: &[u8], scene: usize, address: u16, hwpid: u16, out: &mut [u
     }
     let steps = &scenes[scene];
     for (i, &step) in steps.iter().enumerate() {
-        if !step_is_good(step) {
-            return refused(8, i as u8);
+        if let Some(refusal) = bad_part(step) {
+            return refused(refusal, i as u8);
         }
     }
     if out.len() < 4096 {

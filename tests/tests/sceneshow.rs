@@ -105,7 +105,25 @@ fn damaged_books() {
     check("a byte after the end", &longer);
     check("17 scenes", &book_of(&vec![vec![[0, 0, 1, 0]]; 17]));
     check("65 steps", &book_of(&[vec![[0, 0, 1, 0]; 65]]));
-    check("bad kind", &book_of(&[vec![[0, 0, 1, 0], [5, 0, 1, 0]]]));
+}
+
+/// The second step is bad, and in the last book every part of it.
+#[test]
+fn bad_steps() {
+    for (bad, printed) in [
+        ([5, 0, 1, 0], "refused 81\n"),
+        ([0, 32, 1, 0], "refused 82\n"),
+        ([3, 48, 255, 0], "refused 82\n"),
+        ([4, 192, 255, 0], "refused 82\n"),
+        ([0, 0, 101, 0], "refused 83\n"),
+        ([0, 0, 1, 0x80], "refused 84\n"),
+        ([3, 0, 255, 1], "refused 84\n"),
+        ([5, 255, 255, 0x80], "refused 81\n"),
+    ] {
+        let book = book_of(&[vec![[0, 0, 1, 0], bad]]);
+        assert_eq!(run(&book, 100, Duration::ZERO), printed, "{bad:?}");
+        assert_eq!(reference::sceneshow(&book), printed, "{bad:?}");
+    }
 }
 
 #[test]

@@ -3,12 +3,14 @@
 //! the number of calls in `random_sessions`. A failure prints all inputs.
 //! After every call the whole answer and every whole buffer are compared, with
 //! the guard bytes after it, including buffers that are only read.
-use grelfint_tests::board::{Board, Lengths};
+use grelfint_tests::board::{book_of, frame_of, Board, Lengths};
 use grelfint_tests::ffi::{CompileAnswer, Lamp, Node, RequestAnswer, Settings};
 use grelfint_tests::random::{self, EXCESS, GUARD};
 use grelfint_tests::reference::{self as r, EEPROM_SIZE, EXTERNAL_SIZE};
 use grelfint_tests::rng::{number, seed, Rng};
 use grelfint_tests::sides::{Side, FAST, LIBRARY, REFERENCE};
+use std::collections::BTreeMap;
+use std::fmt::Debug;
 use std::hint::black_box;
 
 /// Placed before and after a record that a call writes.
@@ -89,10 +91,60 @@ impl Input {
 #[derive(Default, Debug)]
 struct Seen {
     calls: u64,
-    refusals: [u64; 20],
+    refusals: Counts<u8>,
     errors: [u64; 8],
     loads: u64,
     requests: Requests,
+    broken_lists: Counts<BrokenList>,
+    bad_steps: Counts<BadStep>,
+}
+
+/// How often each case was seen.
+#[derive(Debug)]
+struct Counts<K>(BTreeMap<K, u64>);
+
+impl<K> Default for Counts<K> {
+    fn default() -> Counts<K> {
+        Counts(BTreeMap::new())
+    }
+}
+
+impl<K: Ord + Debug> Counts<K> {
+    fn add(&mut self, case: K) {
+        *self.0.entry(case).or_default() += 1;
+    }
+
+    fn assert_each(&self, cases: impl Iterator<Item = K>, least: u64) {
+        for case in cases {
+            let seen = self.0.get(&case).copied().unwrap_or(0);
+            assert!(seen >= least, "{case:?} seen {seen} times, less than {least}: {self:?}");
+        }
+    }
+}
+
+#[derive(PartialEq, Eq, PartialOrd, Ord, Debug)]
+struct BrokenList {
+    reason: u8,
+    broadcast: bool,
+}
+
+impl BrokenList {
+    fn every() -> impl Iterator<Item = BrokenList> {
+        (1..=4).flat_map(|reason| [false, true].map(|broadcast| BrokenList { reason, broadcast }))
+    }
+}
+
+#[derive(PartialEq, Eq, PartialOrd, Ord, Debug)]
+struct BadStep {
+    refusal: u8,
+    /// The output buffer is too short as well.
+    short: bool,
+}
+
+impl BadStep {
+    fn every() -> impl Iterator<Item = BadStep> {
+        (81..=84).flat_map(|refusal| [false, true].map(|short| BadStep { refusal, short }))
+    }
 }
 
 /// Requests by outcome.
@@ -116,11 +168,21 @@ impl Requests {
         *kind += 1;
     }
 
-    /// At least one request in twenty is of each kind.
-    fn assert_every_kind(&self) {
-        let kinds = [self.own, self.broadcast, self.other_node, self.refused];
-        let total: u64 = kinds.iter().sum();
-        assert!(kinds.iter().all(|n| n * 20 > total), "a kind is rare: {self:?}");
+    fn kinds(&self) -> [u64; 4] {
+        [self.own, self.broadcast, self.other_node, self.refused]
+    }
+
+    fn total(&self) -> u64 {
+        self.kinds().iter().sum()
+    }
+}
+
+impl Seen {
+    /// At least one request in twenty is of each kind, and one in two thousand has a list broken in each way.
+    fn assert_every_kind_of_request(&self) {
+        let total = self.requests.total();
+        assert!(self.requests.kinds().iter().all(|n| n * 20 > total), "a kind is rare: {:?}", self.requests);
+        self.broken_lists.assert_each(BrokenList::every(), total / 2000);
     }
 }
 
@@ -172,7 +234,7 @@ impl Session {
 
     fn count(&mut self, refusal: u8) {
         self.seen.calls += 1;
-        self.seen.refusals[refusal as usize] += 1;
+        self.seen.refusals.add(refusal);
     }
 
     /// Fails the test if `good` is false.
@@ -207,6 +269,9 @@ impl Session {
         if b.length >= 8 {
             self.seen.errors[self.plain.response[6] as usize] += 1;
         }
+        if b.reason != 0 {
+            self.seen.broken_lists.add(BrokenList { reason: b.reason, broadcast: b.length == 0 });
+        }
         b
     }
 
@@ -215,6 +280,34 @@ impl Session {
         let answer = self.request(self.plain.node, frame, lent);
         self.set_node(answer.node);
         answer
+    }
+
+    /// A list that is built to break for this reason after `whole` whole entries. A wrong HWPID is told instead.
+    fn broken_list(&mut self, reason: u8, whole: usize, nadr: u16, right_hwpid: bool) {
+        let (g, node) = (&mut self.g, self.plain.node);
+        let (list, place) = random::broken_list(g, &node, reason, whole);
+        let hwpid = if right_hwpid { g.pick(&[node.settings.hwpid, 0xFFFF]) } else { random::wrong_hwpid(g, &node) };
+        let frame = frame_of(nadr, 2, 5, hwpid, &list);
+        let (length, errn) = (if nadr == 0x00FF { 0 } else { 8 }, if right_hwpid { r::DATA } else { r::HWPID });
+        let (reason, place) = if right_hwpid { (reason, place) } else { (0, 0) };
+        let want = RequestAnswer { length, addressed: true, reason, place, ..RequestAnswer::zeros(node) };
+        let answer = self.take(&frame, Lengths::USUAL);
+        self.expect(answer == want && (length == 0 || self.plain.response[6] == errn), || {
+            format!("built for ErrN {errn}, {want:?}\nanswer {answer:?}\nframe {}", hex(&frame))
+        });
+    }
+
+    /// A list broken in each way: after no, one and several whole entries, to this node and to all nodes, with a right
+    /// and a wrong HWPID.
+    fn broken_lists(&mut self) {
+        for reason in 1..=4 {
+            for whole in [0, 1, self.g.within(2, 8)] {
+                for nadr in [self.plain.node.settings.address, 0x00FF] {
+                    self.broken_list(reason, whole, nadr, true);
+                    self.broken_list(reason, whole, nadr, false);
+                }
+            }
+        }
     }
 
     fn tick(&mut self, node: Node) -> Node {
@@ -363,6 +456,9 @@ struct SceneCall {
     out: Vec<u8>,
 }
 
+/// The least output buffer that is not refused.
+const ROOM: usize = 4096;
+
 impl SceneCall {
     fn random(g: &mut Rng, node: &Node) -> SceneCall {
         let book = random::book(g);
@@ -380,14 +476,20 @@ impl SceneCall {
         let left_out = g.chance(1, 3);
         let hwpid = if left_out { 0xFFFF } else { random::hwpid(g, node) };
         let room = match g.below(12) {
-            0 => g.within(0, 4095),
-            1 => 4095,
-            2 => g.within(4096, 4200),
-            _ => 4096,
+            0 => g.within(0, ROOM - 1),
+            1 => ROOM - 1,
+            2 => g.within(ROOM, 4200),
+            _ => ROOM,
         };
+        SceneCall { book, scene, address, hwpid, left_out, ..SceneCall::only(g, &[], room) }
+    }
+
+    /// Compiles the one scene of a book for every node.
+    fn only(g: &mut Rng, steps: &[r::Step], room: usize) -> SceneCall {
         let mut out = vec![0; room + GUARD];
         g.fill(&mut out);
-        SceneCall { book, scene, address, hwpid, left_out, room, out }
+        let book = book_of(&[steps.to_vec()]);
+        SceneCall { book, scene: 0, address: 255, hwpid: 0xFFFF, left_out: g.chance(1, 2), room, out }
     }
 
     /// A side's answer and the output buffer after the call. The book is passed separately, so that it may be guarded.
@@ -449,25 +551,51 @@ fn requests_in(out: &[u8]) -> (Vec<&[u8]>, usize) {
 }
 
 impl Session {
-    /// Compiles a scene on all sides and, if it is for the boards' node, sends it the requests.
+    /// Compiles a random scene and, if it is for the boards' node, sends it the requests.
     fn scene(&mut self) {
         let call = SceneCall::random(&mut self.g, &self.plain.node);
+        let (answer, out) = self.compile(&call);
+        if answer.refusal == 0 && call.is_for(&self.plain.node) {
+            self.take_scene(&call, &out, answer.length);
+        }
+    }
+
+    /// Compiles a scene on all sides.
+    fn compile(&mut self, call: &SceneCall) -> (CompileAnswer, Vec<u8>) {
         let lent = Input::new(&call.book);
         let (a, out) = call.compile(self.tested.side, lent.part());
         let (b, want) = call.compile(REFERENCE, &call.book);
         let (c, quick) = call.compile(FAST, &call.book);
         self.count(b.refusal);
         let fault = difference("output", &out, &want) + &lent.difference("book");
-        self.expect(a == b && fault.is_empty(), || {
-            format!("{fault}compile: answer {a:?}, expected {b:?}\n{}", call.inputs(&self.plain))
+        self.expect(a == b && a.refusal != 8 && fault.is_empty(), || {
+            format!("{fault}compile: answer {a:?}, expected {b:?} (never 8)\n{}", call.inputs(&self.plain))
         });
         let fault = difference("fast output", &quick, &want);
         self.expect(c == b && fault.is_empty(), || {
             format!("{fault}fast compile: answer {c:?}, expected {b:?}\n{}", call.inputs(&self.plain))
         });
-        if b.refusal == 0 && call.is_for(&self.plain.node) {
-            self.take_scene(&call, &out, b.length);
+        if (81..=84).contains(&b.refusal) {
+            self.seen.bad_steps.add(BadStep { refusal: b.refusal, short: call.room < ROOM });
         }
+        (b, out)
+    }
+
+    /// A scene whose first bad step follows random good ones and has these bad parts: kind, target, value, time. The
+    /// first bad part is told, whatever is bad behind it and however short the output buffer is.
+    fn bad_step(&mut self, bad: [bool; 4], room: usize) {
+        let g = &mut self.g;
+        let mut steps = random::scene(g, 0);
+        steps.truncate(63);
+        let number = steps.len() as u8;
+        steps.push(random::step_with(g, bad));
+        steps.append(&mut random::scene(g, 2));
+        steps.truncate(64);
+        let call = SceneCall::only(g, &steps, room);
+        let first = bad.iter().position(|&part| part).expect("a bad part") as u8;
+        let want = CompileAnswer { refusal: 81 + first, step: number, length: 0 };
+        let (answer, _) = self.compile(&call);
+        self.expect(answer == want, || format!("built for {want:?}, answer {answer:?}\n{}", call.inputs(&self.plain)));
     }
 
     /// No request and no entry is refused, and the node and memories end as the step machine leaves them.
@@ -550,13 +678,12 @@ fn random_sessions() {
     }
     println!("random_sessions: {:?}", s.seen);
     if wanted >= 100_000 {
-        for n in [0, 1, 2, 3, 4, 5, 6, 7, 8, 9, 10, 15, 16] {
-            assert!(s.seen.refusals[n] > 0, "refusal {n} never seen");
-        }
+        let refusals: Vec<u8> = s.seen.refusals.0.keys().copied().collect();
+        assert_eq!(refusals, [0, 1, 2, 3, 4, 5, 6, 7, 9, 10, 15, 16, 81, 82, 83, 84]);
         let errors = s.seen.errors;
         assert!(errors.iter().all(|&n| n > 0), "an ErrN never seen: {errors:?}");
         assert!(s.seen.loads > 0);
-        s.seen.requests.assert_every_kind();
+        s.seen.assert_every_kind_of_request();
         assert!(errors[0] * 2 > errors.iter().sum::<u64>(), "valid requests are rare");
     }
 }
@@ -588,6 +715,39 @@ fn every_pnum_and_pcmd() {
                 frame.extend_from_slice(&[pnum, pcmd, 0xFF, 0xFF]);
                 frame.extend_from_slice(&pdata);
                 s.take(&frame, Lengths::USUAL);
+            }
+        }
+    }
+}
+
+/// Lists that break in each way: the library and the fast implementation find the fault where the generator put it.
+#[test]
+fn broken_lists() {
+    let boards = 200;
+    for side in [LIBRARY, FAST] {
+        let mut s = Session::new("broken_lists", side);
+        s.run(boards, 1, Session::broken_lists);
+        println!("broken_lists: {:?}", s.seen);
+        s.seen.broken_lists.assert_each(BrokenList::every(), 3 * boards as u64);
+    }
+}
+
+/// Every length byte, first in the list and after one and two entries, with every number of bytes up to the end.
+#[test]
+fn every_length_byte() {
+    let entry = [5, 0x71, 0x3E, 0xFF, 0xFF];
+    for side in [LIBRARY, FAST] {
+        let mut s = Session::new("every_length_byte", side);
+        let own = s.plain.node.settings.address;
+        for whole in 0..=2 {
+            for length in 0..=255u8 {
+                for rest in 0..56 - 5 * whole {
+                    let mut list = entry.repeat(whole);
+                    list.push(length);
+                    list.resize(list.len() + rest, s.g.pick(&[0, 1, 5, 0xFF]));
+                    let nadr = s.g.pick(&[own, 0x00FF]);
+                    s.take(&frame_of(nadr, 2, 5, 0xFFFF, &list), Lengths::USUAL);
+                }
             }
         }
     }
@@ -673,6 +833,42 @@ fn random_scenes() {
         s.set_node(node);
     });
     println!("random_scenes: {:?}", s.seen);
+    s.seen.bad_steps.assert_each(BadStep::every(), 50);
+}
+
+/// Steps with every set of bad parts, with a sufficient and with a short output buffer.
+#[test]
+fn first_bad_part_of_the_first_bad_step() {
+    let mut s = Session::new("first_bad_part_of_the_first_bad_step", LIBRARY);
+    s.run(200, 1, |s| {
+        for set in 1..16u8 {
+            let bad = [1, 2, 4, 8].map(|bit| set & bit != 0);
+            for room in [ROOM, ROOM - 1, 0] {
+                s.bad_step(bad, room);
+            }
+        }
+    });
+    s.seen.bad_steps.assert_each(BadStep::every(), 200);
+}
+
+/// Every byte in each part of a step of each kind, and every unknown kind.
+#[test]
+fn every_byte_of_a_step() {
+    let mut s = Session::new("every_byte_of_a_step", LIBRARY);
+    let mut compile = |step: r::Step| {
+        let call = SceneCall::only(&mut s.g, &[step], ROOM);
+        s.compile(&call).0.refusal
+    };
+    for byte in 0..=255 {
+        assert_eq!(compile([byte, 0, 0, 0]), if byte <= 4 { 0 } else { 81 });
+        for kind in 0..=4 {
+            for part in 1..4 {
+                let mut step = [kind, 0, 0, 0];
+                step[part] = byte;
+                assert!([0, 81 + part as u8].contains(&compile(step)), "{step:?}");
+            }
+        }
+    }
 }
 
 /// The benchmark's baseline follows the same rules. Its compiler is compared in
@@ -685,5 +881,5 @@ fn fast_agrees() {
         let after = s.tick(s.plain.node);
         s.set_node(after);
     });
-    s.seen.requests.assert_every_kind();
+    s.seen.assert_every_kind_of_request();
 }

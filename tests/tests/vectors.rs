@@ -1,10 +1,10 @@
 //! Examples from the documents, run on the library through its C interface and
 //! on the plain reference: document 01's worked examples (those marked P are
-//! also proved, but cheap to run), the light standard's step table and examples
-//! (001), the confirmation's timing (003), and the guide's batch and
-//! confirmation examples (000).
-use grelfint_tests::board::{Board, Lengths};
-use grelfint_tests::ffi::{FrcAnswer, Lamp, Node, RequestAnswer};
+//! also proved, but cheap to run), broken lists and bad steps (02, change 1/12),
+//! the light standard's step table and examples (001), the confirmation's timing
+//! (003), and the guide's batch and confirmation examples (000).
+use grelfint_tests::board::{book_of, frame_of, Board, Lengths};
+use grelfint_tests::ffi::{CompileAnswer, FrcAnswer, Lamp, Node, RequestAnswer};
 use grelfint_tests::reference;
 use grelfint_tests::sides::{Side, LIBRARY, REFERENCE};
 
@@ -27,10 +27,22 @@ on_both_sides! {
     batch_first_entry_is_not_all,
     addressed_by_nadr,
     addressed_despite_an_error,
-    refused_is_not_addressed,
+    refused_answers_nothing_else,
     checksums,
     batches_of_one_byte_and_of_a_short_entry,
     compiled_scene,
+    broken_lists,
+    lists_broken_after_whole_entries,
+    lists_broken_at_the_longest_pdata,
+    first_fault_of_a_list,
+    faults_of_entries_are_not_reported,
+    other_errors_have_no_reason,
+    another_nodes_broken_list,
+    each_bad_part_of_a_step,
+    first_bad_part_of_a_step,
+    memory_steps,
+    first_bad_step_of_a_scene,
+    bad_steps_with_a_short_buffer,
     light_standard_step_table,
     light_standard_examples,
     light_standard_rules,
@@ -83,8 +95,7 @@ fn batch_first_entry_is_not_all(side: Side) {
 // ---- document 01, "Taking a request": which frames are for this node ----
 /// Sets lamp 0 of a node to 10.
 fn set_frame(nadr: u16, hwpid: u16) -> Vec<u8> {
-    let ([a, b], [c, d]) = (nadr.to_le_bytes(), hwpid.to_le_bytes());
-    vec![a, b, 0x71, 0, c, d, 1, 0, 0, 0, 10]
+    frame_of(nadr, 0x71, 0, hwpid, &[1, 0, 0, 0, 10])
 }
 
 fn addressed_by_nadr(side: Side) {
@@ -101,26 +112,30 @@ fn addressed_despite_an_error(side: Side) {
     for (nadr, length) in [(1, 8), (0x00FF, 0)] {
         let mut b = Board::started(side, 3, 1);
         let a = b.request(b.node, &set_frame(nadr, 0x1234), Lengths::USUAL); // ErrN 7
-        let want = RequestAnswer { refusal: 0, length, load: false, addressed: true, node: b.node };
+        let want = RequestAnswer { length, addressed: true, ..RequestAnswer::zeros(b.node) };
         assert_eq!(a, want, "NADR {nadr:04X}");
     }
 }
 
-fn refused_is_not_addressed(side: Side) {
+/// A set and a batch with a broken list, in calls that are refused.
+fn refused_answers_nothing_else(side: Side) {
     let usual = Lengths::USUAL;
-    for nadr in [1, 0x00FF] {
+    let set_and_batch = |nadr| [set_frame(nadr, 0xFFFF), frame_of(nadr, 2, 5, 0xFFFF, &[4, 0])];
+    for frame in [1, 0x00FF].into_iter().flat_map(set_and_batch) {
         let mut b = Board::started(side, 3, 1);
         let mut broken = b.node;
         broken.settings.step = 3;
-        for (refusal, node, frame_length, lent) in [
-            (1, broken, 11, usual),
-            (2, b.node, 5, usual),
-            (3, b.node, 11, Lengths { response: 63, ..usual }),
-            (4, b.node, 11, Lengths { eeprom: 191, ..usual }),
+        let mut long = frame.clone();
+        long.resize(63, 0);
+        for (refusal, node, frame, lent) in [
+            (1, broken, &frame[..], usual),
+            (2, b.node, &frame[..5], usual),
+            (2, b.node, &long[..], usual),
+            (3, b.node, &frame[..], Lengths { response: 63, ..usual }),
+            (4, b.node, &frame[..], Lengths { eeprom: 191, ..usual }),
         ] {
-            let a = b.request(node, &set_frame(nadr, 0xFFFF)[..frame_length], lent);
-            let want = RequestAnswer { refusal, length: 0, load: false, addressed: false, node };
-            assert_eq!(a, want, "NADR {nadr:04X}");
+            let a = b.request(node, frame, lent);
+            assert_eq!(a, RequestAnswer { refusal, ..RequestAnswer::zeros(node) }, "{frame:02X?}");
         }
     }
 }
@@ -191,6 +206,203 @@ fn compiled_scene(side: Side) {
         20, 0,
     ];
     assert_eq!((a.refusal, &out[..a.length]), (0, &want[..]));
+}
+
+// ---- document 02, change 1/12: where the list of a batch is broken ----
+/// Sends a request that changes nothing to a fresh node, at its own address and at broadcast, and compares the whole
+/// answer and all buffers.
+fn assert_answer(side: Side, [pnum, pcmd]: [u8; 2], hwpid: u16, pdata: &[u8], errn: u8, (reason, place): (u8, u8)) {
+    for (nadr, length) in [(1, 8), (0x00FF, 0)] {
+        let mut b = Board::started(side, 3, 1);
+        let mut end = b.clone();
+        let a = b.request(b.node, &frame_of(nadr, pnum, pcmd, hwpid, pdata), Lengths::USUAL);
+        let want = RequestAnswer { length, addressed: true, reason, place, ..RequestAnswer::zeros(b.node) };
+        assert_eq!(a, want, "NADR {nadr:04X}, PData {pdata:02X?}");
+        end.response[..length].copy_from_slice(&[1, 0, pnum, pcmd | 0x80, 0x71, 0x24, errn, 7][..length]);
+        assert_eq!(b.response, end.response, "NADR {nadr:04X}, PData {pdata:02X?}");
+        assert!(b.eeprom == end.eeprom && b.external == end.external, "a memory changed");
+    }
+}
+
+fn assert_broken(side: Side, list: &[u8], reason: u8, place: u8) {
+    assert_answer(side, [2, 5], 0xFFFF, list, 6, (reason, place));
+}
+
+/// Any error, or 0 for success, without a reason.
+fn assert_no_reason(side: Side, command: [u8; 2], hwpid: u16, pdata: &[u8], errn: u8) {
+    assert_answer(side, command, hwpid, pdata, errn, (0, 0));
+}
+
+fn broken_lists(side: Side) {
+    assert_broken(side, &[4, 0], 1, 0);
+    assert_broken(side, &[3], 1, 0);
+    assert_broken(side, &[5, 0x71, 0x3E, 0xFF], 2, 0);
+    assert_broken(side, &[5, 0x71, 0x3E, 0xFF, 0xFF], 3, 5);
+    assert_broken(side, &[0, 0], 4, 1);
+}
+
+/// Lists of entries that set lamp 0 to 10, with other bytes after them. None of the entries runs.
+fn lists_broken_after_whole_entries(side: Side) {
+    for whole in [1, 2, 5] {
+        let entries = [10, 0x71, 0, 0xFF, 0xFF, 1, 0, 0, 0, 10].repeat(whole);
+        let place = entries.len() as u8;
+        let broken = |rest: &[u8], reason, place| assert_broken(side, &[&entries, rest].concat(), reason, place);
+        broken(&[4, 0], 1, place);
+        broken(&[1], 1, place);
+        broken(&[5, 0x71, 0x3E, 0xFF], 2, place);
+        broken(&[], 3, place);
+        broken(&[0, 0], 4, place + 1);
+    }
+}
+
+/// Lists of 56 bytes, broken at their last byte, at their end and by an entry that is too long for any list.
+fn lists_broken_at_the_longest_pdata(side: Side) {
+    let shortest = [5, 0x71, 0x3E, 0xFF, 0xFF].repeat(11);
+    assert_broken(side, &[&shortest[..], &[1]].concat(), 1, 55);
+    assert_broken(side, &[&shortest[..], &[5]].concat(), 2, 55);
+    assert_broken(side, &[&shortest[..50], &[6, 0x71, 0x3E, 0xFF, 0xFF, 0]].concat(), 3, 56);
+    assert_broken(side, &[&shortest[..45], &[9, 0x71, 0x3E, 0xFF, 0xFF, 0, 0, 0, 0, 0, 9]].concat(), 4, 55);
+    let mut longest = vec![57, 0x71, 0x3E, 0xFF, 0xFF];
+    longest.resize(56, 0);
+    assert_broken(side, &longest, 2, 0);
+    longest[0] = 255;
+    assert_broken(side, &longest, 2, 0);
+    longest[0] = 56;
+    assert_broken(side, &longest, 3, 56);
+}
+
+fn first_fault_of_a_list(side: Side) {
+    // under five comes before over the end; 5 is long enough
+    for length in 1..=4 {
+        assert_broken(side, &[length], 1, 0);
+    }
+    assert_broken(side, &[5], 2, 0);
+    // bytes after the fault are not read
+    assert_broken(side, &[4, 0, 0, 0, 0, 0], 1, 0);
+    assert_broken(side, &[4, 0xFF, 5], 1, 0);
+    assert_broken(side, &[8, 0x71, 0x3E, 0xFF, 0xFF, 4, 0], 2, 0);
+    assert_broken(side, &[0, 4], 4, 1);
+    assert_broken(side, &[0, 5, 0x71, 0x3E, 0xFF, 0xFF, 0], 4, 1);
+    // the bytes of an entry are not read as a list
+    assert_broken(side, &[6, 0x71, 0x3E, 0xFF, 0xFF, 4, 0, 0], 4, 7);
+}
+
+fn faults_of_entries_are_not_reported(side: Side) {
+    // an error of data length, an invalid level, a wrong HWPID, a batch with a broken list
+    let entries: [&[u8]; 4] = [
+        &[6, 0x71, 0x3E, 0xFF, 0xFF, 0],
+        &[10, 0x71, 0, 0xFF, 0xFF, 1, 0, 0, 0, 0x65],
+        &[10, 0x71, 0, 0x34, 0x12, 1, 0, 0, 0, 10],
+        &[7, 2, 5, 0xFF, 0xFF, 4, 0],
+    ];
+    for entry in entries {
+        assert_no_reason(side, [2, 5], 0xFFFF, &[entry, &[0]].concat(), 0);
+    }
+    assert_no_reason(side, [2, 5], 0xFFFF, &[&entries.concat()[..], &[0]].concat(), 0);
+}
+
+fn other_errors_have_no_reason(side: Side) {
+    let broken = [4, 0];
+    assert_no_reason(side, [2, 5], 0xFFFF, &[0], 0); // a sound list
+    assert_no_reason(side, [2, 5], 0xFFFF, &[], 5);
+    assert_no_reason(side, [2, 5], 0x1234, &broken, 7);
+    assert_no_reason(side, [2, 6], 0xFFFF, &broken, 2);
+    assert_no_reason(side, [6, 5], 0xFFFF, &broken, 3);
+    assert_no_reason(side, [2, 0x0A], 0xFFFF, &broken, 5);
+    assert_no_reason(side, [2, 0x0A], 0xFFFF, &[0, 0, 0, 1, 0, 0, 0], 6); // a length of 1 is no multiple of 64
+    assert_no_reason(side, [0x71, 0], 0xFFFF, &broken, 6);
+    assert_no_reason(side, [0x71, 0x3E], 0xFFFF, &broken, 5);
+    assert_no_reason(side, [5, 0], 0xFFFF, &[48, 0], 4);
+}
+
+fn another_nodes_broken_list(side: Side) {
+    for nadr in [2, 0x0101, 0xFF00] {
+        let mut b = Board::started(side, 3, 1);
+        let a = b.request(b.node, &frame_of(nadr, 2, 5, 0xFFFF, &[4, 0]), Lengths::USUAL);
+        assert_eq!(a, RequestAnswer::zeros(b.node), "NADR {nadr:04X}");
+        assert_eq!(b.response, [0xEE; 64]);
+    }
+}
+
+// ---- document 02, change 1/12: the bad part of a step ----
+/// Compiles a scene of these steps with both calls, and compares the whole answer; no byte is written.
+fn assert_bad(side: Side, steps: &[[u8; 4]], room: usize, refusal: u8, step: u8) {
+    let book = book_of(&[steps.to_vec()]);
+    let mut out = vec![0xEE; room];
+    let want = CompileAnswer { refusal, step, length: 0 };
+    assert_eq!((side.compile)(&book, 0, 1, 0x2471, &mut out), want, "{steps:02X?}");
+    assert_eq!((side.compile_default)(&book, 0, 1, &mut out), want, "{steps:02X?}");
+    assert!(out.iter().all(|&b| b == 0xEE));
+}
+
+fn assert_bad_step(side: Side, step: [u8; 4], refusal: u8) {
+    assert_bad(side, &[step], 4096, refusal, 0);
+}
+
+/// Compiles a scene of one step to node 1, and compares the output: one request with this entry.
+fn assert_good_step(side: Side, step: [u8; 4], entry: &[u8]) {
+    let request = [&[1, 0, 2, 5, 0xFF, 0xFF], entry, &[0]].concat();
+    let want = [&[1, request.len() as u8], &request[..]].concat();
+    let mut out = vec![0xEE; 4096];
+    let a = (side.compile_default)(&book_of(&[vec![step]]), 0, 1, &mut out);
+    assert_eq!(a, CompileAnswer { refusal: 0, step: 0, length: want.len() }, "{step:02X?}");
+    assert_eq!(out[..want.len()], want);
+    assert!(out[want.len()..].iter().all(|&b| b == 0xEE));
+}
+
+fn each_bad_part_of_a_step(side: Side) {
+    for kind in [5, 6, 0x80, 255] {
+        assert_bad_step(side, [kind, 0, 0, 0], 81);
+    }
+    for kind in 0..=2 {
+        assert_bad_step(side, [kind, 32, 100, 0xFF], 82);
+        assert_bad_step(side, [kind, 255, 0, 0], 82);
+        assert_bad_step(side, [kind, 31, 101, 0xFF], 83);
+        assert_bad_step(side, [kind, 0, 255, 0], 83);
+        assert_bad_step(side, [kind, 31, 100, 0x80], 84);
+        assert_bad_step(side, [kind, 0, 0, 0x80], 84);
+        assert_good_step(side, [kind, 31, 100, 0xFF], &[11, 0x71, kind, 0xFF, 0xFF, 0, 0, 0, 0x80, 0xE4, 0xFF]);
+    }
+}
+
+fn first_bad_part_of_a_step(side: Side) {
+    assert_bad_step(side, [5, 255, 255, 0x80], 81);
+    assert_bad_step(side, [0, 32, 101, 0x80], 82);
+    assert_bad_step(side, [0, 32, 101, 0], 82);
+    assert_bad_step(side, [0, 32, 0, 0x80], 82);
+    assert_bad_step(side, [0, 0, 101, 0x80], 83);
+}
+
+fn memory_steps(side: Side) {
+    assert_good_step(side, [3, 47, 255, 0], &[7, 5, 1, 0xFF, 0xFF, 47, 255]);
+    assert_good_step(side, [4, 191, 255, 0], &[7, 3, 1, 0xFF, 0xFF, 191, 255]);
+    for (kind, size) in [(3, 48), (4, 192)] {
+        assert_bad_step(side, [kind, size, 0, 0], 82);
+        assert_bad_step(side, [kind, 255, 255, 1], 82);
+        for time in [1, 0x80, 0x81, 255] {
+            assert_bad_step(side, [kind, size - 1, 255, time], 84);
+        }
+    }
+}
+
+fn first_bad_step_of_a_scene(side: Side) {
+    let good = [0, 0, 10, 0];
+    assert_bad(side, &[good, [3, 0, 255, 0], [1, 0, 101, 0]], 4096, 83, 2);
+    // the second bad step has a part that comes earlier
+    assert_bad(side, &[good, [0, 0, 0, 0x80], [5, 0, 0, 0]], 4096, 84, 1);
+    let mut longest = vec![good; 64];
+    longest[63] = [4, 192, 0, 0];
+    assert_bad(side, &longest, 4096, 82, 63);
+}
+
+fn bad_steps_with_a_short_buffer(side: Side) {
+    let good = [0, 0, 10, 0];
+    for room in [0, 4095] {
+        for (bad, refusal) in [([5, 0, 0, 0], 81), ([0, 32, 0, 0], 82), ([0, 0, 101, 0], 83), ([0, 0, 0, 0x80], 84)] {
+            assert_bad(side, &[good, bad], room, refusal, 1);
+        }
+        assert_bad(side, &[good], room, 9, 0);
+    }
 }
 
 // ---- the light standard (001) ----

@@ -1,9 +1,8 @@
 -- Refusals of the compile call: its result in each case, and that each number is given exactly for its fault.
-use mathlib.Core.Path.{_≡_, refl, ap, subst, _∙_}
+use mathlib.Core.Path.{_≡_, refl, sym, ap, subst, _∙_}
 use mathlib.Core.Logic.{inl, inr, _↔_}
 use mathlib.Core.Bool.{true, false, not, or-true}
 use mathlib.Core.List.{List, [], _∷_, _++_}
-use mathlib.Core.Option.{Option, none, some}
 use Prim.Native.Nat.{ℕ, suc, _+_, _-_, _≤_, _<_}
 use native.Mathlib.Omega.{arith}
 use lib.Dec.{ltb, leb, eqb}
@@ -15,14 +14,16 @@ use Rattle.dpa.specs.Settings.{lastAddress, nodeAddress}
 use Rattle.dpa.proofs.Bool.{and-left, and-right, by-cond, by-test}
 use Rattle.dpa.specs.Lists.{All}
 use Rattle.book.specs.declared.step.Step.{Step}
+use Rattle.book.specs.declared.step.StepsCheck.{StepsCheck}
+use Rattle.book.specs.declared.step.StepsCheck.the-variants.{AllGood, Bad}
 use Rattle.book.specs.Book.{sceneCount, bookOk, sceneOf}
 use Rattle.book.specs.Step.{stepFault, goodStep, firstBadFrom}
 use Rattle.dpa.proofs.All.{all-weaken}
-use Rattle.book.proofs.Faults.{Good, no-bad}
+use Rattle.book.proofs.Faults.{Good, no-bad, fault-range}
 use Rattle.scene.specs.Compile.{sceneRequests}
 use Rattle.scene.specs.Call.{CompileResult, output, minOutput, refusedWith, outputInBuffer, addressOk, compileSteps, compileScene, compileFor}
 use Rattle.scene.proofs.Outputs.{Faultless, compile-written, compile-refused}
-use Rattle.acceptance.specs.SceneTheorem.{Addressable, NoFault, SceneRule, FirstBad, Refusals}
+use Rattle.acceptance.specs.SceneTheorem.{Addressable, NoFault, SceneRule, StepRefusal, FirstBad, Refusals}
 
 -- ---- the faults, and the tests of the call
 
@@ -49,11 +50,11 @@ pub good-no-fault : (ss : List Step) → All Good ss → All NoFault ss
 good-no-fault ss = all-weaken Good NoFault (λ s g. eqb-true (stepFault s) 0 g) ss
 
 -- if the search from number i finds step j, it is the first bad step
-found-first : (i : ℕ) (ss : List Step) (j : ℕ) → firstBadFrom i ss ≡ some j → (i ≤ j) × FirstBad ss (j - i)
-found-first i [] j e = absurd (let z : _≡_ {A = ℕ} 0 1 = cc in omega arith)
-found-first i (s ∷ ss) j e =
+found-first : (i : ℕ) (ss : List Step) (n j : ℕ) → firstBadFrom i ss ≡ Bad j n → (i ≤ j) × FirstBad ss n (j - i)
+found-first i [] n j e = absurd (let z : _≡_ {A = ℕ} 0 1 = cc in omega arith)
+found-first i (s ∷ ss) n j e =
     by-test (goodStep s)
-    (λ g. let f = found-first (suc i) ss j (rw g at e) in (
+    (λ g. let f = found-first (suc i) ss n j (rw g at e) in (
       omega (arith, f .0),
       record {
         earlier = s ∷ f .1 .earlier;
@@ -62,10 +63,11 @@ found-first i (s ∷ ss) j e =
         order = ap (λ (l : List Step). s ∷ l) (f .1 .order);
         number = omega (arith, f .0, f .1 .number);
         no-fault = (eqb-true (stepFault s) 0 g, f .1 .no-fault);
+        not-good = f .1 .not-good;
         fault = f .1 .fault;
       },
     ))
-    (λ g. let same : _≡_ {A = Option ℕ} (some i) (some j) = rw g at e in
+    (λ g. let same : Bad i (stepFault s) ≡ Bad j n = rw g at e in
     let z : i ≡ j = cc in (
       omega arith,
       record {
@@ -75,24 +77,31 @@ found-first i (s ∷ ss) j e =
         order = refl;
         number = omega arith;
         no-fault = tt;
-        fault = eqb-false (stepFault s) 0 g;
+        not-good = eqb-false (stepFault s) 0 g;
+        fault = cc;
       },
     ))
 
 -- and the search finds the first bad step
 first-found : (i : ℕ) (earlier : List Step) (bad : Step) (later : List Step) → All NoFault earlier → ¬ NoFault bad
-    → firstBadFrom i (earlier ++ (bad ∷ later)) ≡ some (i + length earlier)
-first-found i [] bad later a f = rw (ne-eqb (stepFault bad) 0 f) (ap some (let z : i ≡ i + 0 = omega arith in z))
+    → firstBadFrom i (earlier ++ (bad ∷ later)) ≡ Bad (i + length earlier) (stepFault bad)
+first-found i [] bad later a f = rw (ne-eqb (stepFault bad) 0 f) (ap (λ (k : ℕ). Bad k (stepFault bad)) (let z : i ≡ i + 0 = omega arith in z))
 first-found i (s ∷ ss) bad later a f =
     rw (eq-eqb (stepFault s) 0 (a .0))
-    (first-found (suc i) ss bad later (a .1) f ∙ ap some (let z : suc i + length ss ≡ i + suc (length ss) = omega arith in z))
+    (first-found (suc i) ss bad later (a .1) f
+    ∙ ap (λ (k : ℕ). Bad k (stepFault bad)) (let z : suc i + length ss ≡ i + suc (length ss) = omega arith in z))
 
--- the call finds step j exactly if it is the first bad step
-pub first-bad-step : (ss : List Step) (j : ℕ) → (firstBadFrom 0 ss ≡ some j) ↔ FirstBad ss j
-first-bad-step ss j = (
-  λ e. subst (FirstBad ss) (let z : j - 0 ≡ j = omega arith in z) (found-first 0 ss j e .1),
-  λ f. ap (firstBadFrom 0) (f .order) ∙ first-found 0 (f .earlier) (f .bad) (f .later) (f .no-fault) (f .fault) ∙ ap some (let z : 0 + length (f .earlier) ≡ j = omega (arith, f .number) in z),
+-- the call finds step j with fault n exactly if it is the first bad step
+pub first-bad-step : (ss : List Step) (n j : ℕ) → (firstBadFrom 0 ss ≡ Bad j n) ↔ FirstBad ss n j
+first-bad-step ss n j = (
+  λ e. subst (FirstBad ss n) (let z : j - 0 ≡ j = omega arith in z) (found-first 0 ss n j e .1),
+  λ f. ap (firstBadFrom 0) (f .order) ∙ first-found 0 (f .earlier) (f .bad) (f .later) (f .no-fault) (f .not-good)
+      ∙ ap (λ (k : ℕ). Bad k (stepFault (f .bad))) (let z : 0 + length (f .earlier) ≡ j = omega (arith, f .number) in z) ∙ ap (Bad j) (f .fault),
 )
+
+-- and the fault is a refusal for a bad step
+step-refusal : {ss : List Step} {n k : ℕ} → FirstBad ss n k → StepRefusal n
+step-refusal f = subst StepRefusal (f .fault) (fault-range (f .bad) (f .not-good))
 
 -- a scene without a fault passes the call's tests
 pub rule-faultless : (b : List ℕ) (k : ℕ) → SceneRule b k → Faultless b k
@@ -105,6 +114,10 @@ rule-faultless b k r =
 no : {F X : Type 0} {m n : ℕ} → eqb m n ≡ false → F → m ≡ n → X
 no {m} {n} t f e = absurd (eqb-false m n t e)
 
+-- the same for the number of a bad step, which is above all others
+no-step : {F X : Type 0} {m n : ℕ} → ltb m 81 ≡ true → StepRefusal n → F → m ≡ n → X
+no-step {m = m} t s f e = absurd (omega (arith, ltb-true m 81 t, s .0))
+
 module _ (b : List ℕ) (k a h : ℕ) (out : List ℕ) where
   -- the cases, each with what the earlier tests have shown
   abbrev IllFormed : Type 0
@@ -113,8 +126,8 @@ module _ (b : List ℕ) (k a h : ℕ) (out : List ℕ) where
   abbrev Unknown : Type 0
   Unknown = Addressable a × (bookOk b ≡ true) × (sceneCount b ≤ k)
 
-  abbrev BadStep : ℕ → Type 0
-  BadStep j = Addressable a × (bookOk b ≡ true) × (k < sceneCount b) × FirstBad (sceneOf b k) j
+  abbrev BadStep : ℕ → ℕ → Type 0
+  BadStep n j = Addressable a × (bookOk b ≡ true) × (k < sceneCount b) × FirstBad (sceneOf b k) n j
 
   abbrev NoRoom : Type 0
   NoRoom = Addressable a × SceneRule b k × (length out < minOutput)
@@ -135,9 +148,9 @@ module _ (b : List ℕ) (k a h : ℕ) (out : List ℕ) where
   unfolding compileFor compileScene
   number-answer f = rw (addressable a .0 (f .0), f .1, le-leb (sceneCount b) k (f .2))
 
-  step-answer : (j : ℕ) → BadStep j → compileFor b k a h out ≡ refusedWith 8 j out
+  step-answer : (n j : ℕ) → BadStep n j → compileFor b k a h out ≡ refusedWith n j out
   unfolding compileFor compileScene
-  step-answer j f = rw (addressable a .0 (f .0), f .1, lt-leb (sceneCount b) k (f .2), first-bad-step (sceneOf b k) j .1 (f .3))
+  step-answer n j f = rw (addressable a .0 (f .0), f .1, lt-leb (sceneCount b) k (f .2), first-bad-step (sceneOf b k) n j .1 (f .3))
 
   room-answer : NoRoom → compileFor b k a h out ≡ refusedWith 9 0 out
   unfolding compileFor compileScene
@@ -154,13 +167,13 @@ module _ (b : List ℕ) (k a h : ℕ) (out : List ℕ) where
       (address : ¬ Addressable a → P (refusedWith 1 0 out))
       (ill-formed : IllFormed → P (refusedWith 6 0 out))
       (unknown : Unknown → P (refusedWith 7 0 out))
-      (bad-step : (j : ℕ) → BadStep j → P (refusedWith 8 j out))
+      (bad-step : (n j : ℕ) → BadStep n j → P (refusedWith n j out))
       (no-room : NoRoom → P (refusedWith 9 0 out))
       (accepted : Accepted → P (outputInBuffer (output (sceneRequests a h (sceneOf b k))) out)) where
-    steps-cases : Addressable a → bookOk b ≡ true → k < sceneCount b → (o : Option ℕ) → firstBadFrom 0 (sceneOf b k) ≡ o
-        → P (compileSteps o (sceneRequests a h (sceneOf b k)) out)
-    steps-cases ad ok below (some j) e = bad-step j (ad, ok, below, first-bad-step (sceneOf b k) j .0 e)
-    steps-cases ad ok below none e =
+    steps-cases : Addressable a → bookOk b ≡ true → k < sceneCount b → (x : StepsCheck) → firstBadFrom 0 (sceneOf b k) ≡ x
+        → P (compileSteps x (sceneRequests a h (sceneOf b k)) out)
+    steps-cases ad ok below (Bad j n) e = bad-step n j (ad, ok, below, first-bad-step (sceneOf b k) n j .0 e)
+    steps-cases ad ok below AllGood e =
         let r : SceneRule b k =
         record { well-formed = ok; known = below; no-fault = good-no-fault (sceneOf b k) (no-bad (sceneOf b k) .0 e) } in
         by-cond P (ltb (length out) minOutput) _ _ (λ t. no-room (ad, r, ltb-true _ _ t)) (λ t. accepted (ad, r, ltb-false _ _ t))
@@ -180,41 +193,45 @@ module _ (b : List ℕ) (k a h : ℕ) (out : List ℕ) where
   abbrev numberOf : CompileResult → ℕ
   numberOf r = r .refusal
 
+  -- rules out the case of a bad step
+  not-bad : {X : Type 0} {m : ℕ} → ltb m 81 ≡ true → (n j : ℕ) → BadStep n j → n ≡ m → X
+  not-bad t n j f e = no-step t (step-refusal (f .3)) f (sym e)
+
   -- each number exactly for its fault
   pub compile-refusals : Refusals b k a out (compileFor b k a h out)
   compile-refusals =
       record {
         address = (
-          compile-cases (λ r. r .refusal ≡ 1 → ¬ Addressable a) (λ f _. f) (no refl) (no refl) (λ j. no refl) (no refl) (no refl),
+          compile-cases (λ r. r .refusal ≡ 1 → ¬ Addressable a) (λ f _. f) (no refl) (no refl) (not-bad refl) (no refl) (no refl),
           λ f. ap numberOf (address-answer f),
         );
         ill-formed = (
-          compile-cases (λ r. r .refusal ≡ 6 → IllFormed) (no refl) (λ f _. f) (no refl) (λ j. no refl) (no refl) (no refl),
+          compile-cases (λ r. r .refusal ≡ 6 → IllFormed) (no refl) (λ f _. f) (no refl) (not-bad refl) (no refl) (no refl),
           λ f. ap numberOf (book-answer f),
         );
         unknown = (
-          compile-cases (λ r. r .refusal ≡ 7 → Unknown) (no refl) (no refl) (λ f _. f) (λ j. no refl) (no refl) (no refl),
+          compile-cases (λ r. r .refusal ≡ 7 → Unknown) (no refl) (no refl) (λ f _. f) (not-bad refl) (no refl) (no refl),
           λ f. ap numberOf (number-answer f),
         );
-        bad-step = λ j. (
-          λ p. compile-cases (λ r. r .refusal ≡ 8 → r .step ≡ j → BadStep j) (no refl) (no refl) (no refl)
-              (λ i f _ e. subst BadStep e f) (no refl) (no refl) (p .0) (p .1),
-          λ f. (ap numberOf (step-answer j f), ap (λ (r : CompileResult). r .step) (step-answer j f)),
+        bad-step = λ n j. (
+          λ p. compile-cases (λ r. r .refusal ≡ n → r .step ≡ j → BadStep n j) (no-step refl (p .0)) (no-step refl (p .0)) (no-step refl (p .0))
+              (λ m i f e d. subst (λ (x : ℕ). BadStep x j) e (subst (BadStep m) d f)) (no-step refl (p .0)) (no-step refl (p .0)) (p .1) (p .2),
+          λ f. (step-refusal (f .3), ap numberOf (step-answer n j f), ap (λ (r : CompileResult). r .step) (step-answer n j f)),
         );
         no-room = (
-          compile-cases (λ r. r .refusal ≡ 9 → NoRoom) (no refl) (no refl) (no refl) (λ j. no refl) (λ f _. f) (no refl),
+          compile-cases (λ r. r .refusal ≡ 9 → NoRoom) (no refl) (no refl) (no refl) (not-bad refl) (λ f _. f) (no refl),
           λ f. ap numberOf (room-answer f),
         );
         none = (
-          compile-cases (λ r. r .refusal ≡ 0 → Accepted) (no refl) (no refl) (no refl) (λ j. no refl) (no refl) (λ f _. f),
+          compile-cases (λ r. r .refusal ≡ 0 → Accepted) (no refl) (no refl) (no refl) (not-bad refl) (no refl) (λ f _. f),
           λ f. ap numberOf (accepted-answer f),
         );
         other-step =
-            compile-cases (λ r. ¬ (r .refusal ≡ 8) → r .step ≡ 0) (λ _ _. refl) (λ _ _. refl) (λ _ _. refl) (λ j _ n. absurd (n refl))
+            compile-cases (λ r. ¬ StepRefusal (r .refusal) → r .step ≡ 0) (λ _ _. refl) (λ _ _. refl) (λ _ _. refl) (λ n j f s. absurd (s (step-refusal (f .3))))
             (λ _ _. refl) (λ _ _. refl);
         unwritten = compile-refused b k a h out;
         later =
             let o = output (sceneRequests a h (sceneOf b k)) in
-            compile-cases (λ r. drop (r .length) (r .buffer) ≡ drop (r .length) out) (λ _. refl) (λ _. refl) (λ _. refl) (λ j _. refl)
+            compile-cases (λ r. drop (r .length) (r .buffer) ≡ drop (r .length) out) (λ _. refl) (λ _. refl) (λ _. refl) (λ n j _. refl)
             (λ _. refl) (λ _. drop-append-seam o (drop (length o) out));
       }

@@ -16,7 +16,7 @@ use Rattle.book.specs.declared.step.Step.{Step}
 use Rattle.book.specs.Book.{sceneOf}
 use Rattle.book.specs.Step.{noFault, stepFault}
 use Rattle.book.specs.Machine.{wellFormed}
-use Rattle.book.proofs.Faults.{good-formed}
+use Rattle.book.proofs.Faults.{fault-meaning, good-formed}
 use Rattle.scene.proofs.Batches.{batch-limits}
 use Rattle.scene.proofs.Outputs.{buffer-back}
 use Rattle.acceptance.specs.SceneTheorem.{NoFault, MatchesMachine, SceneTheorem, BufferTheorem, Condition3}
@@ -56,6 +56,6 @@ buffer-theorem st buffers book scene a h out g z =
     subst (λ (rs : List (List ℕ)). MatchesMachine batchPcmd a buffers rs (sceneOf book scene) st) (sym back)
     (scene-theorem st buffers book scene a h g (f .1))
 
--- all four parts
+-- all five parts
 pub condition-3 : Condition3
-condition-3 = record { refusals = compile-refusals; steps = steps-formed; requests = scene-theorem; buffer = buffer-theorem }
+condition-3 = record { refusals = compile-refusals; faults = fault-meaning; steps = steps-formed; requests = scene-theorem; buffer = buffer-theorem }

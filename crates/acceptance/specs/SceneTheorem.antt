@@ -1,12 +1,13 @@
--- Condition 3 as one statement: `Condition3`, at the end of this file. It has four parts:
---   refusals  compiling is refused exactly for the faults that document 01 names, each with its own number
+-- Condition 3 as one statement: `Condition3`, at the end of this file. It has five parts:
+--   refusals  compiling is refused exactly for the faults that the papers name, each with its own number
+--   faults    what 81 to 84 say about a step
 --   steps     the steps without a fault are exactly those that the step machine executes, by a rule of its own
 --   requests  a node that handles the requests of a scene in order refuses none of them, reports no error for any entry in
 --             them, and ends in the state that the step machine ends in
 --   buffer    the same holds for the requests that are read back from the output of the compile call, in any buffer
 -- Proved in proofs/Scenes (`condition-3`). proofs/Instance gives a node and a book that meet all assumptions.
 --
--- Sources: document 01, "Frames", "Scenes" and "Strength of the contracts". The statement is about what the contracts say that
+-- Sources: document 01, "Frames", "Scenes" and "Strength of the contracts"; document 02, change 1. The statement is about what the contracts say that
 -- the calls compute: `compileFor`, `outputOf` and `requestsIn` (scene/specs/Call), `handleRequest` and `execute` (handler/specs/Request);
 -- and about the rules of the book (`bookOk`, book/specs/Book), of a step (`stepFault`, book/specs/Step), of compiling
 -- (`sceneRequests`, scene/specs/Compile) and of the step machine (`wellFormed`, `machine`, book/specs/Machine).
@@ -25,7 +26,7 @@ use Rattle.dpa.specs.Settings.{lastAddress}
 use Rattle.handler.specs.Request.{State, SoundState, frameItem, noReport, batchPcmd, execute, handleRequest}
 use Rattle.book.specs.declared.step.Step.{Step}
 use Rattle.book.specs.Book.{sceneCount, bookOk, sceneOf}
-use Rattle.book.specs.Step.{noFault, stepFault}
+use Rattle.book.specs.Step.{noFault, stepFault, FaultMeaning}
 use Rattle.book.specs.Machine.{wellFormed, machine}
 use Rattle.scene.specs.Compile.{sceneRequests}
 use Rattle.scene.specs.Call.{CompileResult, minOutput, requestsIn, outputOf, compileFor}
@@ -46,17 +47,22 @@ pub record SceneRule (book : List ℕ) (scene : ℕ) : Type 0 where
   pub known : scene < sceneCount book
   pub no-fault : All NoFault (sceneOf book scene)
 
--- Step k, counted from 0, is the first bad step.
-pub record FirstBad (steps : List Step) (k : ℕ) : Type 0 where
+-- A refusal for a bad step: 81 for its kind, 82 for its target, 83 for its value, 84 for its time; exactly when: part `faults`.
+abbrev pub StepRefusal : ℕ → Type 0
+StepRefusal n = (81 ≤ n) × (n ≤ 84)
+
+-- Step k, counted from 0, is the first bad step, and n is its fault.
+pub record FirstBad (steps : List Step) (n k : ℕ) : Type 0 where
   pub earlier : List Step
   pub bad : Step
   pub later : List Step
   pub order : steps ≡ earlier ++ (bad ∷ later)
   pub number : length earlier ≡ k
   pub no-fault : All NoFault earlier
-  pub fault : ¬ NoFault bad
+  pub not-good : ¬ NoFault bad
+  pub fault : stepFault bad ≡ n
 
--- The result r of a compile call. Each refusal number is given exactly for its fault, if no fault with a smaller number applies;
+-- The result r of a compile call. Each refusal number is given exactly for its fault, if no fault earlier in this list applies;
 -- 0 is given exactly if there is no fault.
 pub record Refusals (book : List ℕ) (scene a : ℕ) (out : List ℕ) (r : CompileResult) : Type 0 where
   -- 1: the address
@@ -65,15 +71,15 @@ pub record Refusals (book : List ℕ) (scene a : ℕ) (out : List ℕ) (r : Comp
   pub ill-formed : (r .refusal ≡ 6) ↔ (Addressable a × (bookOk book ≡ false))
   -- 7: the book has no scene of that number
   pub unknown : (r .refusal ≡ 7) ↔ (Addressable a × (bookOk book ≡ true) × (sceneCount book ≤ scene))
-  -- 8, with the number of the first bad step
-  pub bad-step : (k : ℕ) → ((r .refusal ≡ 8) × (r .step ≡ k))
-      ↔ (Addressable a × (bookOk book ≡ true) × (scene < sceneCount book) × FirstBad (sceneOf book scene) k)
+  -- 81 to 84: the fault of the first bad step, with its number
+  pub bad-step : (n k : ℕ) → (StepRefusal n × (r .refusal ≡ n) × (r .step ≡ k))
+      ↔ (Addressable a × (bookOk book ≡ true) × (scene < sceneCount book) × FirstBad (sceneOf book scene) n k)
   -- 9: the output buffer is too small
   pub no-room : (r .refusal ≡ 9) ↔ (Addressable a × SceneRule book scene × (length out < minOutput))
   -- 0: compiled
   pub none : (r .refusal ≡ 0) ↔ (Addressable a × SceneRule book scene × (minOutput ≤ length out))
-  -- the number of a step is given with refusal 8 only
-  pub other-step : ¬ (r .refusal ≡ 8) → r .step ≡ 0
+  -- the number of a step is given with refusals 81 to 84 only
+  pub other-step : ¬ StepRefusal (r .refusal) → r .step ≡ 0
   -- a refused call has no output and leaves the buffer unchanged
   pub unwritten : ¬ (r .refusal ≡ 0) → (r .length ≡ 0) × (r .buffer ≡ out)
   -- the bytes of the buffer after the output are unchanged
@@ -101,7 +107,7 @@ pub record Success (pcmd a : ℕ) (s : Settings) (request : List ℕ) (st : Stat
   pub length : handleRequest request st buffer .length ≡ cond (eqb a broadcastNadr) 0 responseHeaderSize
   pub response : handleRequest request st buffer .response
       ≡ cond (eqb a broadcastNadr) buffer (overwriteFront (responseHeader s osPnum pcmd 0) buffer)
-  -- no report, and the request is addressed to this node
+  -- nothing is reported (no load mark, reason 0, place 0), and the request is addressed to this node
   pub report : handleRequest request st buffer .report ≡ noReport
   pub addressed : handleRequest request st buffer .addressed ≡ true
 
@@ -140,6 +146,7 @@ BufferTheorem =
 
 pub record Condition3 : Type 0 where
   pub refusals : (book : List ℕ) (scene a h : ℕ) (out : List ℕ) → Refusals book scene a out (compileFor book scene a h out)
+  pub faults : (s : Step) → FaultMeaning s
   pub steps : (s : Step) → NoFault s ↔ (wellFormed s ≡ true)
   pub requests : SceneTheorem
   pub buffer : BufferTheorem

@@ -16,7 +16,7 @@ ghost use Rattle.handler.specs.Request.{state, handleRequest};
 ghost use Rattle.acceptance.specs.SceneTheorem.{afterCalls};
 ghost use Rattle.acceptance.specs.RunScene.{zeroBuffer, totalLength, CompleteOutput, runScene, sceneResult};
 
-// `step` is the number of the bad step with refusal 8, and 0 otherwise. `node` is the node afterwards.
+// `step` is the number of the bad step with refusals 81 to 84, and 0 otherwise. `node` is the node afterwards.
 #[repr(C)]
 pub struct SceneAnswer {
     pub refusal: u8,

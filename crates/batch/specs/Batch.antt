@@ -1,4 +1,5 @@
--- Document 01, "Taking a request", OS 02, batch: the bytes of a list of entries, how they are read, and running entries in order.
+-- Document 01, "Taking a request", OS 02, batch, with document 02, change 1: the bytes of a list of entries, how they are read, why a
+-- list cannot be read, and running entries in order.
 use Prim.Native.Nat.{ℕ, zero, suc, _+_, _-_, _≤_, _<_}
 use mathlib.Core.List.{List, [], _∷_, _++_}
 use mathlib.Core.Bool.{Bool, cond, _&&_}

@@ -1,8 +1,7 @@
--- What holds of a good step, that the step machine executes it, and when a scene has no bad step.
+-- What holds of a good step, that the step machine executes it, what each fault means, and when a scene has no bad step.
 use mathlib.Core.Bool.{Bool, true, false, cond, _&&_}
 use mathlib.Core.List.{List, [], _∷_}
 use mathlib.Core.Logic.{_↔_}
-use mathlib.Core.Option.{Option, none, some}
 use mathlib.Core.Path.{_≡_, refl, sym, _∙_}
 use Prim.Native.Nat.{ℕ, suc, _≤_, _<_, _%_}
 use native.Mathlib.Omega.{arith}
@@ -11,12 +10,14 @@ use borrow.Author.Tests.{eqb-true, eqb-false, eq-eqb, ne-eqb, ltb-true, ltb-fals
 use Rattle.lights.specs.Lamp.{maxLevel}
 use Rattle.lights.specs.Lights.{timeOk}
 use Rattle.dpa.specs.Settings.{maxLamps}
-use Rattle.dpa.proofs.Bool.{by-test, both, and-left, and-right, else-taken, then-taken}
+use Rattle.dpa.proofs.Bool.{by-cond, by-test, both, and-left, and-right, else-taken, then-taken}
 use Rattle.memory.specs.Block.{sizeOf}
 use Rattle.memory.specs.declared.block.Memory.the-variants.{Eeprom, Ram}
 use Rattle.dpa.specs.Lists.{All}
 use Rattle.book.specs.declared.step.Step.{Step}
-use Rattle.book.specs.Step.{ramKind, eepromKind, isLamp, noFault, kindFault, targetFault, valueFault, timeFault, stepTimeOk, lampFault, byteFault, stepFault, goodStep, firstBadFrom}
+use Rattle.book.specs.declared.step.StepsCheck.{StepsCheck}
+use Rattle.book.specs.declared.step.StepsCheck.the-variants.{AllGood, Bad}
+use Rattle.book.specs.Step.{ramKind, eepromKind, isLamp, noFault, kindFault, targetFault, valueFault, timeFault, stepTimeOk, lampFault, byteFault, stepFault, goodStep, firstBadFrom, targetLimit, BadKind, BadTarget, BadValue, BadTime, FaultMeaning}
 use Rattle.book.specs.Machine.{secondsBit, timeFormed, lampFormed, byteFormed, wellFormed}
 
 -- a step that the compiler accepts
@@ -130,19 +131,100 @@ good-formed s =
     ))
     (λ e. (λ g. rw (l, r, e) (rw (l, r, e) at g), λ f. rw (l, r, e) (rw (l, r, e) at f)))))
 
+-- ---- what each fault means
+
+-- one of these cases applies: what holds for the fault of each case holds for the fault of the step
+module _ (s : Step) (P : ℕ → Type 0)
+    (kind : BadKind s → P kindFault)
+    (target : (¬ BadKind s) × BadTarget s → P targetFault)
+    (value : (¬ BadKind s) × (¬ BadTarget s) × BadValue s → P valueFault)
+    (time : (¬ BadKind s) × (¬ BadTarget s) × (¬ BadValue s) × BadTime s → P timeFault)
+    (none : (¬ BadKind s) × (¬ BadTarget s) × (¬ BadValue s) × (¬ BadTime s) → P noFault) where
+  lamp-cases : s .kind < ramKind → targetLimit (s .kind) ≡ maxLamps → P (lampFault s)
+  unfolding lampFault stepTimeOk
+  lamp-cases h limit =
+      let known : ¬ BadKind s = λ b. omega arith in
+      by-cond P (leb maxLamps (s .target)) _ _ (λ t. target (known, omega (arith, leb-true maxLamps (s .target) t)))
+      (λ t. let inside : ¬ BadTarget s = λ b. omega (arith, leb-false maxLamps (s .target) t) in
+      by-cond P (ltb maxLevel (s .value)) _ _ (λ v. value (known, inside, (h, ltb-true _ _ v)))
+      (λ v. let level : ¬ BadValue s = λ b. omega (arith, ltb-false maxLevel (s .value) v, b .1) in
+      by-test (eqb (s .time) 0) (λ z. rw z (none (known, inside, level, λ b. b .0 (eqb-true _ _ z))))
+      (λ z. rw z (by-cond P (timeOk (s .time)) _ _
+      (λ o. none (known, inside, level, λ b. let w : _≡_ {A = ℕ} 0 1 = cc (o, b .1 h) in omega arith))
+      (λ o. time (known, inside, level, (eqb-false _ _ z, λ _. o)))))))
+
+  byte-cases : (size : ℕ) → ramKind ≤ s .kind → s .kind ≤ eepromKind → targetLimit (s .kind) ≡ size → P (byteFault size s)
+  unfolding byteFault
+  byte-cases size h k limit =
+      let known : ¬ BadKind s = λ b. omega arith in
+      let any : ¬ BadValue s = λ b. omega (arith, b .0) in
+      by-cond P (leb size (s .target)) _ _ (λ t. target (known, omega (arith, leb-true size (s .target) t)))
+      (λ t. let inside : ¬ BadTarget s = λ b. omega (arith, leb-false size (s .target) t) in
+      by-cond P (eqb (s .time) 0) _ _ (λ z. none (known, inside, any, λ b. b .0 (eqb-true _ _ z)))
+      (λ z. time (known, inside, any, (eqb-false _ _ z, λ l. absurd (omega arith)))))
+
+  pub fault-cases : P (stepFault s)
+  unfolding stepFault targetLimit
+  fault-cases =
+      by-cond P (isLamp (s .kind)) _ _ (λ l. lamp-cases (ltb-true _ _ l) (rw l))
+      (λ l. let above : ramKind ≤ s .kind = ltb-false _ _ l in
+      by-cond P (eqb (s .kind) ramKind) _ _
+      (λ r. byte-cases (sizeOf Ram) above (omega (arith, eqb-true (s .kind) ramKind r)) (rw (l, r)))
+      (λ r. by-cond P (eqb (s .kind) eepromKind) _ _
+      (λ e. byte-cases (sizeOf Eeprom) above (omega (arith, eqb-true (s .kind) eepromKind e)) (rw (l, r)))
+      (λ e. kind (omega (arith, eqb-false (s .kind) ramKind r, eqb-false (s .kind) eepromKind e)))))
+
+-- a case has its own number, and no number of a case that it excludes
+own : {F : Type 0} {n : ℕ} → F → (n ≡ n) ↔ F
+own f = (λ _. f, λ _. refl)
+
+other : {F G : Type 0} {m n : ℕ} → eqb m n ≡ false → (F → G → ⊥) → F → (m ≡ n) ↔ G
+other {m = m} {n = n} t apart f = (λ e. absurd (eqb-false m n t e), λ g. absurd (apart f g))
+
+-- each fault is given exactly for the first bad part
+pub fault-meaning : (s : Step) → FaultMeaning s
+fault-meaning s =
+    record {
+      kind =
+          fault-cases s (λ n. (n ≡ 81) ↔ BadKind s) own (other refl (λ f g. f .0 g)) (other refl (λ f g. f .0 g))
+          (other refl (λ f g. f .0 g)) (other refl (λ f g. f .0 g));
+      target =
+          fault-cases s (λ n. (n ≡ 82) ↔ ((¬ BadKind s) × BadTarget s)) (other refl (λ f g. g .0 f)) own
+          (other refl (λ f g. f .1 (g .1))) (other refl (λ f g. f .1 (g .1))) (other refl (λ f g. f .1 (g .1)));
+      value =
+          fault-cases s (λ n. (n ≡ 83) ↔ ((¬ BadKind s) × (¬ BadTarget s) × BadValue s)) (other refl (λ f g. g .0 f))
+          (other refl (λ f g. g .1 (f .1))) own (other refl (λ f g. f .2 (g .2))) (other refl (λ f g. f .2 (g .2)));
+      time =
+          fault-cases s (λ n. (n ≡ 84) ↔ ((¬ BadKind s) × (¬ BadTarget s) × (¬ BadValue s) × BadTime s)) (other refl (λ f g. g .0 f))
+          (other refl (λ f g. g .1 (f .1))) (other refl (λ f g. g .2 (f .2))) own (other refl (λ f g. f .3 (g .3)));
+      none =
+          fault-cases s (λ n. (n ≡ 0) ↔ ((¬ BadKind s) × (¬ BadTarget s) × (¬ BadValue s) × (¬ BadTime s))) (other refl (λ f g. g .0 f))
+          (other refl (λ f g. g .1 (f .1))) (other refl (λ f g. g .2 (f .2))) (other refl (λ f g. g .3 (f .3))) own;
+    }
+
+-- every fault is 81 to 84
+pub fault-range : (s : Step) → ¬ (stepFault s ≡ noFault) → (81 ≤ stepFault s) × (stepFault s ≤ 84)
+fault-range s =
+    fault-cases s (λ n. ¬ (n ≡ noFault) → (81 ≤ n) × (n ≤ 84)) (λ _ _. (omega arith, omega arith)) (λ _ _. (omega arith, omega arith))
+    (λ _ _. (omega arith, omega arith)) (λ _ _. (omega arith, omega arith)) (λ _ n. absurd (n refl))
+
+-- the value of a step that writes a memory byte is never bad
+pub byte-value : (s : Step) → ramKind ≤ s .kind → ¬ (stepFault s ≡ valueFault)
+byte-value s h e = omega (arith, fault-meaning s .value .0 e .2 .0)
+
 -- ---- scenes without a bad step
 
-some-not-none : {j : ℕ} → _≡_ {A = Option ℕ} (some j) none → ⊥
-some-not-none e = let z : _≡_ {A = ℕ} 0 1 = cc in absurd (omega arith)
+bad-not-good : {j f : ℕ} → Bad j f ≡ AllGood → ⊥
+bad-not-good e = let z : _≡_ {A = ℕ} 0 1 = cc in absurd (omega arith)
 
-no-bad-good : (i : ℕ) (ss : List Step) → firstBadFrom i ss ≡ none → All Good ss
+no-bad-good : (i : ℕ) (ss : List Step) → firstBadFrom i ss ≡ AllGood → All Good ss
 no-bad-good i [] e = tt
-no-bad-good i (s ∷ ss) e = by-test (goodStep s) (λ g. (g, no-bad-good (suc i) ss (rw g at e))) (λ g. absurd (some-not-none (rw g at e)))
+no-bad-good i (s ∷ ss) e = by-test (goodStep s) (λ g. (g, no-bad-good (suc i) ss (rw g at e))) (λ g. absurd (bad-not-good (rw g at e)))
 
-good-no-bad : (i : ℕ) (ss : List Step) → All Good ss → firstBadFrom i ss ≡ none
+good-no-bad : (i : ℕ) (ss : List Step) → All Good ss → firstBadFrom i ss ≡ AllGood
 good-no-bad i [] a = refl
 good-no-bad i (s ∷ ss) a = rw (a .0) (good-no-bad (suc i) ss (a .1))
 
 -- no bad step is found exactly if each step is good
-pub no-bad : (ss : List Step) → (firstBadFrom 0 ss ≡ none) ↔ All Good ss
+pub no-bad : (ss : List Step) → (firstBadFrom 0 ss ≡ AllGood) ↔ All Good ss
 no-bad ss = (no-bad-good 0 ss, good-no-bad 0 ss)

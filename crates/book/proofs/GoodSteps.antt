@@ -1,36 +1,34 @@
 -- Laws of good and bad steps in a scene's bytes.
-use mathlib.Core.Bool.{true, false, cond}
+use mathlib.Core.Bool.{true, false}
 use mathlib.Core.List.{List}
-use mathlib.Core.Option.{none, some}
 use mathlib.Core.Path.{_≡_, sym, ap, _∙_}
 use Prim.Native.Nat.{ℕ, zero, suc, _+_, _≤_, _<_}
 use native.Mathlib.Numerals.{add-one}
 use native.Mathlib.Omega.{arith}
-use lib.Dec.{ltb}
 use lib.ListN.{drop}
-use borrow.Author.Tests.{lt-ltb, le-ltb}
 use Rattle.dpa.specs.Lists.{All}
 use Rattle.book.specs.declared.step.Step.{Step}
+use Rattle.book.specs.declared.step.StepsCheck.the-variants.{AllGood, Bad}
 use Rattle.book.specs.Book.{stepLength, stepOf, stepsIn}
-use Rattle.book.specs.Step.{goodStep, firstBadFrom}
+use Rattle.book.specs.Step.{stepFault, goodStep, firstBadFrom}
 use Rattle.book.specs.Positions.{stepAt}
 use Rattle.book.specs.Writing.{AllStepsGood}
 use Rattle.book.proofs.Records.{drop-record, records-next, records-end}
 use Rattle.book.proofs.Faults.{Good, no-bad}
 
--- ---- the loop of first_bad_step: x is step i
+-- ---- the loop of check_steps: x is step i
 module _ (n : ℕ) (body : List ℕ) (i : ℕ) (x : Step) (h : i < n) (e : x ≡ stepAt body i) where
   -- after a good step the search goes on
   pub first-bad-next : goodStep x ≡ true → firstBadFrom i (drop i (stepsIn n body)) ≡ firstBadFrom (i + 1) (drop (i + 1) (stepsIn n body))
   first-bad-next g = rw (add-one i, records-next stepLength stepOf n body i h, ap goodStep (sym e) ∙ g)
 
   -- a bad step ends it
-  pub first-bad-found : goodStep x ≡ false → firstBadFrom i (drop i (stepsIn n body)) ≡ cond (ltb i n) (some i) none
-  first-bad-found g = rw (records-next stepLength stepOf n body i h, ap goodStep (sym e) ∙ g, lt-ltb i n h)
+  pub first-bad-found : goodStep x ≡ false → firstBadFrom i (drop i (stepsIn n body)) ≡ Bad i (stepFault x)
+  first-bad-found g = rw (records-next stepLength stepOf n body i h, ap goodStep (sym e) ∙ g, e)
 
--- without a bad step it ends at the count
-pub first-bad-none : (n : ℕ) (body : List ℕ) (i : ℕ) → n ≤ i → firstBadFrom i (drop i (stepsIn n body)) ≡ cond (ltb n n) (some n) none
-first-bad-none n body i h = rw (records-end stepLength stepOf n body i h, le-ltb n n (omega arith))
+-- after the last step no bad one is left
+pub first-bad-none : (n : ℕ) (body : List ℕ) (i : ℕ) → n ≤ i → firstBadFrom i (drop i (stepsIn n body)) ≡ AllGood
+first-bad-none n body i h = rw (records-end stepLength stepOf n body i h)
 
 -- ---- good steps of the bytes and of the list
 
@@ -48,5 +46,5 @@ all-index (suc n) body g zero h = g .0
 all-index (suc n) body g (suc i) h = sym (next-good body i) ∙ all-index n (drop stepLength body) (g .1) i (omega arith)
 
 -- if no step is bad, each step in the bytes is good
-pub good-index : (n : ℕ) (body : List ℕ) → firstBadFrom 0 (stepsIn n body) ≡ none → AllStepsGood body n
+pub good-index : (n : ℕ) (body : List ℕ) → firstBadFrom 0 (stepsIn n body) ≡ AllGood → AllStepsGood body n
 good-index n body e = all-index n body (no-bad (stepsIn n body) .0 e)

@@ -1,8 +1,9 @@
--- Document 01, "Scenes": the kinds of steps, and which part of a step is bad.
-use mathlib.Core.Bool.{Bool, cond, _||_}
+-- Document 01, "Scenes", with document 02, change 1: the kinds of steps, and which part of a step is bad.
+use mathlib.Core.Bool.{Bool, false, cond, _||_}
 use mathlib.Core.List.{List, [], _∷_}
-use mathlib.Core.Option.{Option, none, some}
-use Prim.Native.Nat.{ℕ, suc}
+use mathlib.Core.Logic.{_↔_}
+use mathlib.Core.Path.{_≡_}
+use Prim.Native.Nat.{ℕ, suc, _≤_, _<_}
 use lib.Dec.{ltb, leb, eqb}
 use Rattle.dpa.specs.Settings.{maxLamps}
 use Rattle.lights.specs.Lamp.{maxLevel}
@@ -10,6 +11,8 @@ use Rattle.lights.specs.Lights.{timeOk}
 use Rattle.memory.specs.Block.{sizeOf}
 use Rattle.memory.specs.declared.block.Memory.the-variants.{Eeprom, Ram}
 use Rattle.book.specs.declared.step.Step.{Step}
+use Rattle.book.specs.declared.step.StepsCheck.{StepsCheck}
+use Rattle.book.specs.declared.step.StepsCheck.the-variants.{AllGood, Bad}
 
 -- ---- kinds of steps
 
@@ -33,21 +36,21 @@ eepromKind = 4
 abbrev pub isLamp : ℕ → Bool
 isLamp k = ltb k ramKind
 
--- ---- faults: the part of a step that is bad
+-- ---- faults: the part of a step that is bad. A fault is the refusal that it gives.
 abbrev pub noFault : ℕ
 noFault = 0
 
 abbrev pub kindFault : ℕ
-kindFault = 1
+kindFault = 81
 
 abbrev pub targetFault : ℕ
-targetFault = 2
+targetFault = 82
 
 abbrev pub valueFault : ℕ
-valueFault = 3
+valueFault = 83
 
 abbrev pub timeFault : ℕ
-timeFault = 4
+timeFault = 84
 
 -- the time of a lamp step: 0 for none, otherwise a valid time byte
 unfoldable pub stepTimeOk : ℕ → Bool
@@ -80,7 +83,40 @@ stepFault s =
 abbrev pub goodStep : Step → Bool
 goodStep s = eqb (stepFault s) noFault
 
--- the number of the first bad step; the first of these steps has number i
-abbrev pub firstBadFrom : ℕ → List Step → Option ℕ
-firstBadFrom i [] = none
-firstBadFrom i (s ∷ ss) = cond (goodStep s) (firstBadFrom (suc i) ss) (some i)
+-- the first bad step, by its number and its fault; the first of these steps has number i
+abbrev pub firstBadFrom : ℕ → List Step → StepsCheck
+firstBadFrom i [] = AllGood
+firstBadFrom i (s ∷ ss) = cond (goodStep s) (firstBadFrom (suc i) ss) (Bad i (stepFault s))
+
+-- ---- what the faults mean
+
+-- the number of targets of a known kind: lamps, or bytes of the memory
+unfoldable pub targetLimit : ℕ → ℕ
+targetLimit kind =
+    cond (isLamp kind) maxLamps
+    (cond (eqb kind ramKind) (sizeOf Ram)
+    (sizeOf Eeprom))
+
+-- the kind is above the last one
+abbrev pub BadKind : Step → Type 0
+BadKind s = eepromKind < s .kind
+
+-- the target is not a lamp, or not in the memory
+abbrev pub BadTarget : Step → Type 0
+BadTarget s = targetLimit (s .kind) ≤ s .target
+
+-- the level of a lamp step is too high; a memory takes any value
+abbrev pub BadValue : Step → Type 0
+BadValue s = (s .kind < ramKind) × (maxLevel < s .value)
+
+-- there is a time, and it is not the valid time byte of a lamp step
+abbrev pub BadTime : Step → Type 0
+BadTime s = (¬ (s .time ≡ 0)) × (s .kind < ramKind → timeOk (s .time) ≡ false)
+
+-- each fault is given exactly if its part is bad and no part before it; no fault, exactly if no part is bad
+pub record FaultMeaning (s : Step) : Type 0 where
+  pub kind : (stepFault s ≡ 81) ↔ BadKind s
+  pub target : (stepFault s ≡ 82) ↔ ((¬ BadKind s) × BadTarget s)
+  pub value : (stepFault s ≡ 83) ↔ ((¬ BadKind s) × (¬ BadTarget s) × BadValue s)
+  pub time : (stepFault s ≡ 84) ↔ ((¬ BadKind s) × (¬ BadTarget s) × (¬ BadValue s) × BadTime s)
+  pub none : (stepFault s ≡ 0) ↔ ((¬ BadKind s) × (¬ BadTarget s) × (¬ BadValue s) × (¬ BadTime s))

@@ -1,6 +1,5 @@
 // Scene books: scene locations, steps and their faults, and the entries of joined steps.
 pub mod entry;
-pub mod fault;
 pub mod join;
 pub mod kind;
 pub mod locations;

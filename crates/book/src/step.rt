@@ -1,20 +1,17 @@
-// The steps of a scene, and their faults.
-use crate::fault;
+// The steps of a scene, and their faults. A fault is the refusal that it gives.
 use crate::kind::WRITE_EEPROM;
 use crate::kind::WRITE_RAM;
 use crate::kind::is_lamp;
 use dpa::number::wide;
+use dpa::refusal;
 use dpa::settings::MAX_LAMPS;
 use lights::lamp::MAX_LEVEL;
 use lights::power::time_ok;
 use memory::block::Memory;
 use memory::block::size_of;
 ghost use mathlib.Core.Path.{_≡_};
-ghost use mathlib.Core.Bool.{cond};
-ghost use mathlib.Core.Option.{some, none};
 ghost use Prim.Native.Nat.{_+_, _*_, _≤_};
 ghost use lib.ListN.{length};
-ghost use lib.Dec.{ltb};
 ghost use Rattle.memory.specs.Block.{sizeOf};
 ghost use Rattle.book.specs.Book.{stepsMax, stepLength, stepsIn};
 ghost use Rattle.book.specs.Step.{lampFault, byteFault, stepFault, firstBadFrom};
@@ -53,18 +50,18 @@ fn lamp_fault(step: Step) -> u8
     ensures { λ r. ⌜ r ≡ lampFault step ⌝ }
 {
     if MAX_LAMPS <= step.target {
-        return fault::TARGET;
+        return refusal::STEP_TARGET;
     }
     if MAX_LEVEL < step.value {
-        return fault::VALUE;
+        return refusal::STEP_VALUE;
     }
     if step.time == 0 {
-        return fault::NONE;
+        return refusal::NONE;
     }
     if time_ok(step.time) {
-        return fault::NONE;
+        return refusal::NONE;
     }
-    fault::TIME
+    refusal::STEP_TIME
 }
 
 // The fault of a step that writes a byte of a memory.
@@ -72,15 +69,15 @@ fn byte_fault(memory: Memory, step: Step) -> u8
     ensures { λ r. ⌜ r ≡ byteFault (sizeOf memory) step ⌝ }
 {
     if size_of(memory) <= wide(step.target) {
-        return fault::TARGET;
+        return refusal::STEP_TARGET;
     }
     if step.time == 0 {
-        return fault::NONE;
+        return refusal::NONE;
     }
-    fault::TIME
+    refusal::STEP_TIME
 }
 
-// The first part of a step that is bad, or `fault::NONE`.
+// The fault of the first bad part of a step, or `refusal::NONE`.
 pub fn step_fault(step: Step) -> u8
     ensures { λ r. ⌜ r ≡ stepFault step ⌝ }
 {
@@ -93,21 +90,32 @@ pub fn step_fault(step: Step) -> u8
     if step.kind == WRITE_EEPROM {
         return byte_fault(Memory::Eeprom, step);
     }
-    fault::KIND
+    refusal::STEP_KIND
 }
 
-// The number of the first bad step, or `count` if all steps are good.
-pub fn first_bad_step(body: &[u8], count: usize) -> usize
+// The result of checking a scene's steps.
+pub enum StepsCheck {
+    AllGood,
+    // The number of the first bad step, and the refusal for its first bad part.
+    Bad { step: u8, refusal: u8 },
+}
+
+// Checks the steps up to the first bad one.
+pub fn check_steps(body: &[u8], count: usize) -> StepsCheck
     requires { ⌜ (stepLength * count ≤ length (now body)) × (count ≤ stepsMax) ⌝ }
-    ensures { λ r. ⌜ (r ≤ count) × (firstBadFrom 0 (stepsIn count (now (body .entry))) ≡ cond (ltb r count) (some r) none) ⌝ }
+    ensures { λ r. ⌜ r ≡ firstBadFrom 0 (stepsIn count (now (body .entry))) ⌝ }
 {
     let mut i: usize = 0;
     while i < count {
         let step = step_at(body, i);
-        if step_fault(step) != fault::NONE {
-            return i;
+        let fault = step_fault(step);
+        if fault != refusal::NONE {
+            return StepsCheck::Bad {
+                step: i as u8,
+                refusal: fault,
+            };
         }
         i = i + 1;
     }
-    count
+    StepsCheck::AllGood
 }

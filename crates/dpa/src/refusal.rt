@@ -1,4 +1,4 @@
-// Why a call refuses its arguments. If several reasons apply, the smallest number is returned.
+// Why a call refuses its arguments. If several reasons apply, the first of this list is returned.
 pub const NONE: u8 = 0;
 // The node record breaks the node rule, or settings or an address are out of range.
 pub const NODE: u8 = 1;
@@ -14,8 +14,14 @@ pub const PDATA: u8 = 5;
 pub const BOOK: u8 = 6;
 // The book has no scene with this number.
 pub const SCENE: u8 = 7;
-// The scene has a bad step, whose number is returned too.
-pub const STEP: u8 = 8;
+// A step of the scene is bad, and its number is returned too: its kind is unknown.
+pub const STEP_KIND: u8 = 81;
+// A step is bad: its target is not a lamp, or not in the memory.
+pub const STEP_TARGET: u8 = 82;
+// A step is bad: its level is too high.
+pub const STEP_VALUE: u8 = 83;
+// A step is bad: its time is not valid, or it writes a memory and has a time.
+pub const STEP_TIME: u8 = 84;
 // The output buffer is too small for the longest compiled scene.
 pub const OUTPUT: u8 = 9;
 // A view names neither EEPROM nor external memory.

@@ -1,4 +1,4 @@
--- Document 01, "Taking a request": what a request does to a node and its memories, and what is sent back.
+-- Document 01, "Taking a request", with document 02, change 1: what a request does to a node and its memories, and what is sent back.
 -- From the bottom up: peripherals, batch entries, OS requests, `execute`, and at the end the whole call, `handleRequest`.
 use Prim.Native.Nat.{ℕ, _+_}
 use mathlib.Core.Path.{_≡_}

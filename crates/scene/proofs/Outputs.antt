@@ -2,7 +2,6 @@
 use mathlib.Core.List.{List, [], _∷_}
 use mathlib.Core.Path.{_≡_, refl, ap, _∙_}
 use mathlib.Core.Bool.{true, not}
-use mathlib.Core.Option.{Option, none, some}
 use Prim.Native.Nat.{ℕ, suc, _+_, _*_, _≤_, _<_}
 use native.Mathlib.Omega.{arith}
 use lib.ListN.{length, length-append, length-map, drop}
@@ -15,6 +14,8 @@ use Rattle.dpa.proofs.Bool.{by-cond}
 use Rattle.dpa.proofs.Lists.{sets-front}
 use Rattle.dpa.specs.Lists.{All}
 use Rattle.book.specs.declared.step.Step.{Step}
+use Rattle.book.specs.declared.step.StepsCheck.{StepsCheck}
+use Rattle.book.specs.declared.step.StepsCheck.the-variants.{AllGood, Bad}
 use Rattle.book.specs.Group.{concat}
 use Rattle.book.specs.Join.{joins, entriesOf}
 use Rattle.book.specs.Book.{stepsMax, sceneCount, bookOk, sceneOf}
@@ -79,7 +80,7 @@ module _ (limits : SizeLimits) (header : Frame) (front : List ℕ) where
 pub record Faultless (b : List ℕ) (k : ℕ) : Type 0 where
   pub book : bookOk b ≡ true
   pub number : k < sceneCount b
-  pub steps : firstBadFrom 0 (sceneOf b k) ≡ none
+  pub steps : firstBadFrom 0 (sceneOf b k) ≡ AllGood
 
 -- with any rule from steps to requests
 module _ (b : List ℕ) (k : ℕ) (requests : List Step → List (List ℕ)) (out : List ℕ) where
@@ -91,9 +92,9 @@ module _ (b : List ℕ) (k : ℕ) (requests : List Step → List (List ℕ)) (ou
   abbrev Unwritten : CompileResult → Type 0
   Unwritten r = (r .refusal ≡ 0 → ⊥) → (r .length ≡ 0) × (r .buffer ≡ out)
 
-  steps-unwritten : (o : Option ℕ) → Unwritten (compileSteps o (requests (sceneOf b k)) out)
-  steps-unwritten (some j) = λ _. (refl, refl)
-  steps-unwritten none = by-cond Unwritten (ltb (length out) minOutput) _ _ (λ _ _. (refl, refl)) (λ _ n. absurd (n refl))
+  steps-unwritten : (x : StepsCheck) → Unwritten (compileSteps x (requests (sceneOf b k)) out)
+  steps-unwritten (Bad j r) = λ _. (refl, refl)
+  steps-unwritten AllGood = by-cond Unwritten (ltb (length out) minOutput) _ _ (λ _ _. (refl, refl)) (λ _ n. absurd (n refl))
 
   -- a refused scene has no output, and the buffer stays
   pub scene-unwritten : Unwritten (compileScene b k requests out)

@@ -1,7 +1,6 @@
--- Document 01, "Scenes" and "Frames": the compile call, its refusals and its output.
+-- Document 01, "Scenes" and "Frames", with document 02, change 1: the compile call, its refusals and its output.
 use mathlib.Core.Bool.{Bool, cond, not, _||_}
 use mathlib.Core.List.{List, [], _∷_, _++_}
-use mathlib.Core.Option.{Option, none, some}
 use Prim.Native.Nat.{ℕ, suc}
 use lib.Dec.{ltb, leb, eqb}
 use lib.ListN.{length, getD, take, drop}
@@ -9,6 +8,8 @@ use Rattle.dpa.specs.Frame.{broadcastNadr}
 use Rattle.dpa.specs.Lists.{overwriteFront}
 use Rattle.dpa.specs.Settings.{nodeAddress}
 use Rattle.book.specs.declared.step.Step.{Step}
+use Rattle.book.specs.declared.step.StepsCheck.{StepsCheck}
+use Rattle.book.specs.declared.step.StepsCheck.the-variants.{AllGood, Bad}
 use Rattle.book.specs.Book.{sceneCount, bookOk, sceneOf}
 use Rattle.book.specs.Step.{firstBadFrom}
 use Rattle.book.specs.Group.{concat}
@@ -68,10 +69,10 @@ outputInBuffer o out = record { refusal = 0; step = 0; length = length o; buffer
 unfoldable pub addressOk : ℕ → Bool
 addressOk a = eqb a broadcastNadr || nodeAddress a
 
--- refusal 8 with the number of the first bad step; else 9 if the buffer is too small; else the output
-abbrev pub compileSteps : Option ℕ → List (List ℕ) → List ℕ → CompileResult
-compileSteps (some j) requests out = refusedWith 8 j out
-compileSteps none requests out =
+-- the fault of the first bad step, with its number; else refusal 9 if the buffer is too small; else the output
+abbrev pub compileSteps : StepsCheck → List (List ℕ) → List ℕ → CompileResult
+compileSteps (Bad j r) requests out = refusedWith r j out
+compileSteps AllGood requests out =
     cond (ltb (length out) minOutput) (refusedWith 9 0 out)
     (outputInBuffer (output requests) out)
 

@@ -3,7 +3,8 @@ use crate::fill::SizeLimits;
 use crate::request::write_output;
 use book::locations::book_ok;
 use book::locations::scene_location;
-use book::step::first_bad_step;
+use book::step::StepsCheck;
+use book::step::check_steps;
 use dpa::frame::Frame;
 use dpa::number::wide;
 use dpa::pnum;
@@ -29,7 +30,7 @@ const LIST_LIMIT: usize = Frame::PDATA_MAX;
 // Minimum size of the output buffer: every output fits.
 pub const MIN_OUTPUT: usize = 4096;
 
-// `step` is the number of the bad step with refusal 8, and 0 otherwise. `length` is the size of the output, 0 if refused.
+// `step` is the number of the bad step with refusals 81 to 84, and 0 otherwise. `length` is the size of the output, 0 if refused.
 #[repr(C)]
 pub struct CompileAnswer {
     pub refusal: u8,
@@ -61,7 +62,7 @@ fn address_ok(address: u16) -> bool
     address <= LAST_ADDRESS
 }
 
-// Compiles the steps of a scene. Refusal 8 comes before 9.
+// Compiles the steps of a scene. A bad step is refused before a buffer that is too small.
 fn compile_steps(
     body: &[u8],
     count: usize,
@@ -75,9 +76,8 @@ fn compile_steps(
         ≡ compileSteps (firstBadFrom 0 (stepsIn count (now (body .entry)))) (requestsWith limits header (now (front .entry)) (stepsIn count (now (body .entry))))
         (now (out .entry)) ⌝ }
 {
-    let bad = first_bad_step(body, count);
-    if bad < count {
-        return refused(refusal::STEP, bad as u8);
+    if let StepsCheck::Bad { step, refusal } = check_steps(body, count) {
+        return refused(refusal, step);
     }
     if out.len() < MIN_OUTPUT {
         return refused(refusal::OUTPUT, 0);
