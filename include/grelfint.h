@@ -22,7 +22,7 @@
  *   16  a view that starts or ends outside its memory
  *
  * 81 to 84 are about the first bad step of the scene, whose number, from 0, is
- * in `step`. If several of its parts are bad, the lowest of the four is given.
+ * in `step`. If several of its parts are bad, the first of the four is given.
  *
  * A node record is sound if its address is 1 to 239, its lamp count 1 to 32
  * and its step a divisor of 100; no level is over 100; no timer is over 7,620

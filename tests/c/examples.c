@@ -1,5 +1,5 @@
-/* Document 01's worked examples in C, with broken lists and bad steps (02,
- * change 1/12) and include/grelfint.h. From the repository's root:
+/* Worked examples of document 01, broken lists and bad steps (document 02,
+ * change 1/12), called through include/grelfint.h. From the repository's root:
  *
  *   rt staticlib grelfint && mkdir -p target/tests
  *   gcc -std=c11 -Wall -Wextra -Werror -Iinclude tests/c/examples.c \
@@ -250,18 +250,18 @@ static void broken_lists(void)
     static const uint8_t to_another[] = {2, 0, 2, 5, 0xFF, 0xFF, 4, 0};
     static const uint8_t to_all[] = {0xFF, 0, 2, 5, 0xFF, 0xFF, 4, 0};
 
-    send_both("under five", 2, 5, 0xFFFF, BYTES(4, 0), 6, 1, 0);
-    send_both("under five and over the end", 2, 5, 0xFFFF, BYTES(3), 6, 1, 0);
-    send_both("over the end", 2, 5, 0xFFFF, BYTES(5, 0x71, 0x3E, 0xFF), 6, 2, 0);
+    send_both("length under 5", 2, 5, 0xFFFF, BYTES(4, 0), 6, 1, 0);
+    send_both("length under 5 and past the end", 2, 5, 0xFFFF, BYTES(3), 6, 1, 0);
+    send_both("past the end", 2, 5, 0xFFFF, BYTES(5, 0x71, 0x3E, 0xFF), 6, 2, 0);
     send_both("no closing zero", 2, 5, 0xFFFF, BYTES(5, 0x71, 0x3E, 0xFF, 0xFF), 6, 3, 5);
     send_both("bytes after the zero", 2, 5, 0xFFFF, BYTES(0, 0), 6, 4, 1);
 
     /* after an entry that sets lamp 0 */
-    send_both("entry, then under five", 2, 5, 0xFFFF,
+    send_both("entry, then length under 5", 2, 5, 0xFFFF,
               BYTES(10, 0x71, 0, 0xFF, 0xFF, 1, 0, 0, 0, 10, 4, 0), 6, 1, 10);
-    send_both("entry, then over the end", 2, 5, 0xFFFF,
+    send_both("entry, then past the end", 2, 5, 0xFFFF,
               BYTES(10, 0x71, 0, 0xFF, 0xFF, 1, 0, 0, 0, 10, 5, 0x71, 0x3E, 0xFF), 6, 2, 10);
-    send_both("entry, then no zero", 2, 5, 0xFFFF,
+    send_both("entry, then no closing zero", 2, 5, 0xFFFF,
               BYTES(10, 0x71, 0, 0xFF, 0xFF, 1, 0, 0, 0, 10), 6, 3, 10);
     send_both("entry, then bytes after the zero", 2, 5, 0xFFFF,
               BYTES(10, 0x71, 0, 0xFF, 0xFF, 1, 0, 0, 0, 10, 0, 0), 6, 4, 11);

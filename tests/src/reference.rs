@@ -402,9 +402,9 @@ fn read_batch(list: &[u8]) -> Result<Vec<Request<'_>>, RequestError> {
         entries.push(Request { pnum: e[1], pcmd: e[2], hwpid: word(e[3], e[4]), pdata: &e[5..] });
         at += length;
     }
-    let behind = at + 1; // the zero is at `at`
-    if behind < list.len() {
-        return broken(4, behind);
+    let after_zero = at + 1; // the zero is at `at`
+    if after_zero < list.len() {
+        return broken(4, after_zero);
     }
     Ok(entries)
 }

@@ -282,7 +282,8 @@ impl Session {
         answer
     }
 
-    /// A list that is built to break for this reason after `whole` whole entries. A wrong HWPID is told instead.
+    /// A list that is built to break for this reason after `whole` whole entries. With a wrong HWPID, ErrN 7 and no
+    /// reason are expected.
     fn broken_list(&mut self, reason: u8, whole: usize, nadr: u16, right_hwpid: bool) {
         let (g, node) = (&mut self.g, self.plain.node);
         let (list, place) = random::broken_list(g, &node, reason, whole);
@@ -582,7 +583,7 @@ impl Session {
     }
 
     /// A scene whose first bad step follows random good ones and has these bad parts: kind, target, value, time. The
-    /// first bad part is told, whatever is bad behind it and however short the output buffer is.
+    /// first bad part is reported, whatever is bad after it and however short the output buffer is.
     fn bad_step(&mut self, bad: [bool; 4], room: usize) {
         let g = &mut self.g;
         let mut steps = random::scene(g, 0);
@@ -862,10 +863,18 @@ fn every_byte_of_a_step() {
     for byte in 0..=255 {
         assert_eq!(compile([byte, 0, 0, 0]), if byte <= 4 { 0 } else { 81 });
         for kind in 0..=4 {
-            for part in 1..4 {
-                let mut step = [kind, 0, 0, 0];
-                step[part] = byte;
-                assert!([0, 81 + part as u8].contains(&compile(step)), "{step:?}");
+            let is_lamp = kind <= 2;
+            let targets = match kind {
+                3 => 48,
+                4 => 192,
+                _ => 32,
+            };
+            for (step, is_bad, refusal) in [
+                ([kind, byte, 0, 0], byte >= targets, 82),
+                ([kind, 0, byte, 0], is_lamp && byte > 100, 83),
+                ([kind, 0, 0, byte], if is_lamp { byte == 0x80 } else { byte != 0 }, 84),
+            ] {
+                assert_eq!(compile(step), if is_bad { refusal } else { 0 }, "{step:?}");
             }
         }
     }

@@ -272,7 +272,7 @@ fn lists_broken_at_the_longest_pdata(side: Side) {
 }
 
 fn first_fault_of_a_list(side: Side) {
-    // under five comes before over the end; 5 is long enough
+    // a length under 5 comes before the end of PData; 5 is long enough
     for length in 1..=4 {
         assert_broken(side, &[length], 1, 0);
     }

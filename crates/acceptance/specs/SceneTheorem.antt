@@ -7,8 +7,8 @@
 --   buffer    the same holds for the requests that are read back from the output of the compile call, in any buffer
 -- Proved in proofs/Scenes (`condition-3`). proofs/Instance gives a node and a book that meet all assumptions.
 --
--- Sources: document 01, "Frames", "Scenes" and "Strength of the contracts"; document 02, change 1. The statement is about what the contracts say that
--- the calls compute: `compileFor`, `outputOf` and `requestsIn` (scene/specs/Call), `handleRequest` and `execute` (handler/specs/Request);
+-- Sources: document 01, "Frames", "Scenes" and "Strength of the contracts"; document 02, change 1. The statement is about what the
+-- contracts say that the calls compute: `compileFor`, `outputOf` and `requestsIn` (scene/specs/Call), `handleRequest` and `execute` (handler/specs/Request);
 -- and about the rules of the book (`bookOk`, book/specs/Book), of a step (`stepFault`, book/specs/Step), of compiling
 -- (`sceneRequests`, scene/specs/Compile) and of the step machine (`wellFormed`, `machine`, book/specs/Machine).
 use Prim.Native.Nat.{ℕ, suc, _≤_, _<_}
@@ -47,7 +47,7 @@ pub record SceneRule (book : List ℕ) (scene : ℕ) : Type 0 where
   pub known : scene < sceneCount book
   pub no-fault : All NoFault (sceneOf book scene)
 
--- A refusal for a bad step: 81 for its kind, 82 for its target, 83 for its value, 84 for its time; exactly when: part `faults`.
+-- A refusal for a bad step: 81 for its kind, 82 for its target, 83 for its value, 84 for its time. Part `faults` says when each is given.
 abbrev pub StepRefusal : ℕ → Type 0
 StepRefusal n = (81 ≤ n) × (n ≤ 84)
 
@@ -107,7 +107,7 @@ pub record Success (pcmd a : ℕ) (s : Settings) (request : List ℕ) (st : Stat
   pub length : handleRequest request st buffer .length ≡ cond (eqb a broadcastNadr) 0 responseHeaderSize
   pub response : handleRequest request st buffer .response
       ≡ cond (eqb a broadcastNadr) buffer (overwriteFront (responseHeader s osPnum pcmd 0) buffer)
-  -- nothing is reported (no load mark, reason 0, place 0), and the request is addressed to this node
+  -- nothing is reported (no load mark, reason 0, place 0), and the request is addressed to this node or to all
   pub report : handleRequest request st buffer .report ≡ noReport
   pub addressed : handleRequest request st buffer .addressed ≡ true
 

@@ -1,4 +1,4 @@
--- Small lists with the reason and the position of their fault. Their ErrN are worked examples of acceptance.
+-- Small lists with the reason and the position of their fault. The ErrN of the first two are worked examples of acceptance.
 use mathlib.Core.Path.{_≡_, refl}
 use mathlib.Core.List.{[], _∷_}
 use Rattle.batch.specs.declared.list.ListCheck.the-variants.{Sound, Broken}

@@ -14,11 +14,11 @@ use Rattle.batch.specs.declared.entry.NextEntry.{NextEntry}
 use Rattle.batch.specs.declared.entry.NextEntry.the-variants.{Fault}
 use Rattle.batch.specs.declared.list.ListCheck.{ListCheck}
 use Rattle.batch.specs.declared.list.ListCheck.the-variants.{Sound, Broken}
-use Rattle.batch.specs.Batch.{entryHeadSize, closingZero, entriesBytes, atEnd, nextEntry, Reading, shiftFault, faultOf, reading, reasonOf, placeOf, FaultAt, short, pastEnd, unclosed, trailing, entriesEnd, ListFault}
+use Rattle.batch.specs.Batch.{entryHeadSize, closingZero, entriesBytes, atEnd, nextEntry, Reading, shiftFault, faultOf, reading, reasonOf, placeOf, FaultAt, short, pastEnd, unclosed, trailing, entriesEnd, ListFault, SoundList}
 use Rattle.batch.proofs.Entries.{not-at-end, nonzero-not-at-end, next-unclosed, next-trailing, next-short, next-past-end}
 use Rattle.batch.proofs.Lists.{reading-fault, reading-induction}
 use Rattle.batch.proofs.Faults.{broken-fault, broken-not-sound, reason-range, position-max}
-use Rattle.batch.proofs.RoundTrip.{entries-reading, entries-then-rest}
+use Rattle.batch.proofs.RoundTrip.{entries-reading, round-trip, entries-then-rest, reverse-round-trip}
 
 -- ---- a fault that the bytes have is the one that is found
 
@@ -31,7 +31,8 @@ module _ (s : List ℕ) (r a : ℕ) (f : ListFault s r a) where
       let w : take p s ≡ entriesBytes is = ap (λ (i : ℕ). take i s) (sym (ap (λ (j : ℕ). entriesEnd j a) e ∙ z)) ∙ f .before in
       let size : length (entriesBytes is) ≡ p = ap length (sym w) ∙ length-take-le p s h in
       ap (λ (t : List ℕ). (reading t) .check) (sym (ap (λ (t : List ℕ). t ++ drop p s) (sym w) ∙ take-append-drop p s))
-      ∙ ap (λ (x : Reading). x .check) (entries-reading is (drop p s) ∙ ap (λ (x : Reading). record { items = is ++ x .items; check = shiftFault (length (entriesBytes is)) (x .check) }) (reading-fault (drop p s) o n))
+      ∙ ap (λ (x : Reading). x .check) (entries-reading is (drop p s))
+      ∙ ap (λ (x : Reading). shiftFault (length (entriesBytes is)) (x .check)) (reading-fault (drop p s) o n)
       ∙ ap (λ (i : ℕ). Broken k (i + front)) size
       ∙ ap (Broken k) q
       ∙ ap (λ (j : ℕ). Broken j a) (sym e)
@@ -86,8 +87,7 @@ no-entries-front =
 
 shifted-end : (n r a : ℕ) (x : ListCheck) → AtFront x → shiftFault n x ≡ Broken r a → entriesEnd r a ≡ n
 shifted-end n r a Sound f e = absurd (broken-not-sound (sym e))
-shifted-end n r a (Broken q b) f e =
-    ap (λ (x : ListCheck). entriesEnd (reasonOf x) (placeOf x)) (sym e) ∙ f n
+shifted-end n r a (Broken q b) f e = ap (λ (x : ListCheck). entriesEnd (reasonOf x) (placeOf x)) (sym e) ∙ f n
 
 -- a list that is found broken has that fault at that place
 pub found-fault : (s : List ℕ) → Bytes s → {r a : ℕ} → (reading s) .check ≡ Broken r a → ListFault s r a
@@ -110,7 +110,7 @@ found-fault s by {r} {a} e =
 pub fault-exact : (s : List ℕ) → Bytes s → (r a : ℕ) → ((reading s) .check ≡ Broken r a) ↔ ListFault s r a
 fault-exact s by r a = (found-fault s by, fault-found s r a)
 
--- no earlier place has a fault
+-- no place before the one that is found has a fault
 pub no-earlier-fault : (s : List ℕ) {r a : ℕ} → (reading s) .check ≡ Broken r a → (q b : ℕ) → b < a → ListFault s q b → ⊥
 no-earlier-fault s e q b h f = let z = ap placeOf (sym e ∙ fault-found s q b f) in omega arith
 
@@ -123,14 +123,21 @@ module _ (s : List ℕ) where
       at Sound e = sound
       at (Broken r a) e = broken r a e
 
-  -- reason 0 is reported exactly for a sound list
+  -- the reason is 0 exactly if the list is found sound
   pub reason-zero : (reasonOf ((reading s) .check) ≡ 0) ↔ ((reading s) .check ≡ Sound)
   reason-zero = (
     check-cases (λ x. reasonOf x ≡ 0 → x ≡ Sound) (λ _. refl) (λ r a e z. let h = reason-range (broken-fault s e) in absurd (omega arith)),
     λ e. ap reasonOf e,
   )
 
-  -- any other reason is that of a fault at the reported place
+  -- the reason is 0 exactly if the bytes are whole entries and the closing zero
+  pub sound-exact : Bytes s → (reasonOf ((reading s) .check) ≡ 0) ↔ SoundList s
+  sound-exact by = (
+    λ z. record { items = (reading s) .items; whole = sym (reverse-round-trip s by (reason-zero .0 z)) },
+    λ w. ap (λ (t : List ℕ). reasonOf ((reading t) .check)) (w .whole) ∙ ap (λ (x : Reading). reasonOf (x .check)) (round-trip (w .items)),
+  )
+
+  -- any other reason is that of a fault at the place
   pub reported-fault : Bytes s → ¬ (reasonOf ((reading s) .check) ≡ 0) → ListFault s (reasonOf ((reading s) .check)) (placeOf ((reading s) .check))
   reported-fault by = check-cases (λ x. ¬ (reasonOf x ≡ 0) → ListFault s (reasonOf x) (placeOf x)) (λ n. absurd (n refl)) (λ r a e _. found-fault s by e)
 

@@ -144,7 +144,7 @@ abbrev pub listError : ListCheck → ℕ
 listError Sound = 0
 listError (Broken r a) = nextEntryError (Fault r a)
 
--- the reason and the place that a batch with this list reports; 0 and 0 for a sound list
+-- the reason and the place of a check; 0 and 0 for a sound list
 abbrev pub reasonOf : ListCheck → ℕ
 reasonOf Sound = 0
 reasonOf (Broken r a) = r
@@ -155,7 +155,7 @@ placeOf (Broken r a) = a
 
 -- ---- what a reason and a place say about the bytes of a list, without the reader
 
--- the bytes at position a of the list s that reason r stands for
+-- what reason r at position a says about the bytes of the list s
 pub data FaultAt (s : List ℕ) (r a : ℕ) : Type 0 where
   short : r ≡ shortReason → a < length s → 0 < getD s a 0 → getD s a 0 < entryHeadSize → FaultAt s r a
   pastEnd : r ≡ pastEndReason → a < length s → entryHeadSize ≤ getD s a 0 → length s < a + getD s a 0 → FaultAt s r a
@@ -171,6 +171,11 @@ pub record ListFault (s : List ℕ) (r a : ℕ) : Type 0 where
   pub items : List Item
   pub before : take (entriesEnd r a) s ≡ entriesBytes items
   pub fault : FaultAt s r a
+
+-- the list s is whole entries, then the closing zero
+pub record SoundList (s : List ℕ) : Type 0 where
+  pub items : List Item
+  pub whole : s ≡ listBytes items
 
 -- ---- running entries
 

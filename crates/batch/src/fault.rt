@@ -1,6 +1,6 @@
 // Why a list cannot be split into entries. Each reason comes with a position in the list.
 
-// A list without a fault.
+// No fault.
 pub const NONE: u8 = 0;
 // A length byte of 1 to 4; the position is that byte's.
 pub const SHORT: u8 = 1;

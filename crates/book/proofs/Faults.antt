@@ -15,7 +15,6 @@ use Rattle.memory.specs.Block.{sizeOf}
 use Rattle.memory.specs.declared.block.Memory.the-variants.{Eeprom, Ram}
 use Rattle.dpa.specs.Lists.{All}
 use Rattle.book.specs.declared.step.Step.{Step}
-use Rattle.book.specs.declared.step.StepsCheck.{StepsCheck}
 use Rattle.book.specs.declared.step.StepsCheck.the-variants.{AllGood, Bad}
 use Rattle.book.specs.Step.{ramKind, eepromKind, isLamp, noFault, kindFault, targetFault, valueFault, timeFault, stepTimeOk, lampFault, byteFault, stepFault, goodStep, firstBadFrom, targetLimit, BadKind, BadTarget, BadValue, BadTime, FaultMeaning}
 use Rattle.book.specs.Machine.{secondsBit, timeFormed, lampFormed, byteFormed, wellFormed}
@@ -163,7 +162,7 @@ module _ (s : Step) (P : ℕ → Type 0)
       by-cond P (eqb (s .time) 0) _ _ (λ z. none (known, inside, any, λ b. b .0 (eqb-true _ _ z)))
       (λ z. time (known, inside, any, (eqb-false _ _ z, λ l. absurd (omega arith)))))
 
-  pub fault-cases : P (stepFault s)
+  fault-cases : P (stepFault s)
   unfolding stepFault targetLimit
   fault-cases =
       by-cond P (isLamp (s .kind)) _ _ (λ l. lamp-cases (ltb-true _ _ l) (rw l))

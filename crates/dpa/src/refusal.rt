@@ -1,4 +1,4 @@
-// Why a call refuses its arguments. If several reasons apply, the first of this list is returned.
+// Why a call refuses its arguments. If several apply, the first of this list is returned.
 pub const NONE: u8 = 0;
 // The node record breaks the node rule, or settings or an address are out of range.
 pub const NODE: u8 = 1;
@@ -14,13 +14,13 @@ pub const PDATA: u8 = 5;
 pub const BOOK: u8 = 6;
 // The book has no scene with this number.
 pub const SCENE: u8 = 7;
-// A step of the scene is bad, and its number is returned too: its kind is unknown.
+// 81 to 84 are about the first bad step of the scene, whose number is returned too. Its kind is unknown.
 pub const STEP_KIND: u8 = 81;
-// A step is bad: its target is not a lamp, or not in the memory.
+// Its target is not a lamp, or not in the memory.
 pub const STEP_TARGET: u8 = 82;
-// A step is bad: its level is too high.
+// Its level is too high.
 pub const STEP_VALUE: u8 = 83;
-// A step is bad: its time is not valid, or it writes a memory and has a time.
+// Its time is not valid, or it writes a memory and has a time.
 pub const STEP_TIME: u8 = 84;
 // The output buffer is too small for the longest compiled scene.
 pub const OUTPUT: u8 = 9;

@@ -26,7 +26,7 @@ module _ (d : List ℕ) (st : State) where
   unfolding batchRequest
   batch-empty e = rw (eq-eqb (length d) 0 e)
 
-  -- a list that cannot be read runs nothing
+  -- a list that cannot be read runs nothing, and its fault is reported
   pub batch-broken : (length d ≡ 0 → ⊥) → ¬ (reading d .check ≡ Sound) → batchRequest d st ≡ brokenOutcome (reading d .check) st
   unfolding batchRequest
   batch-broken n b = rw (ne-eqb (length d) 0 n, ne-eqb (listError (reading d .check)) 0 (λ z. b (error-sound (reading d .check) z)))

@@ -6,16 +6,18 @@ use Prim.Native.Nat.{ℕ}
 use lib.Dec.{eqb}
 use lib.ListN.{length}
 use borrow.Author.Tests.{eqb-true, eqb-false}
+use Rattle.dpa.specs.Lists.{Bytes}
 use Rattle.dpa.specs.Pnum.{osPnum}
 use Rattle.dpa.proofs.Bool.{by-cond}
-use Rattle.batch.specs.Batch.{Item, reading, listError}
+use Rattle.batch.specs.Batch.{Item, reading, listError, ListFault}
 use Rattle.batch.specs.declared.list.ListCheck.the-variants.{Sound}
 use Rattle.batch.proofs.Faults.{sound-error}
+use Rattle.batch.proofs.Places.{reported-fault}
 use Rattle.handler.specs.Request.{State, hwpidMatches, noReport, Outcome, brokenOutcome, batchRequest, codeCheckRequest, batchPcmd, codeCheckPcmd, osRequest, execute, frameItem, CallResult, handleRequest}
-use Rattle.handler.proofs.Outcomes.{batch-broken, os-batch, execute-os}
+use Rattle.handler.proofs.Outcomes.{batch-broken, os-batch, execute-os, os-cases, execute-cases}
 use Rattle.handler.proofs.Calls.{call-cases}
 
--- a batch for this node's profile, with a list that cannot be read
+-- a batch that passes the test of the HWPID, with PData that is not empty and no sound list
 pub record BrokenBatch (i : Item) (st : State) : Type 0 where
   pub profile : hwpidMatches (st .node .settings) (i .hwpid) ≡ true
   pub pnum : i .pnum ≡ osPnum
@@ -51,7 +53,17 @@ module _ (i : Item) (st : State) where
       (λ _. (refl, refl)))
       (λ _. (refl, refl))
 
--- a call reports what its request does, for a broadcast too; a refused call and a frame for another node report nothing
+-- a reported reason is that of a fault at the reported place in PData
+pub reported-meaning : (i : Item) (st : State) → Bytes (i .pdata) → ¬ (execute i st .report .reason ≡ 0)
+    → ListFault (i .pdata) (execute i st .report .reason) (execute i st .report .place)
+unfolding codeCheckRequest
+reported-meaning i st by =
+    let Meant : Outcome → Type 0 = λ a. ¬ (a .report .reason ≡ 0) → ListFault (i .pdata) (a .report .reason) (a .report .place) in
+    execute-cases Meant st (λ e n. absurd (n refl)) i
+    (os-cases Meant st (λ e n. absurd (n refl)) (i .pcmd) (i .pdata) (λ n. absurd (n refl)) (reported-fault (i .pdata) by) (λ n. absurd (n refl)))
+    (λ n. absurd (n refl))
+
+-- a call reports what executing its request reports, for a broadcast too; a refused call and a frame for another node report nothing
 pub call-report : (f : List ℕ) (st : State) (o : List ℕ)
     → handleRequest f st o .report ≡ cond (handleRequest f st o .addressed) (execute (frameItem f) st .report) noReport
 call-report f st o =

@@ -1,4 +1,4 @@
--- The response data of a request fits a frame, and a reported place is in PData.
+-- The response data of a request fits a frame, and a reported place is at most the length of PData.
 use mathlib.Core.Path.{_≡_}
 use mathlib.Core.List.{List}
 use Prim.Native.Nat.{ℕ, _-_, _≤_}

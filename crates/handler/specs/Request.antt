@@ -138,7 +138,7 @@ batchOutcome is st = outcome (reply (runItems entryAfter is st) 0 []) (errorsOf 
 abbrev pub brokenOutcome : ListCheck → State → Outcome
 brokenOutcome check st = outcome (errorReply st (listError check)) [] (faultReport (reasonOf check) (placeOf check))
 
--- a batch: without PData ErrN 5; a list that can be read runs
+-- a batch: without PData ErrN 5; a list that can be read runs, the fault of any other is reported
 unfoldable pub batchRequest : List ℕ → State → Outcome
 batchRequest pdata st =
     cond (eqb (length pdata) 0) (replyOnly (errorReply st 5))

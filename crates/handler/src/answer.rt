@@ -15,8 +15,8 @@ ghost use Rattle.node.specs.Node.{nodeFromParts};
 ghost use Rattle.handler.specs.Request.{noReport};
 ghost use Rattle.handler.specs.Seen.{requestAnswer};
 
-// The refusal, the length of the response, the load mark, whether the frame was addressed to this node or to all, the reason and the
-// place in PData of a batch that cannot be read, and the node after the call.
+// The refusal, the length of the response, the load mark, whether the frame was addressed to this node or to all, why and at which
+// place in PData the list of a batch cannot be read, and the node after the call.
 #[repr(C)]
 pub struct RequestAnswer {
     pub refusal: u8,
@@ -35,7 +35,7 @@ pub struct Handled {
     pub lamps: [Lamp; LAMPS],
 }
 
-// The C struct has the fields of the report among its own. A place in PData fits a byte.
+// The C struct has the fields of the report among its own. A place is at most the length of PData, so it fits a byte.
 fn request_answer(
     refusal: u8,
     size: usize,

@@ -154,7 +154,8 @@ fn handle_frame(
     external: &mut [u8],
     response: &mut [u8],
 ) -> RequestAnswer
-    requires { ⌜ SoundState (state node (now eeprom) (now external)) × (headerSize ≤ length (now frame)) × (length (now frame) ≤ longestFrame) × (longestResponse ≤ length (now response)) ⌝ }
+    requires { ⌜ SoundState (state node (now eeprom) (now external)) × (headerSize ≤ length (now frame)) × (length (now frame) ≤ longestFrame)
+        × (longestResponse ≤ length (now response)) ⌝ }
     ensures { λ r. ⌜ callResult r (now (eeprom .exit)) (now (external .exit)) (now (response .exit))
         ≡ handleFrame (now (frame .entry)) (state node (now (eeprom .entry)) (now (external .entry))) (now (response .entry)) ⌝ }
 {
