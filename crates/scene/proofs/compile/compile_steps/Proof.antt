@@ -36,9 +36,8 @@ returns c =
 
 returns-2 : tie.Need-returns-2
 returns-2 c =
-    let e = c .before .before in
-    let out = start (e .before .before) .args .out .now in
-    rw (all-good e, lt-ltb (length out) minOutput (c .before .if1 .taken)) (ap (λ (r : CompileAnswer). compileResult r out) (c .refused2 .ensures))
+    let out = start (c .before .before .before .before) .args .out .now in
+    rw (all-good (c .before .before), lt-ltb (length out) minOutput (c .before .if1 .taken)) (ap (λ (r : CompileAnswer). compileResult r out) (c .refused2 .ensures))
 
 write-output-requires : tie.Need-write-output-requires
 write-output-requires c κs =
