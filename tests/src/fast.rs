@@ -326,20 +326,22 @@ fn code_check(m: &Memories, p: &[u8], data: &mut [u8; 56], load: &mut bool) -> R
 /// The refusal for a step's first bad part; 0 for a good step.
 #[inline]
 fn step_refusal(s: &[u8]) -> u8 {
-    let (targets, highest, bad_time) = match s[0] {
-        0..=2 => (32, 100, s[3] == 0x80),
-        3 => (48, 255, s[3] != 0),
-        4 => (192, 255, s[3] != 0),
-        _ => return 81,
-    };
-    if s[1] >= targets {
-        82
-    } else if s[2] > highest {
-        83
-    } else if bad_time {
-        84
-    } else {
-        0
+    match s[0] {
+        0..=2 => bad_part(s[1] < 32, s[2] <= 100, s[3] != 0x80),
+        3 => bad_part(s[1] < 48, true, s[3] == 0),
+        4 => bad_part(s[1] < 192, true, s[3] == 0),
+        _ => 81,
+    }
+}
+
+/// One test for a good step; which part is bad is asked only after it.
+#[inline]
+fn bad_part(target: bool, value: bool, time: bool) -> u8 {
+    match (target, value) {
+        _ if target & value & time => 0,
+        (false, _) => 82,
+        (_, false) => 83,
+        _ => 84,
     }
 }
 
