@@ -1,5 +1,6 @@
 /* Worked examples of document 01, broken lists and bad steps (document 02,
- * change 1/12), called through include/grelfint.h. From the repository's root:
+ * change 1/12) and keep with a time (change 2/12), called through
+ * include/grelfint.h. From the repository's root:
  *
  *   rt staticlib grelfint && mkdir -p target/tests
  *   gcc -std=c11 -Wall -Wextra -Werror -Iinclude tests/c/examples.c \
@@ -54,29 +55,40 @@ static void fresh(uint8_t lamp_count, uint8_t step)
     memset(external, 0, sizeof external);
 }
 
-/* Sends one request to node 1 and compares ErrN and data. */
-static void request(const char *name, uint8_t pnum, uint8_t pcmd,
-                    const uint8_t *pdata, size_t pdata_length,
-                    uint8_t error, const uint8_t *data, size_t data_length)
+/* Sends one request to node 1 (NADR 1) or to all nodes (NADR 0xFF, which has no
+ * response), and compares ErrN and data. */
+static void request_to(uint8_t nadr, const char *name, uint8_t pnum, uint8_t pcmd,
+                       const uint8_t *pdata, size_t pdata_length,
+                       uint8_t error, const uint8_t *data, size_t data_length)
 {
-    uint8_t frame[62] = {1, 0, pnum, pcmd, 0xFF, 0xFF};
+    uint8_t frame[62] = {nadr, 0, pnum, pcmd, 0xFF, 0xFF};
     uint8_t want[sizeof response];
     const uint8_t header[8] = {1, 0, pnum, (uint8_t)(pcmd | 0x80), 0x71, 0x24, error, 7};
+    size_t length = nadr == 0xFF ? 0 : 8 + data_length;
     grelfint_request_answer answer;
 
     if (pdata_length > 0)
         memcpy(frame + 6, pdata, pdata_length);
     memset(response, 0xEE, sizeof response);
     memset(want, 0xEE, sizeof want);
-    memcpy(want, header, sizeof header);
-    if (data_length > 0)
+    if (length > 0)
+        memcpy(want, header, sizeof header);
+    if (length > 8)
         memcpy(want + 8, data, data_length);
     answer = grelfint_handle_request(node, frame, 6 + pdata_length, eeprom, sizeof eeprom,
                                      external, sizeof external, response, GRELFINT_RESPONSE);
-    check(name, answer.refusal == 0 && answer.addressed && answer.length == 8 + data_length &&
+    check(name, answer.refusal == 0 && answer.addressed && answer.length == length &&
                     answer.reason == 0 && answer.place == 0 && memcmp(response, want, sizeof want) == 0);
     node = answer.node;
     load_mark = answer.load;
+}
+
+/* The same to node 1. */
+static void request(const char *name, uint8_t pnum, uint8_t pcmd,
+                    const uint8_t *pdata, size_t pdata_length,
+                    uint8_t error, const uint8_t *data, size_t data_length)
+{
+    request_to(1, name, pnum, pcmd, pdata, pdata_length, error, data, data_length);
 }
 
 #define BYTES(...) (const uint8_t[]){__VA_ARGS__}, sizeof((const uint8_t[]){__VA_ARGS__})
@@ -208,6 +220,95 @@ static bool same_node(const grelfint_node *a, const grelfint_node *b)
     return a->settings.address == b->settings.address && a->settings.hwpid == b->settings.hwpid &&
            a->settings.dpa_value == b->settings.dpa_value && a->settings.lamp_count == b->settings.lamp_count &&
            a->settings.step == b->settings.step && memcmp(a->ram, b->ram, sizeof a->ram) == 0;
+}
+
+/* Node 1 with a dimming step of 10 and two lamps: lamp 0 as given, lamp 1 at 70
+ * for 90 seconds. */
+static grelfint_node pair(uint8_t level, uint16_t seconds)
+{
+    grelfint_settings settings = {1, 0x2471, 7, 2, 10};
+    grelfint_node two = grelfint_start(settings).node;
+
+    two.lamps[0] = (grelfint_lamp){level, seconds};
+    two.lamps[1] = (grelfint_lamp){70, 90};
+    return two;
+}
+
+/* Sends lamp entries to that node as set, raise and lower, each by itself and in
+ * a batch, to node 1 and to all nodes. Only the seconds of lamp 0 may change. */
+static void keep(const char *name, uint8_t level, uint16_t seconds, uint16_t seconds_after,
+                 const uint8_t *pdata, size_t pdata_length,
+                 uint8_t error, const uint8_t *data, size_t data_length)
+{
+    static const uint8_t nadrs[] = {1, 0xFF};
+    const grelfint_node before = pair(level, seconds), after = pair(level, seconds_after);
+    size_t i;
+    uint8_t pcmd;
+
+    for (i = 0; i < sizeof nadrs; i++) {
+        for (pcmd = 0; pcmd <= 2; pcmd++) {
+            uint8_t list[56] = {(uint8_t)(5 + pdata_length), 0x71, pcmd, 0xFF, 0xFF};
+
+            memcpy(list + 5, pdata, pdata_length);
+            node = before;
+            request_to(nadrs[i], name, 0x71, pcmd, pdata, pdata_length, error, data, data_length);
+            check(name, same_node(&node, &after));
+            node = before;
+            request_to(nadrs[i], name, 2, 5, list, 5 + pdata_length + 1, 0, NO_BYTES);
+            check(name, same_node(&node, &after));
+        }
+    }
+}
+
+/* Level and seconds of lamp 0, its seconds afterwards, PData, ErrN, previous power. */
+static void keeps(void)
+{
+    keep("keep: lit, minutes", 15, 0, 120, BYTES(1, 0, 0, 0, 0xFF, 0x02), 0, BYTES(20));
+    keep("keep: shorter timer, minutes", 15, 3, 120, BYTES(1, 0, 0, 0, 0xFF, 0x02), 0, BYTES(20));
+    keep("keep: longer timer, minutes", 15, 600, 120, BYTES(1, 0, 0, 0, 0xFF, 0x02), 0, BYTES(20));
+    keep("keep: off, minutes", 0, 0, 0, BYTES(1, 0, 0, 0, 0xFF, 0x02), 0, BYTES(0));
+    keep("keep: lit, seconds", 15, 0, 5, BYTES(1, 0, 0, 0, 0xFF, 0x85), 0, BYTES(20));
+    keep("keep: shorter timer, seconds", 15, 3, 5, BYTES(1, 0, 0, 0, 0xFF, 0x85), 0, BYTES(20));
+    keep("keep: longer timer, seconds", 15, 600, 5, BYTES(1, 0, 0, 0, 0xFF, 0x85), 0, BYTES(20));
+    keep("keep: off, seconds", 0, 0, 0, BYTES(1, 0, 0, 0, 0xFF, 0x85), 0, BYTES(0));
+    keep("keep: longest time", 100, 1, 7620, BYTES(1, 0, 0, 0, 0xFF, 0x7F), 0, BYTES(100));
+    keep("keep: lit, no time", 15, 0, 0, BYTES(1, 0, 0, 0, 0x7F), 0, BYTES(20));
+    keep("keep: timer, no time", 15, 30, 30, BYTES(1, 0, 0, 0, 0x7F), 0, BYTES(20));
+    keep("keep: off, no time", 0, 0, 0, BYTES(1, 0, 0, 0, 0x7F), 0, BYTES(0));
+    keep("keep: both lamps", 15, 30, 120, BYTES(3, 0, 0, 0, 0xFF, 0x02, 0x7F), 0, BYTES(20, 70));
+
+    keep("keep: lit, time 00", 15, 0, 0, BYTES(1, 0, 0, 0, 0xFF, 0x00), 6, NO_BYTES);
+    keep("keep: timer, time 80", 15, 30, 30, BYTES(1, 0, 0, 0, 0xFF, 0x80), 6, NO_BYTES);
+    keep("keep: off, time 80", 0, 0, 0, BYTES(1, 0, 0, 0, 0xFF, 0x80), 6, NO_BYTES);
+    keep("keep: good, then time 00", 15, 30, 30, BYTES(3, 0, 0, 0, 0xFF, 0x02, 0xFF, 0x00), 6, NO_BYTES);
+    keep("keep: level, then time 80", 15, 30, 30, BYTES(3, 0, 0, 0, 0x8A, 0x02, 0xFF, 0x80), 6, NO_BYTES);
+    keep("keep: no time byte", 15, 30, 30, BYTES(1, 0, 0, 0, 0xFF), 6, NO_BYTES);
+    keep("keep: byte after no time", 15, 30, 30, BYTES(1, 0, 0, 0, 0x7F, 0x02), 6, NO_BYTES);
+
+    keep("keep: unimplemented", 15, 30, 30, BYTES(4, 0, 0, 0, 0xFF, 0x02), 0, BYTES(0));
+    keep("keep: unimplemented, no time", 15, 30, 30, BYTES(4, 0, 0, 0, 0x7F), 0, BYTES(0));
+    keep("keep: unimplemented, time 00", 15, 30, 30, BYTES(4, 0, 0, 0, 0xFF, 0x00), 6, NO_BYTES);
+    keep("keep: lamps 0 and 2", 15, 30, 120, BYTES(5, 0, 0, 0, 0xFF, 0x02, 0xFF, 0x85), 0, BYTES(20, 0));
+}
+
+/* Kept for two seconds, a lamp without a timer and one with a longer timer turn
+ * off after two ticks. */
+static void keep_ticks(void)
+{
+    static const uint16_t timers[] = {0, 600};
+    size_t i;
+    uint8_t pcmd;
+
+    for (i = 0; i < sizeof timers / sizeof timers[0]; i++) {
+        for (pcmd = 0; pcmd <= 2; pcmd++) {
+            node = pair(15, timers[i]);
+            request("keep for two seconds", 0x71, pcmd, BYTES(1, 0, 0, 0, 0xFF, 0x82), 0, BYTES(20));
+            node = grelfint_tick(node).node;
+            check("kept, one second left", lamp_is(0, 15, 1));
+            node = grelfint_tick(node).node;
+            check("kept, off", lamp_is(0, 0, 0));
+        }
+    }
 }
 
 /* Sends a frame to a fresh node 1 that changes nothing, and compares the whole
@@ -388,6 +489,8 @@ int main(void)
     ticks();
     memories_and_code();
     batches();
+    keeps();
+    keep_ticks();
     broken_lists();
     frc();
     gateway();

@@ -247,9 +247,13 @@ fn lights(node: &mut Node, pcmd: u8, p: &[u8], data: Option<&mut [u8; 56]>) -> R
     Ok(ones)
 }
 
+/// `seconds` is 0 exactly for an entry without a time byte: every valid time is at least 1.
 #[inline]
 fn change(l: &mut Lamp, pcmd: u8, power: u8, seconds: u16) {
     if power == 127 {
+        if seconds != 0 && l.level != 0 {
+            l.seconds = seconds;
+        }
         return;
     }
     l.level = match pcmd {

@@ -1,7 +1,8 @@
 //! Shared by the tests: the C interface; the plain reference, written from the
-//! papers (document 01 with change 1/12 of document 02) and the decisions on open
-//! points; a fast implementation of the same rules for the benchmark; a common
-//! interface to these three; a board to run them on; and random inputs.
+//! papers (document 01 with changes 1/12 and 2/12 of document 02) and the
+//! decisions on open points; a fast implementation of the same rules for the
+//! benchmark; a common interface to these three; a board to run them on; and
+//! random inputs.
 pub mod board;
 pub mod fast;
 pub mod ffi;

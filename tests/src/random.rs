@@ -54,11 +54,11 @@ pub fn node(g: &mut Rng) -> Node {
         return node;
     }
     for i in 0..settings.lamp_count as usize {
-        let level = if g.chance(1, 3) { g.pick(&[0u8, 1, 99, 100]) } else { g.within(0, 100) as u8 };
-        let seconds = match g.below(4) {
-            0 => 0,
-            1 => g.within(1, 3),
-            2 => g.within(0, 7620),
+        let level = if g.chance(1, 2) { g.pick(&[0u8, 0, 1, 99, 100]) } else { g.within(0, 100) as u8 };
+        let seconds = match g.below(5) {
+            0..=1 => 0,
+            2 => g.within(1, 3),
+            3 => g.within(0, 7620),
             _ => g.pick(&[1, 2, 60, 7619, 7620]),
         } as u16;
         node.lamps[i] = Lamp { level, seconds: if level == 0 { 0 } else { seconds } };
@@ -100,6 +100,18 @@ fn time_byte(g: &mut Rng) -> u8 {
     low | if g.chance(1, 2) { 0x80 } else { 0 }
 }
 
+/// The low seven bits of a power byte: many keep the level, a few are invalid.
+fn power(g: &mut Rng) -> u8 {
+    let power = match g.below(120) {
+        0 => g.within(101, 126),
+        1..=36 => reference::KEEP as usize,
+        37..=49 => 0,
+        50..=59 => 100,
+        _ => g.within(0, 100),
+    };
+    power as u8
+}
+
 fn lamp_pdata(g: &mut Rng, count: u8, limit: usize) -> Vec<u8> {
     if limit < 4 {
         return vec![0; limit];
@@ -114,20 +126,16 @@ fn lamp_pdata(g: &mut Rng, count: u8, limit: usize) -> Vec<u8> {
         5 => 1 << g.below(32),
         _ => g.long() & inside,
     };
-    while mask.count_ones() as usize > limit - 4 {
-        mask &= mask - 1;
+    // half of the requests leave room for time bytes
+    let most = if g.chance(1, 2) { limit - 4 } else { (limit - 4).div_ceil(2) };
+    while mask.count_ones() as usize > most {
+        mask &= if g.chance(1, 2) { mask - 1 } else { !(1 << mask.ilog2()) };
     }
     let mut room = limit - 4 - mask.count_ones() as usize;
     let mut pdata = mask.to_le_bytes().to_vec();
     for _ in 0..mask.count_ones() {
-        let power = match g.below(120) {
-            0 => g.within(101, 126),
-            1..=12 => 127,
-            13..=25 => 0,
-            26..=35 => 100,
-            _ => g.within(0, 100),
-        } as u8;
-        if room > 0 && g.chance(2, 5) {
+        let power = power(g);
+        if room > 0 && g.chance(1, 2) {
             room -= 1;
             pdata.push(power | 0x80);
             pdata.push(time_byte(g));

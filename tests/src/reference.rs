@@ -1,6 +1,6 @@
-//! Document 01, "Exact rules and what to build", with change 1/12 of document 02,
-//! implemented as plainly as possible, without regard to speed. Headings name
-//! document 01's sections.
+//! Document 01, "Exact rules and what to build", with changes 1/12 and 2/12 of
+//! document 02, implemented as plainly as possible, without regard to speed.
+//! Headings name document 01's sections.
 use super::ffi::{
     CompileAnswer, FrcAnswer, Lamp, LengthAnswer, Node, NodeAnswer, RequestAnswer, SendAnswer, Settings, SlotAnswer,
 };
@@ -149,8 +149,7 @@ pub fn handle_request(
     if nadr != node.settings.address && nadr != 0x00FF {
         return nothing_done(0); // not mine
     }
-    let (pnum, pcmd) = (frame[2], frame[3]);
-    let request = Request { pnum, pcmd, hwpid: word(frame[4], frame[5]), pdata: &frame[6..] };
+    let request = request_in(frame);
     let mut parts = Parts { node, eeprom, external };
     let (RequestError { errn, reason, place }, data, load) = match do_request(&mut parts, &request) {
         Ok((data, load)) => (RequestError::from(0), data, load), // ErrN 0: none
@@ -158,11 +157,16 @@ pub fn handle_request(
     };
     let mut length = 0;
     if nadr != 0x00FF {
-        let bytes = response_bytes(&node.settings, pnum, pcmd, errn, &data);
+        let bytes = response_bytes(&node.settings, request.pnum, request.pcmd, errn, &data);
         length = bytes.len();
         response[..length].copy_from_slice(&bytes);
     }
     RequestAnswer { refusal: 0, length, load, addressed: true, reason, place, node: parts.node }
+}
+
+/// The request in a frame of at least 6 bytes.
+pub fn request_in(frame: &[u8]) -> Request<'_> {
+    Request { pnum: frame[2], pcmd: frame[3], hwpid: word(frame[4], frame[5]), pdata: &frame[6..] }
 }
 
 fn response_bytes(s: &Settings, pnum: u8, pcmd: u8, errn: u8, data: &[u8]) -> Vec<u8> {
@@ -172,7 +176,7 @@ fn response_bytes(s: &Settings, pnum: u8, pcmd: u8, errn: u8, data: &[u8]) -> Ve
     bytes
 }
 
-fn wrong_hwpid(node: &Node, request: &Request) -> bool {
+pub fn wrong_hwpid(node: &Node, request: &Request) -> bool {
     request.hwpid != node.settings.hwpid && request.hwpid != 0xFFFF
 }
 
@@ -190,7 +194,7 @@ fn do_request(parts: &mut Parts, request: &Request) -> DataOr<RequestError> {
 }
 
 /// An entry of a batch.
-fn do_entry(parts: &mut Parts, entry: &Request) -> DataOrError {
+pub fn do_entry(parts: &mut Parts, entry: &Request) -> DataOrError {
     if wrong_hwpid(&parts.node, entry) {
         return Err(HWPID);
     }
@@ -309,15 +313,18 @@ fn seconds_of(time: u8) -> Option<u16> {
     }
 }
 
+/// The low seven bits of a power byte that requests the level that the lamp has.
+pub const KEEP: u8 = 127;
+
 /// One selected lamp: its index, the low seven bits of its power byte, and the
 /// seconds if there is a time byte.
-struct Entry {
-    lamp: usize,
-    power: u8,
-    seconds: Option<u16>,
+pub struct Entry {
+    pub lamp: usize,
+    pub power: u8,
+    pub seconds: Option<u16>,
 }
 
-fn read_lamp_entries(pdata: &[u8]) -> Option<Vec<Entry>> {
+pub fn read_lamp_entries(pdata: &[u8]) -> Option<Vec<Entry>> {
     if pdata.len() < 4 {
         return None;
     }
@@ -330,7 +337,7 @@ fn read_lamp_entries(pdata: &[u8]) -> Option<Vec<Entry>> {
         let byte = *pdata.get(at)?;
         at += 1;
         let power = byte & 0x7F;
-        if power > 100 && power != 127 {
+        if power > 100 && power != KEEP {
             return None;
         }
         let mut seconds = None;
@@ -356,16 +363,25 @@ fn lights(parts: &mut Parts, pcmd: u8, pdata: &[u8]) -> DataOrError {
             previous.push(0);
             continue;
         }
-        let lamp = parts.node.lamps[entry.lamp];
+        let lamp = &mut parts.node.lamps[entry.lamp];
         previous.push(actual_level(lamp.level, settings.step));
-        if entry.power == 127 {
-            continue;
-        }
-        let level = new_level(pcmd, lamp.level, entry.power);
-        let seconds = if level == 0 { 0 } else { entry.seconds.unwrap_or(0) };
-        parts.node.lamps[entry.lamp] = Lamp { level, seconds };
+        *lamp = lamp_after(*lamp, pcmd, &entry);
     }
     Ok((previous, false))
+}
+
+/// An implemented lamp after its entry.
+fn lamp_after(lamp: Lamp, pcmd: u8, entry: &Entry) -> Lamp {
+    if entry.power != KEEP {
+        let level = new_level(pcmd, lamp.level, entry.power);
+        let seconds = if level == 0 { 0 } else { entry.seconds.unwrap_or(0) };
+        return Lamp { level, seconds };
+    }
+    // the level stays, and without a time the seconds too
+    match entry.seconds {
+        Some(seconds) if lamp.level != 0 => Lamp { level: lamp.level, seconds },
+        _ => lamp,
+    }
 }
 
 /// 0 set, 1 raise, 2 lower, trimmed to 0 to 100.
@@ -380,7 +396,7 @@ fn new_level(pcmd: u8, level: u8, power: u8) -> u8 {
 
 // ---- OS ----
 /// The entries of a list, or its first fault in reading order.
-fn read_batch(list: &[u8]) -> Result<Vec<Request<'_>>, RequestError> {
+pub fn read_batch(list: &[u8]) -> Result<Vec<Request<'_>>, RequestError> {
     let broken = |reason, place: usize| Err(RequestError { errn: DATA, reason, place: place as u8 });
     let mut entries = Vec::new();
     let mut at = 0;

@@ -96,6 +96,8 @@ struct Seen {
     loads: u64,
     requests: Requests,
     broken_lists: Counts<BrokenList>,
+    keeps: Counts<Keep>,
+    keeps_in: Counts<(LampRequest, Keep)>,
     bad_steps: Counts<BadStep>,
 }
 
@@ -131,6 +133,62 @@ struct BrokenList {
 impl BrokenList {
     fn every() -> impl Iterator<Item = BrokenList> {
         (1..=4).flat_map(|reason| [false, true].map(|broadcast| BrokenList { reason, broadcast }))
+    }
+}
+
+/// A keep entry that was executed on an implemented lamp.
+#[derive(Clone, Copy, PartialEq, Eq, PartialOrd, Ord, Debug)]
+struct Keep {
+    with_time: bool,
+    /// Before the entry.
+    lamp: LampState,
+}
+
+#[derive(Clone, Copy, PartialEq, Eq, PartialOrd, Ord, Debug)]
+enum LampState {
+    Off,
+    /// At a level, without a timer.
+    Lit,
+    Timed,
+}
+
+impl LampState {
+    fn of(lamp: Lamp) -> LampState {
+        match (lamp.level, lamp.seconds) {
+            (0, _) => LampState::Off,
+            (_, 0) => LampState::Lit,
+            _ => LampState::Timed,
+        }
+    }
+}
+
+impl Keep {
+    /// Those of a request that was executed on this node.
+    fn all_in(request: &r::Request, node: &Node) -> Vec<Keep> {
+        let lamps = &node.lamps[..node.settings.lamp_count as usize];
+        let entries = r::read_lamp_entries(request.pdata).expect("executed").into_iter();
+        let keeps = entries.filter(|e| e.power == r::KEEP && e.lamp < lamps.len());
+        keeps.map(|e| Keep { with_time: e.seconds.is_some(), lamp: LampState::of(lamps[e.lamp]) }).collect()
+    }
+
+    fn every() -> impl Iterator<Item = Keep> {
+        let states = [LampState::Off, LampState::Lit, LampState::Timed].into_iter();
+        states.flat_map(|lamp| [false, true].map(|with_time| Keep { with_time, lamp }))
+    }
+}
+
+/// How a set, raise or lower was sent.
+#[derive(Clone, Copy, PartialEq, Eq, PartialOrd, Ord, Debug)]
+struct LampRequest {
+    pcmd: u8,
+    in_batch: bool,
+    broadcast: bool,
+}
+
+impl LampRequest {
+    fn every() -> impl Iterator<Item = LampRequest> {
+        let ways = [(false, false), (false, true), (true, false), (true, true)];
+        (0..=2).flat_map(move |pcmd| ways.map(|(in_batch, broadcast)| LampRequest { pcmd, in_batch, broadcast }))
     }
 }
 
@@ -183,6 +241,15 @@ impl Seen {
         let total = self.requests.total();
         assert!(self.requests.kinds().iter().all(|n| n * 20 > total), "a kind is rare: {:?}", self.requests);
         self.broken_lists.assert_each(BrokenList::every(), total / 2000);
+        self.assert_every_kind_of_keep(total);
+    }
+
+    /// On average, at least one keep entry of each kind is executed in fifty requests, and one in four thousand for each
+    /// way to send it.
+    fn assert_every_kind_of_keep(&self, requests: u64) {
+        self.keeps.assert_each(Keep::every(), requests / 50);
+        let in_each = |request| Keep::every().map(move |keep| (request, keep));
+        self.keeps_in.assert_each(LampRequest::every().flat_map(in_each), requests / 4000);
     }
 }
 
@@ -272,7 +339,21 @@ impl Session {
         if b.reason != 0 {
             self.seen.broken_lists.add(BrokenList { reason: b.reason, broadcast: b.length == 0 });
         }
+        if b.addressed {
+            self.count_keeps(Board { node, ..before }, frame);
+        }
         b
+    }
+
+    /// Counts the keep entries that an addressed frame executes on this board.
+    fn count_keeps(&mut self, mut board: Board, frame: &[u8]) {
+        let (in_batch, broadcast) = (frame[2..4] == [2, 5], frame[..2] == [0xFF, 0]);
+        for (node, request) in executed_lamp_requests(&mut board, frame) {
+            for keep in Keep::all_in(&request, &node) {
+                self.seen.keeps.add(keep);
+                self.seen.keeps_in.add((LampRequest { pcmd: request.pcmd, in_batch, broadcast }, keep));
+            }
+        }
     }
 
     /// One request to the boards' node, which is then updated.
@@ -537,6 +618,29 @@ impl SceneCall {
 
 fn parts(b: &mut Board) -> r::Parts<'_> {
     r::Parts { node: b.node, eeprom: &mut b.eeprom[..EEPROM_SIZE], external: &mut b.external[..EXTERNAL_SIZE] }
+}
+
+/// The sets, raises and lowers that an addressed frame executes without an error, by itself or as entries of its batch,
+/// each with the node that it finds.
+fn executed_lamp_requests<'a>(board: &mut Board, frame: &'a [u8]) -> Vec<(Node, r::Request<'a>)> {
+    let whole = r::request_in(frame);
+    if r::wrong_hwpid(&board.node, &whole) {
+        return Vec::new();
+    }
+    let requests = match (whole.pnum, whole.pcmd) {
+        (2, 5) => r::read_batch(whole.pdata).unwrap_or_default(),
+        _ => vec![whole],
+    };
+    let mut parts = parts(board);
+    let mut executed = Vec::new();
+    for request in requests {
+        let node = parts.node;
+        let done = r::do_entry(&mut parts, &request).is_ok();
+        if done && request.pnum == 0x71 && request.pcmd <= 2 {
+            executed.push((node, request));
+        }
+    }
+    executed
 }
 
 /// The requests in a compiled scene, and the scene's total length.

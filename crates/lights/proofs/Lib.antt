@@ -7,4 +7,6 @@ pub mod Replies
 pub mod ApplyLoop
 pub mod EachLamp
 pub mod ValidChanges
+pub mod Keep
 pub mod Requests
+pub mod Examples

@@ -1,5 +1,5 @@
 -- Laws of parsing the power entries of a request.
-use mathlib.Core.Path.{_≡_, refl, sym, ap, _∙_}
+use mathlib.Core.Path.{_≡_, refl, sym, ap, subst, _∙_}
 use mathlib.Core.Bool.{Bool, true, false, cond}
 use mathlib.Core.List.{List, [], _∷_}
 use Prim.Native.Nat.{ℕ, zero, suc, _+_, _-_, _%_, _≤_, _<_}
@@ -8,8 +8,8 @@ use native.Mathlib.Numerals.{add-one}
 use lib.ListN.{length, getD, drop, length-drop, drop-of-length-le}
 use lib.Seq.{drop-cons, drop-drop}
 use lib.Dec.{ltb, eqb}
-use borrow.Author.Tests.{lt-ltb, le-ltb, ltb-true, ltb-false, eq-eqb, ne-eqb}
-use Rattle.dpa.proofs.Bool.{by-test}
+use borrow.Author.Tests.{lt-ltb, le-ltb, ltb-true, ltb-false, eq-eqb, ne-eqb, eqb-false, not-true}
+use Rattle.dpa.proofs.Bool.{by-cond, by-test}
 use Rattle.lights.specs.Lights.{bit7, powerOk, timeOk, secondsOf, change, timedPowerEntry, firstPowerEntry, isValid, PowerEntries, allValid, malformed, prepend, followedBy, powerEntries, areValid}
 use Rattle.lights.specs.declared.power.LampChange.{LampChange}
 use Rattle.lights.specs.declared.power.PowerEntry.{PowerEntry}
@@ -115,23 +115,48 @@ pub first-valid : (f : PowerEntry) (rest : ℕ → PowerEntries) → areValid (f
 first-valid (Valid e size) rest g = refl
 first-valid Invalid rest g = g
 
--- a power entry is no longer than the bytes it is parsed from
-first-size : (xs : List ℕ) (e : LampChange) (size : ℕ) → firstPowerEntry xs ≡ Valid e size → size ≤ length xs
-first-size [] e size h = let z : _≡_ {A = ℕ} 0 1 = cc in absurd (omega arith)
-first-size (b ∷ xs) e size h = go (powerOk (b % bit7)) (ltb b bit7) xs h
+-- a valid power entry is a power byte alone, or a power byte and a valid time byte
+pub first-cases : (P : List ℕ → LampChange → ℕ → Type 0)
+    → ((b : ℕ) (xs : List ℕ) → powerOk (b % bit7) ≡ true → P (b ∷ xs) (change (b % bit7) 0) 1)
+    → ((b t : ℕ) (xs : List ℕ) → powerOk (b % bit7) ≡ true → timeOk t ≡ true → P (b ∷ t ∷ xs) (change (b % bit7) (secondsOf t)) 2)
+    → (xs : List ℕ) (e : LampChange) (size : ℕ) → firstPowerEntry xs ≡ Valid e size → P xs e size
+first-cases P f g [] e size h = let z : _≡_ {A = ℕ} 0 1 = cc in absurd (omega arith)
+first-cases P f g (b ∷ xs) e size h = go (powerOk (b % bit7)) (ltb b bit7) xs refl h
   where
-    none : (ys : List ℕ) → Invalid ≡ Valid e size → size ≤ length ys
+    none : (ys : List ℕ) → Invalid ≡ Valid e size → P ys e size
     none ys q = let z : _≡_ {A = ℕ} 0 1 = cc in absurd (omega arith)
 
-    last : (t s : ℕ) (ys : List ℕ) (z : Bool) → cond z (Valid (change t s) 2) Invalid ≡ Valid e size → size ≤ suc (suc (length ys))
-    last t s ys true q = let w : 2 ≡ size = cc in omega arith
-    last t s ys false q = none (t ∷ (t ∷ ys)) q
+    made : (ys : List ℕ) (d : LampChange) (n : ℕ) → P ys d n → d ≡ e → n ≡ size → P ys e size
+    made ys d n p u w = subst (λ m. P ys e m) w (subst (λ x. P ys x n) u p)
 
-    go : (p q : Bool) (ys : List ℕ) → cond p (cond q (Valid (change (b % bit7) 0) 1) (timedPowerEntry (b % bit7) ys)) Invalid ≡ Valid e size → size ≤ suc (length ys)
-    go true true ys r = let w : 1 ≡ size = cc in omega arith
-    go true false [] r = none (b ∷ []) r
-    go true false (t ∷ ys) r = last (b % bit7) (secondsOf t) ys (timeOk t) r
-    go false q ys r = none (b ∷ ys) r
+    last : (t : ℕ) (ys : List ℕ) (z : Bool) → powerOk (b % bit7) ≡ true → timeOk t ≡ z
+        → cond z (Valid (change (b % bit7) (secondsOf t)) 2) Invalid ≡ Valid e size → P (b ∷ t ∷ ys) e size
+    last t ys true p k q = made (b ∷ t ∷ ys) (change (b % bit7) (secondsOf t)) 2 (g b t ys p k) (cc) (cc)
+    last t ys false p k q = none (b ∷ t ∷ ys) q
+
+    go : (p q : Bool) (ys : List ℕ) → powerOk (b % bit7) ≡ p
+        → cond p (cond q (Valid (change (b % bit7) 0) 1) (timedPowerEntry (b % bit7) ys)) Invalid ≡ Valid e size → P (b ∷ ys) e size
+    go true true ys p r = made (b ∷ ys) (change (b % bit7) 0) 1 (f b ys p) (cc) (cc)
+    go true false [] p r = none (b ∷ []) r
+    go true false (t ∷ ys) p r = last t ys (timeOk t) p refl r
+    go false q ys p r = none (b ∷ ys) r
+
+-- a valid time is at least one second
+pub time-positive : (t : ℕ) → timeOk t ≡ true → secondsOf t ≡ 0 → ⊥
+unfolding timeOk secondsOf
+time-positive t k =
+    let low : t % bit7 ≡ 0 → ⊥ = eqb-false (t % bit7) 0 (not-true _ k) in
+    by-cond (λ (n : ℕ). n ≡ 0 → ⊥) (ltb t bit7) _ _ (λ e z. low (omega (arith, z))) (λ e z. low z)
+
+-- so the seconds of a valid power entry are 0 exactly if it is a power byte alone
+pub untimed-exact : (xs : List ℕ) (e : LampChange) (size : ℕ) → firstPowerEntry xs ≡ Valid e size → eqb (e .seconds) 0 ≡ eqb size 1
+untimed-exact =
+    first-cases (λ xs (e : LampChange) size. eqb (e .seconds) 0 ≡ eqb size 1) (λ b xs p. refl)
+    (λ b t xs p k. ne-eqb (secondsOf t) 0 (time-positive t k))
+
+-- a power entry is no longer than the bytes it is parsed from
+first-size : (xs : List ℕ) (e : LampChange) (size : ℕ) → firstPowerEntry xs ≡ Valid e size → size ≤ length xs
+first-size = first-cases (λ xs e size. size ≤ length xs) (λ b xs p. omega arith) (λ b t xs p k. omega arith)
 
 -- it ends inside the source
 pub first-room : (src : List ℕ) (at : ℕ) (e : LampChange) (size : ℕ) → firstPowerEntry (drop at src) ≡ Valid e size → size ≤ length src - at

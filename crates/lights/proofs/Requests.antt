@@ -6,14 +6,14 @@ use Prim.Native.Nat.{ℕ, _≤_, _<_}
 use native.Mathlib.Omega.{arith}
 use lib.ListN.{length, getD, take, drop}
 use lib.Dec.{ltb, eqb}
-use borrow.Author.Tests.{ltb-false}
+use borrow.Author.Tests.{lt-ltb, ltb-false}
 use Rattle.dpa.specs.Settings.{maxLamps}
 use Rattle.dpa.specs.Reply.{Harmless, Reply, reply, errorReply}
 use Rattle.dpa.proofs.Bool.{by-cond}
 use Rattle.dpa.specs.declared.settings.Settings.{Settings}
 use Rattle.lights.specs.Bits.{bitmapSize, count, bitmap, isOne, selected, numberBelow}
 use Rattle.lights.specs.Lamp.{off, lampFits, LampRule, actualLevel}
-use Rattle.lights.specs.Lights.{commandPcmd, enumeratePcmd, PowerEntries, allValid, malformed, powerEntries, malformedError, lampsAfter, levelsBefore, levelsReply, changeLamps, enumerateLamps, lightsRequest}
+use Rattle.lights.specs.Lights.{commandPcmd, enumeratePcmd, keepPower, PowerEntries, allValid, malformed, powerEntries, malformedError, kept, lampsAfter, levelsBefore, levelsReply, changeLamps, enumerateLamps, lightsRequest}
 use Rattle.lights.proofs.Lamps.{fits-test, fits-rule, fits-above, zero-facts}
 use Rattle.lights.proofs.Bits.{count-length}
 use Rattle.lights.proofs.Selected.{bitmap-length, count-selected, rank-selected, selected-bit}
@@ -21,6 +21,7 @@ use Rattle.lights.proofs.PowerEntries.{zeroChange, changesOf, power-ent
 use Rattle.lights.proofs.EachLamp.{lampAfterEntry, lamps-after-at, lamp-unimplemented, lamps-length, levels-before-at}
 use Rattle.lights.proofs.Replies.{levels-length}
 use Rattle.lights.proofs.ValidChanges.{ChangeRule, power-entries-rule, lamp-after-rule}
+use Rattle.lights.proofs.Keep.{keep-after}
 use Rattle.lights.specs.declared.apply.Command.{Command}
 use Rattle.lights.specs.declared.apply.Command.the-variants.{Set, Raise, Lower}
 use Rattle.lights.specs.declared.lamp.Lamp.{Lamp}
@@ -113,6 +114,13 @@ module _ (s : Settings) (xs : List ℕ) (ls : List Lamp) where
         let r : count (take k (bitmap xs)) ≡ numberBelow k (selected xs) = rank-selected xs k (omega arith) in
         lamps-after-at c (s .«lamp_count») (bitmap xs) es ls k bitmap-fits (changes-enough es e)
         ∙ (λ i. cond (d i && ltb k (s .«lamp_count»)) (lampAfterEntry c l (getD (f i) (r i) zeroChange)) l))
+
+    -- an implemented lamp with a keep entry is `kept` after a successful change, whatever the command is
+    pub kept-at : (c : Command) (k : ℕ) → k < maxLamps → changeLamps s c xs ls .error ≡ 0
+        → selected xs k ≡ true → k < s .«lamp_count» → changeFor xs k .power ≡ keepPower
+        → getD (changeLamps s c xs ls .after) k off ≡ kept (getD ls k off) (changeFor xs k .seconds)
+    kept-at c k h done sel below keeps =
+        lamp-at c k h done ∙ rw (sel, lt-ltb k (s .«lamp_count») below, keeps) (keep-after c (getD ls k off) (changeFor xs k .seconds))
 
     -- a successful change returns the previous actual level of each selected lamp, 0 for an unimplemented one
     pub level-at : (c : Command) (k : ℕ) → k < maxLamps → selected xs k ≡ true → changeLamps s c xs ls .error ≡ 0

@@ -1,4 +1,4 @@
--- Document 01, "Lights 71": set, raise and lower by a list of power entries, and enumerate.
+-- Document 01, "Lights 71": set, raise and lower by a list of power entries, and enumerate. Document 02, change 2: keep with a time.
 use Prim.Native.Nat.{ℕ, zero, suc, _+_, _-_, _*_, _%_, min}
 use mathlib.Core.List.{List, [], _∷_}
 use mathlib.Core.Bool.{Bool, true, false, cond, not, _||_}
@@ -26,11 +26,11 @@ enumeratePcmd = 0x3E
 
 -- ---- one power entry
 
--- the power that leaves a lamp unchanged
+-- the power that keeps a lamp's level
 abbrev pub keepPower : ℕ
 keepPower = 127
 
--- the low seven bits of a power byte: a level, or the power that leaves the lamp unchanged
+-- the low seven bits of a power byte: a level, or keep
 unfoldable pub powerOk : ℕ → Bool
 powerOk p = leb p maxLevel || eqb p keepPower
 
@@ -46,7 +46,7 @@ timeOk t = not (eqb (t % bit7) 0)
 unfoldable pub secondsOf : ℕ → ℕ
 secondsOf t = cond (ltb t bit7) (60 * t) (t % bit7)
 
--- what a power entry changes; without a time byte the seconds are 0
+-- what a power entry changes; the seconds are 0 exactly if it has no time byte (proofs/PowerEntries: `untimed-exact`)
 abbrev pub change : ℕ → ℕ → LampChange
 change p s = record { power = p; seconds = s }
 
@@ -93,11 +93,18 @@ newLevel Set level power = power
 newLevel Raise level power = min (level + power) maxLevel
 newLevel Lower level power = level - power
 
--- the power `keepPower` leaves the lamp unchanged; the timer is cleared when the new level is 0
+-- a lamp gets a level and a time for it, 0 for none; no timer runs at level 0
+abbrev pub withTimer : Lamp → ℕ → ℕ → Lamp
+withTimer l level seconds = changed l level (cond (eqb level 0) 0 seconds)
+
+-- keep: the level stays; a time is for that level and replaces the seconds left, and without a time they stay too
+-- (proofs/Keep: `kept-level`, `kept-untimed`, `kept-lit`, `kept-off`; in a request proofs/Requests: `kept-at`)
+abbrev pub kept : Lamp → ℕ → Lamp
+kept l seconds = cond (eqb seconds 0) l (withTimer l (l .level) seconds)
+
+-- any other power gives a new level with the time of the power entry; without a time the timer stops
 unfoldable pub lampAfter : Command → Lamp → ℕ → ℕ → Lamp
-lampAfter c l power seconds =
-    let level = newLevel c (l .level) power in
-    cond (eqb power keepPower) l (changed l level (cond (eqb level 0) 0 seconds))
+lampAfter c l power seconds = cond (eqb power keepPower) (kept l seconds) (withTimer l (newLevel c (l .level) power) seconds)
 
 -- ---- all lamps, of which the first n are implemented; the lowest selected lamp takes the first power entry
 -- (lamp by lamp in proofs/Requests: `lamp-at`, `level-at`)

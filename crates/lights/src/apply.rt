@@ -16,7 +16,7 @@ ghost use Rattle.dpa.specs.Reply.{replySeen, replyInBuffer};
 ghost use Rattle.dpa.specs.Settings.{settingsOk, maxLamps};
 ghost use Rattle.lights.specs.Bits.{bitmapSize, bits, count};
 ghost use Rattle.lights.specs.Lamp.{LevelsInRange};
-ghost use Rattle.lights.specs.Lights.{newLevel, lampAfter, powerEntries, areValid, levelsReply};
+ghost use Rattle.lights.specs.Lights.{newLevel, withTimer, lampAfter, powerEntries, areValid, levelsReply};
 
 pub enum Command {
     Set,
@@ -42,14 +42,10 @@ fn new_level(command: Command, level: u8, power: u8) -> u8
     }
 }
 
-// The lamp after a power entry. The timer is cleared when the new level is 0.
-pub fn lamp_after(command: Command, lamp: Lamp, power: u8, seconds: u16) -> Lamp
-    ensures { λ r. ⌜ r ≡ lampAfter command lamp power seconds ⌝ }
+// The lamp with a level and a time for it, 0 for none. No timer runs at level 0.
+fn with_timer(lamp: Lamp, level: u8, seconds: u16) -> Lamp
+    ensures { λ r. ⌜ r ≡ withTimer lamp level seconds ⌝ }
 {
-    if power == KEEP {
-        return lamp;
-    }
-    let level = new_level(command, lamp.level, power);
     let mut next = lamp;
     next.level = level;
     next.seconds = seconds;
@@ -57,6 +53,20 @@ pub fn lamp_after(command: Command, lamp: Lamp, power: u8, seconds: u16) -> Lamp
         next.seconds = 0;
     }
     next
+}
+
+// The lamp after a power entry. Keep leaves the level whatever the command is, and without a time the timer too.
+pub fn lamp_after(command: Command, lamp: Lamp, power: u8, seconds: u16) -> Lamp
+    ensures { λ r. ⌜ r ≡ lampAfter command lamp power seconds ⌝ }
+{
+    if power != KEEP {
+        let level = new_level(command, lamp.level, power);
+        return with_timer(lamp, level, seconds);
+    }
+    if seconds == 0 {
+        return lamp;
+    }
+    with_timer(lamp, lamp.level, seconds)
 }
 
 // The lamps after the power entries of a request. Writes the previous actual levels of the selected lamps to the front

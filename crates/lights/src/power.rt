@@ -11,13 +11,13 @@ ghost use Rattle.lights.specs.declared.power.PowerEntry.the-variants.{Va
 // The size of the bitmap at the front of PData; the power entries follow it.
 pub const BITMAP_SIZE: usize = 4;
 
-// The power that leaves a lamp unchanged.
+// The power that keeps a lamp's level.
 pub const KEEP: u8 = 127;
 
 // In a power byte: a time byte follows. In a time byte: the low bits are seconds, not minutes.
 pub const BIT_7: u8 = 0x80;
 
-// What a power entry changes. Without a time byte the seconds are 0.
+// What a power entry changes. The seconds are 0 exactly if it has no time byte.
 pub struct LampChange {
     pub power: u8,
     pub seconds: u16,

@@ -1,4 +1,5 @@
-// Runs worked examples of the buyer's documents and of the DPA guide through the public calls and prints the results.
+// Runs worked examples of the buyer's documents and of the DPA guide, and some of our own, through the public calls and
+// prints the results.
 use dpa::frame::Frame;
 use dpa::number::wide;
 use dpa::pnum;
@@ -60,6 +61,14 @@ fn print_lamps(node: Node) {
     print_text(b"\n");
 }
 
+// Sends a request, prints the response and the lamps after it, and returns the node.
+fn send_and_print_lamps(node: Node, frame: &[u8], eeprom: &mut [u8], external: &mut [u8]) -> Node {
+    let after = send(node, frame, eeprom, external);
+    print_text(b"lamps");
+    print_lamps(after);
+    after
+}
+
 // Prints a view's refusal and its bytes.
 fn print_view<'a>(eeprom: &'a [u8], external: &'a [u8], pnum: u8, start: usize, count: usize) {
     print_number(view_status(eeprom, external, pnum, start, count) as u64);
@@ -93,15 +102,30 @@ fn lights(node: Node, eeprom: &mut [u8], external: &mut [u8]) -> Node {
         external,
     );
     print_text(b"raise");
-    let raised = send(
+    send_and_print_lamps(
         set,
         b"\x01\x00\x71\x01\x71\x24\x03\x00\x00\x00\x8A\x03\x32",
         eeprom,
         external,
+    )
+}
+
+// Keep with and without a time, in a raise of three lamps; then in a lower inside a batch.
+fn keep(node: Node, eeprom: &mut [u8], external: &mut [u8]) {
+    print_text(b"keep FF 01, FF 8A, 7F");
+    let raised = send_and_print_lamps(
+        node,
+        b"\x01\x00\x71\x01\xFF\xFF\x07\x00\x00\x00\xFF\x01\xFF\x8A\x7F",
+        eeprom,
+        external,
     );
-    print_text(b"lamps");
-    print_lamps(raised);
-    raised
+    print_text(b"keep FF 02 in a batch");
+    send_and_print_lamps(
+        raised,
+        b"\x01\x00\x02\x05\xFF\xFF\x0B\x71\x02\xFF\xFF\x02\x00\x00\x00\xFF\x02\x00",
+        eeprom,
+        external,
+    );
 }
 
 // Reads the last byte of external memory, and one past it.
@@ -164,17 +188,22 @@ fn wrong_ends(node: Node, eeprom: &mut [u8], external: &mut [u8]) {
     send_broken(node, b"\xFF\x00\x02\x05\xFF\xFF\x00\x00", eeprom, external);
 }
 
-// A broadcast, which has no response.
+// Broadcasts, which have no response.
 fn broadcast(node: Node, eeprom: &mut [u8], external: &mut [u8]) {
     print_text(b"broadcast, lamp 1 to 7");
-    let after = send(
+    let set = send_and_print_lamps(
         node,
         b"\xFF\x00\x71\x00\xFF\xFF\x02\x00\x00\x00\x07",
         eeprom,
         external,
     );
-    print_text(b"lamps");
-    print_lamps(after);
+    print_text(b"broadcast, keep FF 03 for lamp 2");
+    send_and_print_lamps(
+        set,
+        b"\xFF\x00\x71\x00\xFF\xFF\x04\x00\x00\x00\xFF\x03",
+        eeprom,
+        external,
+    );
 }
 
 // The confirmation of the DPA guide, and the earliest next send of document 01.
@@ -208,6 +237,7 @@ fn main() {
     external[0x3FFF] = 0xAF;
     views(&eeprom, &external);
     let lit = lights(started.node, &mut eeprom, &mut external);
+    keep(lit, &mut eeprom, &mut external);
     let read = external_end(lit, &mut eeprom, &mut external);
     wrong_lengths(read, &mut eeprom, &mut external);
     wrong_ends(read, &mut eeprom, &mut external);
