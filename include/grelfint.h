@@ -5,7 +5,8 @@
  * other number (except `step` with 81 to 84), false for every flag and the
  * node unchanged, and writes no buffer.
  *
- *    1  the node record is not sound; settings or an address out of range
+ *    1  the node record is not sound; settings or an address out of range; a
+ *       node set that names address 0, or no node
  *    2  the frame has fewer than 6 or more than 62 bytes
  *    3  fewer than 64 bytes for a response or confirmation
  *    4  EEPROM is not 192 bytes, or external memory not 16,384
@@ -50,6 +51,7 @@ extern "C" {
 #define GRELFINT_EXTERNAL 16384
 #define GRELFINT_RESPONSE 64   /* minimum for a response or confirmation */
 #define GRELFINT_COMPILED 4096 /* minimum for a compiled scene */
+#define GRELFINT_NODE_SET 30   /* bytes: a bit for each address, 0 to 239 */
 
 typedef struct grelfint_settings {
     uint16_t address;
@@ -81,9 +83,10 @@ typedef struct grelfint_request_answer {
     bool load;      /* a code check matched and asked to load the code */
     bool addressed; /* not refused, and NADR is this node's address or 0x00FF.
                      * A broadcast that was carried out and a frame for another
-                     * node both have length 0; this field separates them. */
-    uint8_t reason; /* why the list of a batch cannot be read (ErrN 6); given
-                     * for a broadcast too:
+                     * node both have length 0; this field separates them. It
+                     * does not depend on the node set of a selective batch. */
+    uint8_t reason; /* why the list of a batch or of a selective batch for this
+                     * node cannot be read (ErrN 6); given for a broadcast too:
                      *   1  a length byte of 1 to 4
                      *   2  an entry that reaches past the end of PData
                      *   3  no closing zero
@@ -118,6 +121,12 @@ typedef struct grelfint_send_answer {
     uint32_t milliseconds;
 } grelfint_send_answer;
 
+/* A set of nodes: bit a % 8 of byte a / 8 is set if it names address a.
+ * To name node a, 1 to 239: set.bits[a / 8] |= 1 << (a % 8). */
+typedef struct grelfint_node_set {
+    uint8_t bits[GRELFINT_NODE_SET];
+} grelfint_node_set;
+
 typedef struct grelfint_compile_answer {
     uint8_t refusal;
     uint8_t step; /* the first bad step, with refusals 81 to 84 */
@@ -140,11 +149,13 @@ grelfint_node_answer grelfint_tick(grelfint_node node);
 uint8_t grelfint_tick_in_place(grelfint_node *node);
 
 /* Handles one request frame (NADR 2, PNUM, PCMD, HWPID 2, PData 0 to 56).
- * Answer: refusal; length of the response (0 for a broadcast and for a frame
- * to another node); load mark; whether the frame was addressed to this node;
- * reason and place if it is a batch whose list cannot be read (otherwise 0 and
- * 0); node afterwards. An error in the request itself is not a refusal: the
- * response reports it as ErrN.
+ * Answer: refusal; length of the response (0 for a broadcast, for a frame to
+ * another node, and for a selective batch whose node set does not name this
+ * node: it is not answered, even if the frame names the node's own address);
+ * load mark; whether the frame was addressed to this node; reason and place if
+ * it is a batch, or a selective batch for this node, whose list cannot be read
+ * (otherwise 0 and 0); node afterwards. An error in the request itself is not a
+ * refusal: the response reports it as ErrN.
  * Refusals: 1, 2, 3, 4.
  * Written: `eeprom` and `external` as the request asks; the first `length`
  * bytes of `response`. Later bytes of `response` are unchanged. */
@@ -210,6 +221,23 @@ grelfint_compile_answer grelfint_compile(
 grelfint_compile_answer grelfint_compile_default(
     const uint8_t *book, size_t book_length, size_t scene,
     uint16_t address,
+    uint8_t *out, size_t out_length);
+
+/* Compiles a scene of a book into broadcasts to the nodes of a set (selective
+ * batches), with this HWPID in each request and entry. A node that the set
+ * does not name ignores them.
+ * Answer: refusal; step (only with 81 to 84); length of the output.
+ * Refusals: 1 (the set names address 0, or no node), 6, 7, 81 to 84, 9.
+ * Written: as by grelfint_compile. */
+grelfint_compile_answer grelfint_compile_selected(
+    const uint8_t *book, size_t book_length, size_t scene,
+    grelfint_node_set nodes, uint16_t hwpid,
+    uint8_t *out, size_t out_length);
+
+/* grelfint_compile_selected with HWPID 0xFFFF, which every node accepts. */
+grelfint_compile_answer grelfint_compile_selected_default(
+    const uint8_t *book, size_t book_length, size_t scene,
+    grelfint_node_set nodes,
     uint8_t *out, size_t out_length);
 
 #ifdef __cplusplus

@@ -1,6 +1,8 @@
 /* Worked examples of document 01, broken lists and bad steps (document 02,
- * change 1/12) and keep with a time (change 2/12), called through
- * include/grelfint.h. From the repository's root:
+ * change 1/12), keep with a time (change 2/12), and selective batches and scenes
+ * for chosen nodes (change 3/12), called through include/grelfint.h. To see how
+ * one compiled scene reaches chosen nodes, read `one_scene_for_chosen_nodes`.
+ * From the repository's root:
  *
  *   rt staticlib grelfint && mkdir -p target/tests
  *   gcc -std=c11 -Wall -Wextra -Werror -Iinclude tests/c/examples.c \
@@ -38,6 +40,7 @@ _Static_assert(offsetof(grelfint_request_answer, reason) == 18, "reason");
 _Static_assert(offsetof(grelfint_request_answer, place) == 19, "place");
 _Static_assert(offsetof(grelfint_request_answer, node) == 20, "node of a request's answer");
 _Static_assert(sizeof(grelfint_request_answer) == 208, "a request's answer");
+_Static_assert(sizeof(grelfint_node_set) == 30, "node set");
 
 static grelfint_node node;
 static uint8_t eeprom[GRELFINT_EEPROM];
@@ -379,6 +382,89 @@ static void broken_lists(void)
     send_frame("no room", to_all, sizeof to_all, GRELFINT_RESPONSE - 1, 3, false, 0, 0, 0, 0);
 }
 
+/* The set of these addresses, each 1 to 239. */
+static grelfint_node_set set_of(const uint8_t *addresses, size_t count)
+{
+    grelfint_node_set nodes = {{0}};
+    size_t i;
+
+    for (i = 0; i < count; i++)
+        nodes.bits[addresses[i] / 8] |= (uint8_t)(1u << (addresses[i] % 8));
+    return nodes;
+}
+
+/* Sends a selective batch that changes nothing to node 1, which responds with
+ * this many bytes, and to all nodes. */
+static void send_selective(const char *name, grelfint_node_set nodes, const uint8_t *list, size_t list_length,
+                           size_t response_length, uint8_t error, uint8_t reason, uint8_t place)
+{
+    uint8_t frame[62] = {1, 0, 2, 0x0B, 0xFF, 0xFF};
+    size_t length = 6 + sizeof nodes.bits + list_length;
+
+    memcpy(frame + 6, nodes.bits, sizeof nodes.bits);
+    memcpy(frame + 6 + sizeof nodes.bits, list, list_length);
+    send_frame(name, frame, length, GRELFINT_RESPONSE, 0, true, response_length, error, reason, place);
+    frame[0] = 0xFF;
+    send_frame(name, frame, length, GRELFINT_RESPONSE, 0, true, 0, error, reason, place);
+}
+
+/* Nodes 1 and 9 are selected: a response of eight bytes. */
+static void selected(const char *name, const uint8_t *list, size_t list_length,
+                     uint8_t error, uint8_t reason, uint8_t place)
+{
+    send_selective(name, set_of(BYTES(1, 9)), list, list_length, 8, error, reason, place);
+}
+
+/* Node 1 is not selected: no response, even at its own address. */
+static void not_selected(const char *name, grelfint_node_set nodes, const uint8_t *list, size_t list_length)
+{
+    send_selective(name, nodes, list, list_length, 0, 0, 0, 0);
+}
+
+static void selective_batches(void)
+{
+    static const uint8_t set_lamp[] = {10, 0x71, 0, 0xFF, 0xFF, 1, 0, 0, 0, 10, 0};
+    static const uint8_t to_1_and_9[] = {
+        2, 2, 0, 0, 0, 0, 0, 0, 0, 0, 0, 0, 0, 0, 0, 0, 0, 0, 0, 0, 0, 0, 0, 0, 0, 0, 0, 0, 0, 0,
+        10, 0x71, 0, 0xFF, 0xFF, 1, 0, 0, 0, 10, 0
+    };
+    const grelfint_node_set none = {{0}}, address_0 = {{1}};
+    grelfint_node_set all, all_but_1;
+
+    memset(all.bits, 0xFF, sizeof all.bits);
+    all_but_1 = all;
+    all_but_1.bits[0] = 0xFD;
+
+    fresh(3, 1);
+    request("selective: own address", 2, 0x0B, to_1_and_9, sizeof to_1_and_9, 0, NO_BYTES);
+    check("selective: lamp 0", lamp_is(0, 10, 0));
+    fresh(3, 1);
+    request_to(0xFF, "selective: broadcast", 2, 0x0B, to_1_and_9, sizeof to_1_and_9, 0, NO_BYTES);
+    check("selective: lamp 0 at broadcast", lamp_is(0, 10, 0));
+
+    not_selected("selective: other nodes", set_of(BYTES(2, 9)), set_lamp, sizeof set_lamp);
+    not_selected("selective: all but node 1", all_but_1, set_lamp, sizeof set_lamp);
+    not_selected("selective: address 0 is no node", address_0, set_lamp, sizeof set_lamp);
+    not_selected("selective: no node", none, set_lamp, sizeof set_lamp);
+    not_selected("selective: other nodes, broken list", set_of(BYTES(2, 9)), BYTES(4, 0));
+
+    /* the thirty bytes before the list count in the place */
+    selected("selective: empty list", BYTES(0), 0, 0, 0);
+    selected("selective: length under 5", BYTES(4, 0), 6, 1, 30);
+    selected("selective: past the end", BYTES(5, 0x71, 0x3E, 0xFF), 6, 2, 30);
+    selected("selective: no closing zero", BYTES(5, 0x71, 0x3E, 0xFF, 0xFF), 6, 3, 35);
+    selected("selective: bytes after the zero", BYTES(0, 0), 6, 4, 31);
+    selected("selective: batch as an entry",
+             BYTES(13, 2, 5, 0xFF, 0xFF, 7, 5, 1, 0xFF, 0xFF, 0, 9, 0, 0), 0, 0, 0);
+
+    /* PData is tested before the selection: 30 bytes have no list */
+    send_both("selective: no list, selected", 2, 0x0B, 0xFFFF, all.bits, sizeof all.bits, 5, 0, 0);
+    send_both("selective: no list, other nodes", 2, 0x0B, 0xFFFF, none.bits, sizeof none.bits, 5, 0, 0);
+    send_both("selective: no node set", 2, 0x0B, 0xFFFF, NO_BYTES, 5, 0, 0);
+    send_both("selective: wrong HWPID", 2, 0x0B, 0x1234, none.bits, sizeof none.bits, 7, 0, 0);
+    send_both("the next PCMD is unknown", 2, 0x0C, 0xFFFF, all.bits, sizeof all.bits, 2, 0, 0);
+}
+
 static void frc(void)
 {
     const uint8_t second[2] = {0x71, 1};
@@ -482,6 +568,116 @@ static void scenes(void)
     check("no room", grelfint_compile_default(book, sizeof book, 0, 1, out, 4095).refusal == 9);
 }
 
+/* Compiles for these nodes; refused, nothing is written. */
+static void chosen_refused(const char *name, const uint8_t *book, size_t book_length, size_t scene,
+                           grelfint_node_set nodes, size_t room, uint8_t refusal)
+{
+    static uint8_t out[GRELFINT_COMPILED], untouched[GRELFINT_COMPILED];
+    grelfint_compile_answer answer;
+
+    memset(out, 0xEE, sizeof out);
+    memset(untouched, 0xEE, sizeof untouched);
+    answer = grelfint_compile_selected(book, book_length, scene, nodes, 0x2471, out, room);
+    check(name, answer.refusal == refusal && answer.length == 0 && memcmp(out, untouched, sizeof out) == 0);
+    answer = grelfint_compile_selected_default(book, book_length, scene, nodes, out, room);
+    check(name, answer.refusal == refusal && answer.length == 0 && memcmp(out, untouched, sizeof out) == 0);
+}
+
+static void chosen_scenes(void)
+{
+    static const uint8_t book[] = {1, 4, 0, 2, 0, 0, 0x0A, 0, 0, 2, 0x64, 2};
+    static const uint8_t bad[] = {1, 4, 0, 1, 0, 32, 0, 0};
+    static const uint8_t want[] = {
+        1, 0x31,                      /* one request of 49 bytes */
+        0xFF, 0, 2, 0x0B, 0xFF, 0xFF, /* to all nodes: a selective batch */
+        2, 2, 0, 0, 0, 0, 0, 0, 0, 0, /* of nodes 1 and 9 */
+        0, 0, 0, 0, 0, 0, 0, 0, 0, 0,
+        0, 0, 0, 0, 0, 0, 0, 0, 0, 0,
+        0x0C, 0x71, 0, 0xFF, 0xFF, 5, 0, 0, 0, 0x0A, 0xE4, 2, /* set lamps 0 and 2 */
+        0,
+        0xEE /* not written */
+    };
+    static uint8_t out[GRELFINT_COMPILED];
+    const grelfint_node_set nodes = set_of(BYTES(1, 9)), none = {{0}}, address_0_too = {{3}};
+    grelfint_compile_answer answer;
+
+    memset(out, 0xEE, sizeof out);
+    answer = grelfint_compile_selected_default(book, sizeof book, 0, nodes, out, sizeof out);
+    check("chosen: nodes 1 and 9", answer.refusal == 0 && answer.length == sizeof want - 1 &&
+                                       memcmp(out, want, sizeof want) == 0);
+    answer = grelfint_compile_selected(book, sizeof book, 0, set_of(BYTES(239)), 0x2471, out, sizeof out);
+    check("chosen: node 239", answer.refusal == 0 && out[8] == 0 && out[9] == 0 && out[37] == 0x80);
+    check("chosen: HWPID", out[6] == 0x71 && out[7] == 0x24 && out[41] == 0x71 && out[42] == 0x24);
+
+    chosen_refused("chosen: no node", book, sizeof book - 1, 1, none, 0, 1);
+    chosen_refused("chosen: address 0", book, sizeof book - 1, 1, address_0_too, 0, 1);
+    chosen_refused("chosen: cut book", book, sizeof book - 1, 1, nodes, 0, 6);
+    chosen_refused("chosen: no such scene", bad, sizeof bad, 1, nodes, 0, 7);
+    chosen_refused("chosen: bad step", bad, sizeof bad, 0, nodes, 0, 82);
+    chosen_refused("chosen: no room", book, sizeof book, 0, nodes, GRELFINT_COMPILED - 1, 9);
+}
+
+/* A fresh node with three lamps at this address. */
+static grelfint_node node_at(uint16_t address)
+{
+    grelfint_settings settings = {address, 0x2471, 7, 3, 1};
+
+    return grelfint_start(settings).node;
+}
+
+/* The node after it has handled every request of a compiled scene, in order. The
+ * requests are broadcasts, so there is no response to send. */
+static grelfint_node handle_all(grelfint_node before, const uint8_t *compiled)
+{
+    const uint8_t requests = compiled[0];
+    const uint8_t *lengths = compiled + 1;
+    const uint8_t *frame = lengths + requests;
+    grelfint_node after = before;
+    size_t i;
+
+    for (i = 0; i < requests; i++) {
+        grelfint_request_answer answer =
+            grelfint_handle_request(after, frame, lengths[i], eeprom, sizeof eeprom, external, sizeof external,
+                                    response, GRELFINT_RESPONSE);
+
+        check("broadcast: no response", answer.refusal == 0 && answer.length == 0);
+        after = answer.node;
+        frame += lengths[i];
+    }
+    return after;
+}
+
+/* A gateway compiles a scene once, for nodes 1 and 9, and sends its requests to
+ * all nodes. Nodes 1 and 9 end as if they had executed the steps one by one;
+ * node 2, which receives the same requests, stays as it was. */
+static void one_scene_for_chosen_nodes(void)
+{
+    static const uint8_t book[] = {
+        1, 4, 0, 4,   /* one scene of four steps, which start at offset 4 */
+        0, 0, 10, 0,  /* set lamp 0 to 10 */
+        0, 2, 100, 2, /* set lamp 2 to 100 for two minutes */
+        1, 0, 5, 0,   /* raise lamp 0 by 5 */
+        2, 2, 40, 1   /* lower lamp 2 by 40, for one minute from then */
+    };
+    static uint8_t compiled[GRELFINT_COMPILED];
+    const grelfint_node first = node_at(1), second = node_at(2), ninth = node_at(9);
+    grelfint_node_set chosen = {{0}};
+    grelfint_compile_answer answer;
+    grelfint_node after;
+
+    chosen.bits[1 / 8] |= 1u << (1 % 8);
+    chosen.bits[9 / 8] |= 1u << (9 % 8);
+    answer = grelfint_compile_selected_default(book, sizeof book, 0, chosen, compiled, sizeof compiled);
+    check("broadcast: compiled to two requests", answer.refusal == 0 && compiled[0] == 2);
+
+    node = handle_all(first, compiled);
+    check("broadcast: node 1", lamp_is(0, 15, 0) && lamp_is(1, 0, 0) && lamp_is(2, 60, 60));
+    node = handle_all(ninth, compiled);
+    check("broadcast: node 9", lamp_is(0, 15, 0) && lamp_is(1, 0, 0) && lamp_is(2, 60, 60));
+    after = handle_all(second, compiled);
+    check("broadcast: node 2", same_node(&after, &second));
+}
+
 int main(void)
 {
     lamps();
@@ -492,10 +688,13 @@ int main(void)
     keeps();
     keep_ticks();
     broken_lists();
+    selective_batches();
     frc();
     gateway();
     scenes();
     bad_steps();
+    chosen_scenes();
+    one_scene_for_chosen_nodes();
     if (failed > 0) {
         printf("%d passed, %d failed\n", passed, failed);
         return 1;

@@ -1,7 +1,7 @@
 //! A node with its memories and response buffer, run on one of the sides; frames
 //! built from their fields; books built from steps.
-use crate::ffi::{Node, RequestAnswer, Settings};
-use crate::reference::{EEPROM_SIZE, EXTERNAL_SIZE};
+use crate::ffi::{Node, NodeSet, RequestAnswer, Settings};
+use crate::reference::{Parts, EEPROM_SIZE, EXTERNAL_SIZE};
 use crate::sides::Side;
 
 #[derive(Clone)]
@@ -68,12 +68,21 @@ impl Board {
         let (a, bytes) = self.send(&frame_of(1, pnum, pcmd, 0xFFFF, pdata));
         assert_eq!(bytes[..6], [1, 0, pnum, pcmd | 0x80, 0x71, 0x24]);
         assert_eq!(bytes[7], 7);
-        if (pnum, pcmd, bytes[6]) == (2, 5, 6) {
+        if matches!((pnum, pcmd, bytes[6]), (2, 5 | 0x0B, 6)) {
             assert!((1..=4).contains(&a.reason), "a broken list with reason {}", a.reason);
         } else {
             assert_eq!((a.reason, a.place), (0, 0), "not a broken list");
         }
         (bytes[6], bytes[8..].to_vec())
+    }
+
+    /// The node, and the memories without guard bytes.
+    pub fn parts(&mut self) -> Parts<'_> {
+        Parts {
+            node: self.node,
+            eeprom: &mut self.eeprom[..EEPROM_SIZE],
+            external: &mut self.external[..EXTERNAL_SIZE],
+        }
     }
 
     pub fn lamps(&self, n: usize) -> Vec<(u8, u16)> {
@@ -87,6 +96,11 @@ pub fn frame_of(nadr: u16, pnum: u8, pcmd: u8, hwpid: u16, pdata: &[u8]) -> Vec<
     frame.extend_from_slice(&hwpid.to_le_bytes());
     frame.extend_from_slice(pdata);
     frame
+}
+
+/// PData of a selective batch.
+pub fn selective_pdata(nodes: NodeSet, list: &[u8]) -> Vec<u8> {
+    [&nodes.bits[..], list].concat()
 }
 
 /// A well-formed book with these scenes.

@@ -1,6 +1,6 @@
 //! The reference's rules implemented for speed and without allocation, as the
 //! benchmark's baseline. `sessions.rs` compares it with the plain reference.
-use super::ffi::{CompileAnswer, Lamp, Node, NodeAnswer, RequestAnswer};
+use super::ffi::{CompileAnswer, Lamp, Node, NodeAnswer, NodeSet, RequestAnswer};
 
 fn sound(node: &Node) -> bool {
     let s = &node.settings;
@@ -46,6 +46,8 @@ struct Marks {
     load: bool,
     reason: u8,
     place: u8,
+    /// A selective batch for other nodes: not answered.
+    not_selected: bool,
 }
 
 #[inline]
@@ -89,17 +91,17 @@ pub fn handle_request(
         Err(error) => (error, 0),
     };
     let mut length = 0;
-    if !broadcast {
+    if !broadcast && !marks.not_selected {
         let s = &node.settings;
         let (a, h) = (s.address.to_le_bytes(), s.hwpid.to_le_bytes());
         response[..8].copy_from_slice(&[a[0], a[1], frame[2], frame[3] | 0x80, h[0], h[1], error, s.dpa_value]);
         length = 8 + data_length;
     }
-    let Marks { load, reason, place } = marks;
+    let Marks { load, reason, place, .. } = marks;
     RequestAnswer { refusal: 0, length, load, addressed: true, reason, place, node }
 }
 
-/// `data` is none for an entry of a batch, whose answer is not sent.
+/// `data` is none for an entry of a list, whose answer is not sent.
 #[inline]
 fn one(
     node: &mut Node,
@@ -131,8 +133,10 @@ fn one(
         (0x02, c) => {
             let Some(data) = data else { return Err(3) };
             match c {
-                0x05 => batch(node, m, p, marks),
+                0x05 if p.is_empty() => Err(5),
+                0x05 => run_list(node, m, p, 0, marks),
                 0x0A => code_check(m, p, data, &mut marks.load),
+                0x0B => selective_batch(node, m, p, marks),
                 _ => Err(2),
             }
         }
@@ -266,32 +270,43 @@ fn change(l: &mut Lamp, pcmd: u8, power: u8, seconds: u16) {
 
 /// Reason and place of a list's first fault; zeros for a sound list.
 #[inline]
-fn list_fault(p: &[u8]) -> (u8, usize) {
+fn list_fault(list: &[u8]) -> (u8, usize) {
     let mut i = 0;
-    while let Some(&l) = p.get(i) {
+    while let Some(&l) = list.get(i) {
         match l {
-            0 if i + 1 == p.len() => return (0, 0),
+            0 if i + 1 == list.len() => return (0, 0),
             0 => return (4, i + 1),
             1..=4 => return (1, i),
-            _ if i + l as usize > p.len() => return (2, i),
+            _ if i + l as usize > list.len() => return (2, i),
             _ => i += l as usize,
         }
     }
     (3, i)
 }
 
-fn batch(node: &mut Node, m: &mut Memories, p: &[u8], marks: &mut Marks) -> Result<usize, u8> {
-    if p.is_empty() {
+fn selective_batch(node: &mut Node, m: &mut Memories, p: &[u8], marks: &mut Marks) -> Result<usize, u8> {
+    let Some((nodes, list)) = p.split_first_chunk::<30>() else { return Err(5) };
+    if list.is_empty() {
         return Err(5);
     }
-    let (reason, place) = list_fault(p);
+    let address = node.settings.address as usize;
+    marks.not_selected = nodes[address / 8] >> (address % 8) & 1 == 0;
+    if marks.not_selected {
+        return Ok(0);
+    }
+    run_list(node, m, list, nodes.len(), marks)
+}
+
+/// `before` is the number of bytes in PData before the list.
+fn run_list(node: &mut Node, m: &mut Memories, list: &[u8], before: usize, marks: &mut Marks) -> Result<usize, u8> {
+    let (reason, place) = list_fault(list);
     if reason != 0 {
-        (marks.reason, marks.place) = (reason, place as u8);
+        (marks.reason, marks.place) = (reason, (before + place) as u8);
         return Err(6);
     }
     let mut i = 0;
-    while p[i] != 0 {
-        let entry = &p[i..i + p[i] as usize];
+    while list[i] != 0 {
+        let entry = &list[i..i + list[i] as usize];
         let _ = one(node, m, &entry[1..5], &entry[5..], None, &mut Marks::default());
         i += entry.len();
     }
@@ -378,10 +393,11 @@ fn steps_of(book: &[u8], scene: usize) -> Result<&[u8], u8> {
     Ok(&book[body])
 }
 
-/// Writes the entry that joins as many of the first steps as the rule allows.
+/// Writes the entry that joins as many of the first steps as the rule allows with
+/// at most `ENTRY` bytes of PData.
 /// Returns the entry's length and the number of step bytes consumed.
 #[inline]
-fn first_entry(steps: &[u8], h: [u8; 2], e: &mut [u8; 64]) -> (usize, usize) {
+fn first_entry<const ENTRY: usize>(steps: &[u8], h: [u8; 2], e: &mut [u8; 64]) -> (usize, usize) {
     let kind = steps[0];
     let lamps = kind <= 2;
     let mut size = if lamps { 4 } else { 1 }; // bytes of the entry's PData
@@ -393,7 +409,7 @@ fn first_entry(steps: &[u8], h: [u8; 2], e: &mut [u8; 64]) -> (usize, usize) {
         let more = if lamps && s[3] != 0 { 2 } else { 1 };
         if taken != 0 {
             let follows = if lamps { s[1] > before } else { s[1] == before + 1 };
-            if s[0] != kind || !follows || size + more > 50 {
+            if s[0] != kind || !follows || size + more > ENTRY {
                 break;
             }
         }
@@ -419,8 +435,9 @@ fn first_entry(steps: &[u8], h: [u8; 2], e: &mut [u8; 64]) -> (usize, usize) {
     (5 + size, taken)
 }
 
-/// The requests, one after the other, and the length of each.
-struct Requests {
+/// The requests, one after the other, and the length of each. A request is `FRONT`
+/// bytes and a list of at most `LIST`, closing zero included.
+struct Requests<const FRONT: usize, const LIST: usize> {
     bytes: [u8; 2048],
     used: usize,
     lengths: [u8; 64],
@@ -429,14 +446,14 @@ struct Requests {
     list: usize,
 }
 
-impl Requests {
+impl<const FRONT: usize, const LIST: usize> Requests<FRONT, LIST> {
     /// Appends an entry to the last request, or opens a new one if it does not fit.
     #[inline]
-    fn add(&mut self, entry: &[u8], header: &[u8; 6]) {
-        if self.count == 0 || self.list + entry.len() + 1 > 56 {
+    fn add(&mut self, entry: &[u8], front: &[u8; FRONT]) {
+        if self.count == 0 || self.list + entry.len() + 1 > LIST {
             self.close();
-            self.bytes[self.used..self.used + 6].copy_from_slice(header);
-            self.used += 6;
+            self.bytes[self.used..self.used + FRONT].copy_from_slice(front);
+            self.used += FRONT;
             self.count += 1;
             self.list = 0;
         }
@@ -451,19 +468,47 @@ impl Requests {
         if self.count != 0 {
             self.bytes[self.used] = 0;
             self.used += 1;
-            self.lengths[self.count - 1] = (6 + self.list + 1) as u8;
+            self.lengths[self.count - 1] = (FRONT + self.list + 1) as u8;
         }
     }
 }
 
-/// One pass over the steps: the output starts with the lengths, which are not
-/// known before, so the requests are first built in a scratch buffer.
+#[inline]
+fn refused(refusal: u8, step: u8) -> CompileAnswer {
+    CompileAnswer { refusal, step, length: 0 }
+}
+
 #[inline(never)]
 pub fn compile(book: &[u8], scene: usize, address: u16, hwpid: u16, out: &mut [u8]) -> CompileAnswer {
-    let refused = |refusal, step| CompileAnswer { refusal, step, length: 0 };
     if address.wrapping_sub(1) > 238 && address != 255 {
         return refused(1, 0);
     }
+    let (a, h) = (address.to_le_bytes(), hwpid.to_le_bytes());
+    compile_with::<6, 50, 56>(&[a[0], a[1], 2, 5, h[0], h[1]], book, scene, out)
+}
+
+#[inline(never)]
+pub fn compile_selected(book: &[u8], scene: usize, nodes: NodeSet, hwpid: u16, out: &mut [u8]) -> CompileAnswer {
+    if nodes.bits[0] & 1 != 0 || nodes.bits == [0; 30] {
+        return refused(1, 0);
+    }
+    let h = hwpid.to_le_bytes();
+    let mut front = [0; 36];
+    front[..6].copy_from_slice(&[0xFF, 0, 2, 0x0B, h[0], h[1]]);
+    front[6..].copy_from_slice(&nodes.bits);
+    compile_with::<36, 20, 26>(&front, book, scene, out)
+}
+
+/// One pass over the steps: the output starts with the lengths, which are not
+/// known before, so the requests are first built in a scratch buffer. The front
+/// of a request is its header and what comes before the list.
+#[inline(always)]
+fn compile_with<const FRONT: usize, const ENTRY: usize, const LIST: usize>(
+    front: &[u8; FRONT],
+    book: &[u8],
+    scene: usize,
+    out: &mut [u8],
+) -> CompileAnswer {
     let steps = match steps_of(book, scene) {
         Ok(steps) => steps,
         Err(refusal) => return refused(refusal, 0),
@@ -477,14 +522,13 @@ pub fn compile(book: &[u8], scene: usize, address: u16, hwpid: u16, out: &mut [u
     if out.len() < 4096 {
         return refused(9, 0);
     }
-    let (a, h) = (address.to_le_bytes(), hwpid.to_le_bytes());
-    let header = [a[0], a[1], 2, 5, h[0], h[1]];
-    let mut r = Requests { bytes: [0; 2048], used: 0, lengths: [0; 64], count: 0, list: 0 };
+    let hwpid = [front[4], front[5]];
+    let mut r = Requests::<FRONT, LIST> { bytes: [0; 2048], used: 0, lengths: [0; 64], count: 0, list: 0 };
     let mut rest = steps;
     let mut entry = [0u8; 64];
     while !rest.is_empty() {
-        let (size, taken) = first_entry(rest, h, &mut entry);
-        r.add(&entry[..size], &header);
+        let (size, taken) = first_entry::<ENTRY>(rest, hwpid, &mut entry);
+        r.add(&entry[..size], front);
         rest = &rest[taken..];
     }
     r.close();

@@ -34,6 +34,34 @@ impl Node {
     };
 }
 
+/// Bit a % 8 of byte a / 8 for address a.
+#[repr(C)]
+#[derive(Clone, Copy, Debug, PartialEq, Eq)]
+pub struct NodeSet {
+    pub bits: [u8; 30],
+}
+
+impl NodeSet {
+    /// The set of these addresses, each below 240.
+    pub fn of(addresses: impl IntoIterator<Item = u16>) -> NodeSet {
+        let mut set = NodeSet { bits: [0; 30] };
+        for address in addresses {
+            set.bits[address as usize / 8] |= 1 << (address % 8);
+        }
+        set
+    }
+
+    /// The same set, but with or without this address.
+    pub fn with(self, address: u16, named: bool) -> NodeSet {
+        let mut set = self;
+        let only = NodeSet::of([address]).bits;
+        for (byte, bit) in set.bits.iter_mut().zip(only) {
+            *byte = if named { *byte | bit } else { *byte & !bit };
+        }
+        set
+    }
+}
+
 #[repr(C)]
 #[derive(Clone, Copy, Debug, PartialEq, Eq)]
 pub struct NodeAnswer {
@@ -167,6 +195,23 @@ mod raw {
             out: *mut u8,
             out_length: usize,
         ) -> CompileAnswer;
+        pub fn grelfint_compile_selected(
+            book: *const u8,
+            book_length: usize,
+            scene: usize,
+            nodes: NodeSet,
+            hwpid: u16,
+            out: *mut u8,
+            out_length: usize,
+        ) -> CompileAnswer;
+        pub fn grelfint_compile_selected_default(
+            book: *const u8,
+            book_length: usize,
+            scene: usize,
+            nodes: NodeSet,
+            out: *mut u8,
+            out_length: usize,
+        ) -> CompileAnswer;
     }
 }
 
@@ -254,4 +299,16 @@ pub fn compile(book: &[u8], scene: usize, address: u16, hwpid: u16, out: &mut [u
 
 pub fn compile_default(book: &[u8], scene: usize, address: u16, out: &mut [u8]) -> CompileAnswer {
     unsafe { raw::grelfint_compile_default(book.as_ptr(), book.len(), scene, address, out.as_mut_ptr(), out.len()) }
+}
+
+pub fn compile_selected(book: &[u8], scene: usize, nodes: NodeSet, hwpid: u16, out: &mut [u8]) -> CompileAnswer {
+    unsafe {
+        raw::grelfint_compile_selected(book.as_ptr(), book.len(), scene, nodes, hwpid, out.as_mut_ptr(), out.len())
+    }
+}
+
+pub fn compile_selected_default(book: &[u8], scene: usize, nodes: NodeSet, out: &mut [u8]) -> CompileAnswer {
+    unsafe {
+        raw::grelfint_compile_selected_default(book.as_ptr(), book.len(), scene, nodes, out.as_mut_ptr(), out.len())
+    }
 }

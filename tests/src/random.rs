@@ -1,8 +1,8 @@
 //! Random nodes, boards, frames and books: mostly valid, often at a limit, and
 //! occasionally with each kind of fault.
-use crate::board::{book_of, frame_of, Board, Lengths};
-use crate::ffi::{Lamp, Node, Settings};
-use crate::reference::{self, EEPROM_SIZE, EXTERNAL_SIZE};
+use crate::board::{book_of, frame_of, selective_pdata, Board, Lengths};
+use crate::ffi::{Lamp, Node, NodeSet, Settings};
+use crate::reference::{self, EEPROM_SIZE, EXTERNAL_SIZE, NODE_SET};
 use crate::rng::Rng;
 use crate::sides::Side;
 
@@ -65,6 +65,22 @@ pub fn node(g: &mut Rng) -> Node {
     }
     g.fill(&mut node.ram);
     node
+}
+
+/// Two to six nodes with different addresses; several have the profile of the first.
+pub fn network(g: &mut Rng) -> Vec<Node> {
+    let mut nodes = vec![node(g)];
+    for _ in 0..g.within(1, 5) {
+        let mut next = node(g);
+        while nodes.iter().any(|n| n.settings.address == next.settings.address) {
+            next.settings.address = g.within(1, 239) as u16;
+        }
+        if g.chance(1, 2) {
+            next.settings.hwpid = nodes[0].settings.hwpid;
+        }
+        nodes.push(next);
+    }
+    nodes
 }
 
 /// A sound node with one or two fields changed, usually to an invalid value; the
@@ -204,7 +220,7 @@ fn change(g: &mut Rng, bytes: &mut Vec<u8>) {
     }
 }
 
-/// PNUM, PCMD and PData of a request that is also allowed inside a batch.
+/// PNUM, PCMD and PData of a request that is also allowed inside a list.
 fn plain_request(g: &mut Rng, node: &Node, limit: usize) -> (u8, u8, Vec<u8>) {
     let (pnum, pcmd, mut pdata) = match g.below(100) {
         0..=49 => (0x71, g.below(3) as u8, lamp_pdata(g, node.settings.lamp_count, limit)),
@@ -217,7 +233,7 @@ fn plain_request(g: &mut Rng, node: &Node, limit: usize) -> (u8, u8, Vec<u8>) {
         88..=93 => (5, 1, memory_pdata(g, 5, false, limit)),
         _ => {
             let pnum = if g.chance(2, 3) { g.pick(&[2, 3, 4, 5, 0x71]) } else { g.byte() };
-            let pcmd = if g.chance(1, 2) { g.pick(&[0, 1, 2, 3, 5, 0x0A, 0x3E, 0x80, 0x81]) } else { g.byte() };
+            let pcmd = if g.chance(1, 2) { g.pick(&[0, 1, 2, 3, 5, 0x0A, 0x0B, 0x3E, 0x80, 0x81]) } else { g.byte() };
             let mut data = vec![0; g.within(0, limit.min(12))];
             g.fill(&mut data);
             (pnum, pcmd, data)
@@ -253,50 +269,75 @@ pub fn wrong_hwpid(g: &mut Rng, node: &Node) -> u16 {
 fn entry(g: &mut Rng, node: &Node, room: usize) -> Vec<u8> {
     let limit = if g.chance(1, 4) { room - 5 } else { (room - 5).min(g.within(0, 20)) };
     let (pnum, pcmd, pdata) =
-        if g.chance(1, 20) { (2, g.pick(&[5, 0x0A]), vec![0; limit.min(7)]) } else { plain_request(g, node, limit) };
+        if g.chance(1, 20) { forbidden_request(g, node, limit) } else { plain_request(g, node, limit) };
     let mut entry = vec![5 + pdata.len() as u8, pnum, pcmd];
     entry.extend_from_slice(&hwpid(g, node).to_le_bytes());
     entry.extend_from_slice(&pdata);
     entry
 }
 
-fn batch_pdata(g: &mut Rng, node: &Node) -> Vec<u8> {
+/// A request that is not allowed inside a list. If the room allows, it would be right by itself, and the lists would set
+/// lamp 0.
+fn forbidden_request(g: &mut Rng, node: &Node, limit: usize) -> (u8, u8, Vec<u8>) {
+    let list = [10, 0x71, 0, 0xFF, 0xFF, 1, 0, 0, 0, g.within(0, 100) as u8, 0];
+    let (pcmd, mut pdata) = match g.below(3) {
+        0 => (5, list.to_vec()),
+        1 => (0x0A, vec![0, 0, 0, 64, 0, g.byte(), g.byte()]),
+        _ => (0x0B, selective_pdata(node_set(g, node.settings.address), &list)),
+    };
+    pdata.truncate(limit);
+    (2, pcmd, pdata)
+}
+
+/// The most bytes of a batch's list.
+pub const BATCH_LIST: usize = 56;
+/// The most bytes of a selective batch's list.
+pub const SELECTIVE_LIST: usize = BATCH_LIST - NODE_SET;
+
+/// A list of at most `most` bytes; some are broken.
+pub fn any_list(g: &mut Rng, node: &Node, most: usize) -> Vec<u8> {
     if g.chance(1, 8) {
         let (reason, whole) = (g.within(1, 4) as u8, g.within(0, 8));
-        return broken_list(g, node, reason, whole).0;
+        return broken_list(g, node, reason, whole, most).0;
     }
+    let mut list = sound_list(g, node, most);
+    if g.chance(1, 16) {
+        spoil_list(g, &mut list);
+    }
+    list.truncate(most);
+    list
+}
+
+/// A list of at most `most` bytes that can be read.
+fn sound_list(g: &mut Rng, node: &Node, most: usize) -> Vec<u8> {
     let mut list = Vec::new();
     let wanted = g.within(0, 8);
     for _ in 0..wanted {
-        let room = 55 - list.len();
+        let room = most - 1 - list.len();
         if room < 5 {
             break;
         }
         list.extend_from_slice(&entry(g, node, room));
     }
     list.push(0);
-    if g.chance(1, 16) {
-        spoil_list(g, &mut list);
-    }
-    list.truncate(56);
     list
 }
 
-/// A list that breaks for this reason after `whole` whole entries, and the place of the fault. Without its closing zero
-/// a list has at least one entry.
-pub fn broken_list(g: &mut Rng, node: &Node, reason: u8, whole: usize) -> (Vec<u8>, u8) {
+/// A list of at most `most` bytes that breaks for this reason after `whole` whole entries, or as many as it can hold, and
+/// the place of the fault in the list. Without its closing zero a list has at least one entry.
+pub fn broken_list(g: &mut Rng, node: &Node, reason: u8, whole: usize, most: usize) -> (Vec<u8>, u8) {
     let (whole, fewest) = match reason {
         3 => (whole.max(1), 0),
         4 => (whole, 2),
         _ => (whole, 1),
     };
     let mut list = Vec::new();
-    for left in (0..whole).rev() {
-        let room = 56 - list.len() - 5 * left - fewest;
+    for left in (0..whole.min((most - fewest) / 5)).rev() {
+        let room = most - list.len() - 5 * left - fewest;
         list.extend_from_slice(&entry(g, node, room));
     }
     let end = list.len();
-    let room = 56 - end;
+    let room = most - end;
     let place = match reason {
         1 => {
             list.push(g.within(1, 4) as u8);
@@ -342,6 +383,57 @@ fn spoil_list(g: &mut Rng, list: &mut Vec<u8>) {
     }
 }
 
+/// No, one, several or all nodes, `own` in most of the sets; in some sets address 0, which is no node's.
+pub fn node_set(g: &mut Rng, own: u16) -> NodeSet {
+    let named = g.chance(3, 5);
+    let zero = g.chance(1, 6);
+    any_nodes(g).with(own, named).with(0, zero)
+}
+
+/// A set that the compiler accepts, of one, several or all nodes; each of these nodes is in most of the sets.
+pub fn good_node_set(g: &mut Rng, nodes: &[Node]) -> NodeSet {
+    let mut set = any_nodes(g);
+    for node in nodes {
+        let named = g.chance(2, 3);
+        set = set.with(node.settings.address, named);
+    }
+    if set == NodeSet::of([]) {
+        set = NodeSet::of([g.within(1, 239) as u16]);
+    }
+    set
+}
+
+/// A set that the compiler refuses: address 0, alone or with others, or nothing.
+pub fn bad_node_set(g: &mut Rng) -> NodeSet {
+    match g.below(4) {
+        0 => NodeSet::of([]),
+        1 => NodeSet::of([0]),
+        _ => any_nodes(g).with(0, true),
+    }
+}
+
+/// No, one, several or all of the addresses 1 to 239.
+fn any_nodes(g: &mut Rng) -> NodeSet {
+    let count = match g.below(6) {
+        0 => 0,
+        1 => 1,
+        2 => g.within(2, 10),
+        3 => return NodeSet::of(1..=239),
+        _ => g.within(2, 200),
+    };
+    NodeSet::of((0..count).map(|_| g.within(1, 239) as u16))
+}
+
+/// PData of a selective batch; some are too short to have a list.
+fn any_selective_pdata(g: &mut Rng, node: &Node) -> Vec<u8> {
+    let nodes = node_set(g, node.settings.address);
+    match g.below(14) {
+        0 => nodes.bits[..edge(g, 0, NODE_SET)].to_vec(),
+        1 => selective_pdata(nodes, &[if g.chance(1, 2) { 0 } else { g.byte() }]),
+        _ => selective_pdata(nodes, &any_list(g, node, SELECTIVE_LIST)),
+    }
+}
+
 fn code_check_pdata(g: &mut Rng, external: &[u8]) -> Vec<u8> {
     let mut flags = g.below(4) as u8;
     let unit = if flags & 2 == 0 { 64 } else { 20 };
@@ -382,9 +474,10 @@ pub fn frame(g: &mut Rng, node: &Node, external: &[u8]) -> Vec<u8> {
         4..=10 => 0x00FF,
         _ => own,
     };
-    let (pnum, pcmd, mut pdata) = match g.below(10) {
-        0..=2 => (2, 5, batch_pdata(g, node)),
-        3 => (2, 0x0A, code_check_pdata(g, external)),
+    let (pnum, pcmd, mut pdata) = match g.below(14) {
+        0..=2 => (2, 5, any_list(g, node, BATCH_LIST)),
+        3..=6 => (2, 0x0B, any_selective_pdata(g, node)),
+        7 => (2, 0x0A, code_check_pdata(g, external)),
         _ => plain_request(g, node, 56),
     };
     pdata.truncate(56);

@@ -1,8 +1,9 @@
-//! Document 01, "Exact rules and what to build", with changes 1/12 and 2/12 of
+//! Document 01, "Exact rules and what to build", with changes 1/12 to 3/12 of
 //! document 02, implemented as plainly as possible, without regard to speed.
 //! Headings name document 01's sections.
 use super::ffi::{
-    CompileAnswer, FrcAnswer, Lamp, LengthAnswer, Node, NodeAnswer, RequestAnswer, SendAnswer, Settings, SlotAnswer,
+    CompileAnswer, FrcAnswer, Lamp, LengthAnswer, Node, NodeAnswer, NodeSet, RequestAnswer, SendAnswer, Settings,
+    SlotAnswer,
 };
 
 // ---- Frames: ErrN ----
@@ -99,7 +100,7 @@ pub struct Parts<'a> {
     pub external: &'a mut [u8],
 }
 
-/// A request without its address, or an entry of a batch.
+/// A request without its address, or an entry of a list.
 pub struct Request<'a> {
     pub pnum: u8,
     pub pcmd: u8,
@@ -111,7 +112,7 @@ pub struct Request<'a> {
 type DataOr<E> = Result<(Vec<u8>, bool), E>;
 type DataOrError = DataOr<u8>;
 
-/// ErrN and, if the list of a batch is broken, the reason and the place in PData; else 0 and 0.
+/// ErrN and, if the list is broken, the reason and the place in PData; else 0 and 0.
 #[derive(Debug)]
 pub struct RequestError {
     pub errn: u8,
@@ -151,7 +152,10 @@ pub fn handle_request(
     }
     let request = request_in(frame);
     let mut parts = Parts { node, eeprom, external };
-    let (RequestError { errn, reason, place }, data, load) = match do_request(&mut parts, &request) {
+    let Some(done) = do_request(&mut parts, &request) else {
+        return RequestAnswer { addressed: true, ..nothing_done(0) }; // not selected
+    };
+    let (RequestError { errn, reason, place }, data, load) = match done {
         Ok((data, load)) => (RequestError::from(0), data, load), // ErrN 0: none
         Err(error) => (error, Vec::new(), false),
     };
@@ -180,20 +184,28 @@ pub fn wrong_hwpid(node: &Node, request: &Request) -> bool {
     request.hwpid != node.settings.hwpid && request.hwpid != 0xFFFF
 }
 
-fn do_request(parts: &mut Parts, request: &Request) -> DataOr<RequestError> {
+/// None for a selective batch that does not select this node: there is no answer, whatever NADR is.
+fn do_request(parts: &mut Parts, request: &Request) -> Option<DataOr<RequestError>> {
     if wrong_hwpid(&parts.node, request) {
-        return Err(HWPID.into());
+        return Some(Err(HWPID.into()));
     }
-    let done = match (request.pnum, request.pcmd) {
-        (0x02, 0x05) => return do_batch(parts, request.pdata).map(|_| (Vec::new(), false)),
+    let list_done = match (request.pnum, request.pcmd) {
+        (0x02, 0x05) => do_batch(parts, request.pdata),
+        (0x02, 0x0B) => do_selective_batch(parts, request.pdata)?,
+        _ => return Some(do_without_list(parts, request).map_err(RequestError::from)),
+    };
+    Some(list_done.map(|_| (Vec::new(), false)))
+}
+
+fn do_without_list(parts: &mut Parts, request: &Request) -> DataOrError {
+    match (request.pnum, request.pcmd) {
         (0x02, 0x0A) => code_check(parts, request.pdata),
         (0x02, _) => Err(PCMD),
         _ => do_peripheral(parts, request),
-    };
-    Ok(done?)
+    }
 }
 
-/// An entry of a batch.
+/// An entry of a list.
 pub fn do_entry(parts: &mut Parts, entry: &Request) -> DataOrError {
     if wrong_hwpid(&parts.node, entry) {
         return Err(HWPID);
@@ -204,7 +216,7 @@ pub fn do_entry(parts: &mut Parts, entry: &Request) -> DataOrError {
     do_peripheral(parts, entry)
 }
 
-/// Memories and lights: allowed in a request and in an entry of a batch.
+/// Memories and lights: allowed in a request and in an entry of a list.
 fn do_peripheral(parts: &mut Parts, request: &Request) -> DataOrError {
     let Request { pnum, pcmd, pdata, .. } = *request;
     match pnum {
@@ -396,7 +408,7 @@ fn new_level(pcmd: u8, level: u8, power: u8) -> u8 {
 
 // ---- OS ----
 /// The entries of a list, or its first fault in reading order.
-pub fn read_batch(list: &[u8]) -> Result<Vec<Request<'_>>, RequestError> {
+pub fn read_list(list: &[u8]) -> Result<Vec<Request<'_>>, RequestError> {
     let broken = |reason, place: usize| Err(RequestError { errn: DATA, reason, place: place as u8 });
     let mut entries = Vec::new();
     let mut at = 0;
@@ -425,12 +437,40 @@ pub fn read_batch(list: &[u8]) -> Result<Vec<Request<'_>>, RequestError> {
     Ok(entries)
 }
 
-/// The ErrN of each entry, which is never sent, or the error of the batch.
-pub fn do_batch(parts: &mut Parts, pdata: &[u8]) -> Result<Vec<u8>, RequestError> {
+/// The ErrN of each entry, which is never sent, or the error of the request.
+type EntryErrors = Result<Vec<u8>, RequestError>;
+
+fn do_batch(parts: &mut Parts, pdata: &[u8]) -> EntryErrors {
     if pdata.is_empty() {
         return Err(DATA_LEN.into());
     }
-    let entries = read_batch(pdata)?;
+    do_list(parts, pdata)
+}
+
+/// Bytes of PData before the list of a selective batch: the selected nodes.
+pub const NODE_SET: usize = 30;
+
+/// Whether a node set names this address, which is below 240.
+pub fn names(nodes: &[u8], address: u16) -> bool {
+    nodes[address as usize / 8] & (1 << (address % 8)) != 0
+}
+
+/// None if the node is not selected; the list is then not read.
+fn do_selective_batch(parts: &mut Parts, pdata: &[u8]) -> Option<EntryErrors> {
+    if pdata.len() < NODE_SET + 1 {
+        return Some(Err(DATA_LEN.into()));
+    }
+    let (nodes, list) = pdata.split_at(NODE_SET);
+    if !names(nodes, parts.node.settings.address) {
+        return None;
+    }
+    let in_pdata = |e: RequestError| RequestError { place: e.place + NODE_SET as u8, ..e };
+    Some(do_list(parts, list).map_err(in_pdata))
+}
+
+/// A place in the error counts in the list.
+pub fn do_list(parts: &mut Parts, list: &[u8]) -> EntryErrors {
+    let entries = read_list(list)?;
     let mut errors = Vec::new();
     for entry in entries {
         errors.push(match do_entry(parts, &entry) {
@@ -651,8 +691,30 @@ fn do_lamp_step(lamp: &mut Lamp, kind: u8, value: u8, time: u8) {
     };
 }
 
+/// What the compiler's two modes differ in.
+struct Mode {
+    nadr: u16,
+    pcmd: u8,
+    /// The bytes of PData before the list.
+    before_list: Vec<u8>,
+    /// The most bytes of an entry's PData.
+    entry_limit: usize,
+    /// The most bytes of a list, closing zero included.
+    list_limit: usize,
+}
+
+impl Mode {
+    fn batch(address: u16) -> Mode {
+        Mode { nadr: address, pcmd: 0x05, before_list: Vec::new(), entry_limit: 50, list_limit: 56 }
+    }
+
+    fn selective_batch(nodes: &NodeSet) -> Mode {
+        Mode { nadr: 0x00FF, pcmd: 0x0B, before_list: nodes.bits.to_vec(), entry_limit: 20, list_limit: 26 }
+    }
+}
+
 /// Groups the steps into entries by the joining rule.
-fn join(steps: &[Step]) -> Vec<Vec<Step>> {
+fn join(steps: &[Step], entry_limit: usize) -> Vec<Vec<Step>> {
     let mut entries: Vec<Vec<Step>> = Vec::new();
     for &step in steps {
         if let Some(entry) = entries.last_mut() {
@@ -660,7 +722,7 @@ fn join(steps: &[Step]) -> Vec<Vec<Step>> {
             let follows = if step[0] <= 2 { step[1] > before[1] } else { step[1] as usize == before[1] as usize + 1 };
             let mut longer = entry.clone();
             longer.push(step);
-            if step[0] == before[0] && follows && entry_pdata(&longer).len() <= 50 {
+            if step[0] == before[0] && follows && entry_pdata(&longer).len() <= entry_limit {
                 *entry = longer;
                 continue;
             }
@@ -708,18 +770,19 @@ fn entry_bytes(steps: &[Step], hwpid: u16) -> Vec<u8> {
 }
 
 /// The requests of a scene, all of whose steps are good.
-pub fn requests(steps: &[Step], address: u16, hwpid: u16) -> Vec<Vec<u8>> {
+fn requests(steps: &[Step], mode: &Mode, hwpid: u16) -> Vec<Vec<u8>> {
     let mut lists: Vec<Vec<u8>> = Vec::new();
-    for entry in join(steps) {
+    for entry in join(steps, mode.entry_limit) {
         let bytes = entry_bytes(&entry, hwpid);
         match lists.last_mut() {
-            Some(list) if list.len() + bytes.len() + 1 <= 56 => list.extend_from_slice(&bytes),
+            Some(list) if list.len() + bytes.len() + 1 <= mode.list_limit => list.extend_from_slice(&bytes),
             _ => lists.push(bytes),
         }
     }
     let mut all = Vec::new();
     for list in lists {
-        let mut request = vec![low(address), high(address), 0x02, 0x05, low(hwpid), high(hwpid)];
+        let mut request = vec![low(mode.nadr), high(mode.nadr), 0x02, mode.pcmd, low(hwpid), high(hwpid)];
+        request.extend_from_slice(&mode.before_list);
         request.extend_from_slice(&list);
         request.push(0);
         all.push(request);
@@ -727,11 +790,27 @@ pub fn requests(steps: &[Step], address: u16, hwpid: u16) -> Vec<Vec<u8>> {
     all
 }
 
+fn refused(refusal: u8, step: u8) -> CompileAnswer {
+    CompileAnswer { refusal, step, length: 0 }
+}
+
 pub fn compile(book: &[u8], scene: usize, address: u16, hwpid: u16, out: &mut [u8]) -> CompileAnswer {
-    let refused = |refusal, step| CompileAnswer { refusal, step, length: 0 };
     if !((1..=239).contains(&address) || address == 255) {
         return refused(1, 0);
     }
+    compile_in(&Mode::batch(address), book, scene, hwpid, out)
+}
+
+pub fn compile_selected(book: &[u8], scene: usize, nodes: NodeSet, hwpid: u16, out: &mut [u8]) -> CompileAnswer {
+    let named: Vec<u16> = (0..240).filter(|&address| names(&nodes.bits, address)).collect();
+    if named.is_empty() || named.contains(&0) {
+        return refused(1, 0);
+    }
+    compile_in(&Mode::selective_batch(&nodes), book, scene, hwpid, out)
+}
+
+/// All refusals but 1, which depends on the mode, and the output.
+fn compile_in(mode: &Mode, book: &[u8], scene: usize, hwpid: u16, out: &mut [u8]) -> CompileAnswer {
     let Some(scenes) = read_book(book) else { return refused(6, 0) };
     if scene >= scenes.len() {
         return refused(7, 0);
@@ -745,7 +824,7 @@ pub fn compile(book: &[u8], scene: usize, address: u16, hwpid: u16, out: &mut [u
     if out.len() < 4096 {
         return refused(9, 0);
     }
-    let list = requests(steps, address, hwpid);
+    let list = requests(steps, mode, hwpid);
     let mut bytes = vec![list.len() as u8];
     for request in &list {
         bytes.push(request.len() as u8);
@@ -759,6 +838,10 @@ pub fn compile(book: &[u8], scene: usize, address: u16, hwpid: u16, out: &mut [u
 
 pub fn compile_default(book: &[u8], scene: usize, address: u16, out: &mut [u8]) -> CompileAnswer {
     compile(book, scene, address, 0xFFFF, out)
+}
+
+pub fn compile_selected_default(book: &[u8], scene: usize, nodes: NodeSet, out: &mut [u8]) -> CompileAnswer {
+    compile_selected(book, scene, nodes, 0xFFFF, out)
 }
 
 /// What `sceneshow` prints for a book.

@@ -17,6 +17,8 @@ pub struct Side {
     pub earliest_send: fn(u8, usize, u16, u8, usize, bool, bool) -> SendAnswer,
     pub compile: fn(&[u8], usize, u16, u16, &mut [u8]) -> CompileAnswer,
     pub compile_default: fn(&[u8], usize, u16, &mut [u8]) -> CompileAnswer,
+    pub compile_selected: fn(&[u8], usize, NodeSet, u16, &mut [u8]) -> CompileAnswer,
+    pub compile_selected_default: fn(&[u8], usize, NodeSet, &mut [u8]) -> CompileAnswer,
 }
 
 macro_rules! side_of {
@@ -34,6 +36,8 @@ macro_rules! side_of {
             earliest_send: $module::earliest_send,
             compile: $module::compile,
             compile_default: $module::compile_default,
+            compile_selected: $module::compile_selected,
+            compile_selected_default: $module::compile_selected_default,
         }
     };
 }
@@ -53,5 +57,7 @@ pub const FAST: Side = Side {
     handle_request: fast::handle_request,
     compile: fast::compile,
     compile_default: |book, scene, address, out| fast::compile(book, scene, address, 0xFFFF, out),
+    compile_selected: fast::compile_selected,
+    compile_selected_default: |book, scene, nodes, out| fast::compile_selected(book, scene, nodes, 0xFFFF, out),
     ..REFERENCE
 };

@@ -3,14 +3,13 @@
 //! the number of calls in `random_sessions`. A failure prints all inputs.
 //! After every call the whole answer and every whole buffer are compared, with
 //! the guard bytes after it, including buffers that are only read.
-use grelfint_tests::board::{book_of, frame_of, Board, Lengths};
-use grelfint_tests::ffi::{CompileAnswer, Lamp, Node, RequestAnswer, Settings};
-use grelfint_tests::random::{self, EXCESS, GUARD};
-use grelfint_tests::reference::{self as r, EEPROM_SIZE, EXTERNAL_SIZE};
+use grelfint_tests::board::{book_of, frame_of, selective_pdata, Board, Lengths};
+use grelfint_tests::ffi::{CompileAnswer, Lamp, Node, NodeSet, RequestAnswer, Settings};
+use grelfint_tests::random::{self, BATCH_LIST, EXCESS, GUARD, SELECTIVE_LIST};
+use grelfint_tests::reference::{self as r, EEPROM_SIZE, EXTERNAL_SIZE, NODE_SET};
 use grelfint_tests::rng::{number, seed, Rng};
+use grelfint_tests::seen::{AtLimit, BrokenList, Compiled, Profile, Requests, Seen, SelectiveBatch, SetKind, Taker};
 use grelfint_tests::sides::{Side, FAST, LIBRARY, REFERENCE};
-use std::collections::BTreeMap;
-use std::fmt::Debug;
 use std::hint::black_box;
 
 /// Placed before and after a record that a call writes.
@@ -84,172 +83,6 @@ impl Input {
     /// The optimizer may assume that a shared slice is unchanged; `black_box` keeps the comparison.
     fn difference(&self, name: &str) -> String {
         difference(name, black_box(&self.bytes), &self.kept)
-    }
-}
-
-/// Counts of what the calls answered, to detect a generator that misses cases.
-#[derive(Default, Debug)]
-struct Seen {
-    calls: u64,
-    refusals: Counts<u8>,
-    errors: [u64; 8],
-    loads: u64,
-    requests: Requests,
-    broken_lists: Counts<BrokenList>,
-    keeps: Counts<Keep>,
-    keeps_in: Counts<(LampRequest, Keep)>,
-    bad_steps: Counts<BadStep>,
-}
-
-/// How often each case was seen.
-#[derive(Debug)]
-struct Counts<K>(BTreeMap<K, u64>);
-
-impl<K> Default for Counts<K> {
-    fn default() -> Counts<K> {
-        Counts(BTreeMap::new())
-    }
-}
-
-impl<K: Ord + Debug> Counts<K> {
-    fn add(&mut self, case: K) {
-        *self.0.entry(case).or_default() += 1;
-    }
-
-    fn assert_each(&self, cases: impl Iterator<Item = K>, least: u64) {
-        for case in cases {
-            let seen = self.0.get(&case).copied().unwrap_or(0);
-            assert!(seen >= least, "{case:?} seen {seen} times, less than {least}: {self:?}");
-        }
-    }
-}
-
-#[derive(PartialEq, Eq, PartialOrd, Ord, Debug)]
-struct BrokenList {
-    reason: u8,
-    broadcast: bool,
-}
-
-impl BrokenList {
-    fn every() -> impl Iterator<Item = BrokenList> {
-        (1..=4).flat_map(|reason| [false, true].map(|broadcast| BrokenList { reason, broadcast }))
-    }
-}
-
-/// A keep entry that was executed on an implemented lamp.
-#[derive(Clone, Copy, PartialEq, Eq, PartialOrd, Ord, Debug)]
-struct Keep {
-    with_time: bool,
-    /// Before the entry.
-    lamp: LampState,
-}
-
-#[derive(Clone, Copy, PartialEq, Eq, PartialOrd, Ord, Debug)]
-enum LampState {
-    Off,
-    /// At a level, without a timer.
-    Lit,
-    Timed,
-}
-
-impl LampState {
-    fn of(lamp: Lamp) -> LampState {
-        match (lamp.level, lamp.seconds) {
-            (0, _) => LampState::Off,
-            (_, 0) => LampState::Lit,
-            _ => LampState::Timed,
-        }
-    }
-}
-
-impl Keep {
-    /// Those of a request that was executed on this node.
-    fn all_in(request: &r::Request, node: &Node) -> Vec<Keep> {
-        let lamps = &node.lamps[..node.settings.lamp_count as usize];
-        let entries = r::read_lamp_entries(request.pdata).expect("executed").into_iter();
-        let keeps = entries.filter(|e| e.power == r::KEEP && e.lamp < lamps.len());
-        keeps.map(|e| Keep { with_time: e.seconds.is_some(), lamp: LampState::of(lamps[e.lamp]) }).collect()
-    }
-
-    fn every() -> impl Iterator<Item = Keep> {
-        let states = [LampState::Off, LampState::Lit, LampState::Timed].into_iter();
-        states.flat_map(|lamp| [false, true].map(|with_time| Keep { with_time, lamp }))
-    }
-}
-
-/// How a set, raise or lower was sent.
-#[derive(Clone, Copy, PartialEq, Eq, PartialOrd, Ord, Debug)]
-struct LampRequest {
-    pcmd: u8,
-    in_batch: bool,
-    broadcast: bool,
-}
-
-impl LampRequest {
-    fn every() -> impl Iterator<Item = LampRequest> {
-        let ways = [(false, false), (false, true), (true, false), (true, true)];
-        (0..=2).flat_map(move |pcmd| ways.map(|(in_batch, broadcast)| LampRequest { pcmd, in_batch, broadcast }))
-    }
-}
-
-#[derive(PartialEq, Eq, PartialOrd, Ord, Debug)]
-struct BadStep {
-    refusal: u8,
-    /// The output buffer is too short as well.
-    short: bool,
-}
-
-impl BadStep {
-    fn every() -> impl Iterator<Item = BadStep> {
-        (81..=84).flat_map(|refusal| [false, true].map(|short| BadStep { refusal, short }))
-    }
-}
-
-/// Requests by outcome.
-#[derive(Default, Debug, PartialEq)]
-struct Requests {
-    own: u64,
-    broadcast: u64,
-    other_node: u64,
-    refused: u64,
-}
-
-impl Requests {
-    fn count(&mut self, a: &RequestAnswer) {
-        let kind = match (a.refusal, a.addressed, a.length) {
-            (0, true, 8..) => &mut self.own,
-            (0, true, 0) => &mut self.broadcast,
-            (0, false, 0) => &mut self.other_node,
-            (1.., false, 0) => &mut self.refused,
-            _ => panic!("an answer of none of the four kinds: {a:?}"),
-        };
-        *kind += 1;
-    }
-
-    fn kinds(&self) -> [u64; 4] {
-        [self.own, self.broadcast, self.other_node, self.refused]
-    }
-
-    fn total(&self) -> u64 {
-        self.kinds().iter().sum()
-    }
-}
-
-impl Seen {
-    /// At least one request in twenty is of each kind, and one in two thousand has a list broken in each way.
-    fn assert_every_kind_of_request(&self) {
-        let total = self.requests.total();
-        assert!(self.requests.kinds().iter().all(|n| n * 20 > total), "a kind is rare: {:?}", self.requests);
-        self.broken_lists.assert_each(BrokenList::every(), total / 2000);
-        self.assert_every_kind_of_keep(total);
-    }
-
-    /// On average, at least one keep entry of each kind is executed in fifty requests, and one in four thousand for each
-    /// way to send it.
-    fn assert_every_kind_of_keep(&self, requests: u64) {
-        self.keeps.assert_each(Keep::every(), requests / 50);
-        let in_each = |request| Keep::every().map(move |keep| (request, keep));
-        self.keeps_in.assert_each(LampRequest::every().flat_map(in_each), requests / 4000);
     }
 }
 
@@ -331,29 +164,9 @@ impl Session {
                 memories(&before)
             )
         });
-        self.seen.loads += b.load as u64;
-        self.seen.requests.count(&b);
-        if b.length >= 8 {
-            self.seen.errors[self.plain.response[6] as usize] += 1;
-        }
-        if b.reason != 0 {
-            self.seen.broken_lists.add(BrokenList { reason: b.reason, broadcast: b.length == 0 });
-        }
-        if b.addressed {
-            self.count_keeps(Board { node, ..before }, frame);
-        }
+        let errn = (b.length >= 8).then(|| self.plain.response[6]);
+        self.seen.request(Board { node, ..before }, frame, &b, errn);
         b
-    }
-
-    /// Counts the keep entries that an addressed frame executes on this board.
-    fn count_keeps(&mut self, mut board: Board, frame: &[u8]) {
-        let (in_batch, broadcast) = (frame[2..4] == [2, 5], frame[..2] == [0xFF, 0]);
-        for (node, request) in executed_lamp_requests(&mut board, frame) {
-            for keep in Keep::all_in(&request, &node) {
-                self.seen.keeps.add(keep);
-                self.seen.keeps_in.add((LampRequest { pcmd: request.pcmd, in_batch, broadcast }, keep));
-            }
-        }
     }
 
     /// One request to the boards' node, which is then updated.
@@ -363,20 +176,47 @@ impl Session {
         answer
     }
 
-    /// A list that is built to break for this reason after `whole` whole entries. With a wrong HWPID, ErrN 7 and no
-    /// reason are expected.
+    /// Takes a frame that is built to fail with this ErrN, if any is sent, and to answer this.
+    fn take_built(&mut self, frame: &[u8], errn: u8, want: RequestAnswer) {
+        let answer = self.take(frame, Lengths::USUAL);
+        self.expect(answer == want && (want.length == 0 || self.plain.response[6] == errn), || {
+            format!("built for ErrN {errn}, {want:?}\nanswer {answer:?}\nframe {}", hex(frame))
+        });
+    }
+
+    /// A list that is built to break for this reason after `whole` whole entries, in a batch and in a selective batch
+    /// that selects this node or does not. With a wrong HWPID, ErrN 7 and no reason are expected.
     fn broken_list(&mut self, reason: u8, whole: usize, nadr: u16, right_hwpid: bool) {
         let (g, node) = (&mut self.g, self.plain.node);
-        let (list, place) = random::broken_list(g, &node, reason, whole);
+        let own = node.settings.address;
         let hwpid = if right_hwpid { g.pick(&[node.settings.hwpid, 0xFFFF]) } else { random::wrong_hwpid(g, &node) };
-        let frame = frame_of(nadr, 2, 5, hwpid, &list);
-        let (length, errn) = (if nadr == 0x00FF { 0 } else { 8 }, if right_hwpid { r::DATA } else { r::HWPID });
-        let (reason, place) = if right_hwpid { (reason, place) } else { (0, 0) };
-        let want = RequestAnswer { length, addressed: true, reason, place, ..RequestAnswer::zeros(node) };
-        let answer = self.take(&frame, Lengths::USUAL);
-        self.expect(answer == want && (length == 0 || self.plain.response[6] == errn), || {
-            format!("built for ErrN {errn}, {want:?}\nanswer {answer:?}\nframe {}", hex(&frame))
-        });
+        let (list, place) = random::broken_list(g, &node, reason, whole, BATCH_LIST);
+        let (shorter, place_in_it) = random::broken_list(g, &node, reason, whole, SELECTIVE_LIST);
+        let nodes = random::node_set(g, own);
+        let selective = |selected| selective_pdata(nodes.with(own, selected), &shorter);
+        let nothing = RequestAnswer { addressed: true, ..RequestAnswer::zeros(node) };
+        let error = RequestAnswer { length: if nadr == 0x00FF { 0 } else { 8 }, ..nothing };
+        for (pcmd, pdata, want) in [
+            (5, list, RequestAnswer { reason, place, ..error }),
+            (0x0B, selective(true), RequestAnswer { reason, place: NODE_SET as u8 + place_in_it, ..error }),
+            (0x0B, selective(false), nothing),
+        ] {
+            let frame = frame_of(nadr, 2, pcmd, hwpid, &pdata);
+            let (errn, want) = if right_hwpid { (r::DATA, want) } else { (r::HWPID, error) };
+            self.take_built(&frame, errn, want);
+        }
+    }
+
+    /// Every length byte after the start of PData, with every number of bytes up to the end.
+    fn every_length_byte(&mut self, pcmd: u8, start: &[u8]) {
+        for length in 0..=255u8 {
+            for end in start.len() + 1..=56 {
+                let mut pdata = [start, &[length]].concat();
+                pdata.resize(end, self.g.pick(&[0, 1, 5, 0xFF]));
+                let nadr = self.g.pick(&[self.plain.node.settings.address, 0x00FF]);
+                self.take(&frame_of(nadr, 2, pcmd, 0xFFFF, &pdata), Lengths::USUAL);
+            }
+        }
     }
 
     /// A list broken in each way: after no, one and several whole entries, to this node and to all nodes, with a right
@@ -390,6 +230,57 @@ impl Session {
                 }
             }
         }
+    }
+
+    /// A selected node acts as for a batch of the same list: only PCMD in the response and the place differ.
+    fn same_as_batch(&mut self) {
+        let (g, node) = (&mut self.g, self.plain.node);
+        let own = node.settings.address;
+        let nadr = g.pick(&[own, 0x00FF]);
+        let (hwpid, list) = (random::hwpid(g, &node), random::any_list(g, &node, SELECTIVE_LIST));
+        let nodes = random::node_set(g, own).with(own, true);
+        let frame = frame_of(nadr, 2, 0x0B, hwpid, &selective_pdata(nodes, &list));
+        let mut batch = self.tested.clone();
+        let mut want = batch.request(node, &frame_of(nadr, 2, 5, hwpid, &list), Lengths::USUAL);
+        if want.length > 0 {
+            batch.response[3] = 0x8B;
+        }
+        if want.reason != 0 {
+            want.place += NODE_SET as u8;
+        }
+        let answer = self.take(&frame, Lengths::USUAL);
+        let fault = differences(&self.tested, &batch);
+        self.expect(answer == want && fault.is_empty(), || {
+            format!("{fault}not as for a batch: {answer:?}\nexpected {want:?}\nframe {}", hex(&frame))
+        });
+    }
+
+    /// Whether a node with this address executes a selective batch for these nodes: whether a byte of RAM changes.
+    fn is_selected(&mut self, address: u16, nodes: NodeSet) -> bool {
+        let mut node = self.plain.node;
+        node.settings.address = address;
+        let list = [7, 5, 1, 0xFF, 0xFF, 0, node.ram[0] ^ 1, 0];
+        let nadr = self.g.pick(&[address, 0x00FF]);
+        let frame = frame_of(nadr, 2, 0x0B, 0xFFFF, &selective_pdata(nodes, &list));
+        self.request(node, &frame, Lengths::USUAL).node.ram[0] != node.ram[0]
+    }
+
+    /// A node that is not selected stays as it was and answers nothing, at its own address too.
+    fn not_selected(&mut self) {
+        let (g, node) = (&mut self.g, self.plain.node);
+        let own = node.settings.address;
+        let nodes = random::node_set(g, own).with(own, false);
+        let mut list = random::any_list(g, &node, SELECTIVE_LIST);
+        list.resize(list.len().max(1), 0);
+        let (nadr, hwpid) = (g.pick(&[own, 0x00FF]), g.pick(&[node.settings.hwpid, 0xFFFF]));
+        let frame = frame_of(nadr, 2, 0x0B, hwpid, &selective_pdata(nodes, &list));
+        let before = self.tested.clone();
+        let answer = self.take(&frame, Lengths::USUAL);
+        let fault = differences(&self.tested, &before);
+        let want = RequestAnswer { addressed: true, ..RequestAnswer::zeros(node) };
+        self.expect(answer == want && fault.is_empty(), || {
+            format!("{fault}not selected: {answer:?}\nexpected {want:?}\nframe {}", hex(&frame))
+        });
     }
 
     fn tick(&mut self, node: Node) -> Node {
@@ -530,12 +421,74 @@ impl Session {
 struct SceneCall {
     book: Vec<u8>,
     scene: usize,
-    address: u16,
+    to: To,
     /// 0xFFFF if `left_out`.
     hwpid: u16,
     left_out: bool,
     room: usize,
     out: Vec<u8>,
+}
+
+/// For whom a scene is compiled, which is also the compiler's mode.
+#[derive(Clone, Copy, Debug)]
+enum To {
+    Address(u16),
+    Nodes(NodeSet),
+}
+
+impl To {
+    /// An address or nodes, mostly with this node; the compiler refuses a few.
+    fn random(g: &mut Rng, node: &Node) -> To {
+        let selective = g.chance(1, 2);
+        if g.chance(1, 14) {
+            return To::bad(g, selective);
+        }
+        if selective {
+            return To::Nodes(random::good_node_set(g, &[*node]));
+        }
+        To::Address(match g.below(13) {
+            0 => g.within(1, 239) as u16,
+            1..=4 => 255,
+            _ => node.settings.address,
+        })
+    }
+
+    /// All nodes in the first mode, any nodes in the second.
+    fn good(g: &mut Rng, selective: bool) -> To {
+        if selective {
+            To::Nodes(random::good_node_set(g, &[]))
+        } else {
+            To::Address(255)
+        }
+    }
+
+    /// Refused with 1.
+    fn bad(g: &mut Rng, selective: bool) -> To {
+        if selective {
+            To::Nodes(random::bad_node_set(g))
+        } else {
+            To::Address(g.pick(&[0u16, 240, 254, 256, 0xFF00, 0xFFFF, 511]))
+        }
+    }
+
+    fn nodes(&self) -> Option<&NodeSet> {
+        match self {
+            To::Address(_) => None,
+            To::Nodes(nodes) => Some(nodes),
+        }
+    }
+
+    fn names(&self, node: &Node) -> bool {
+        let own = node.settings.address;
+        match self {
+            To::Address(address) => *address == 255 || *address == own,
+            To::Nodes(nodes) => r::names(&nodes.bits, own),
+        }
+    }
+
+    fn is_broadcast(&self) -> bool {
+        !matches!(self, To::Address(1..=239))
+    }
 }
 
 /// The least output buffer that is not refused.
@@ -549,12 +502,7 @@ impl SceneCall {
             0 => g.pick(&[count, 16, 255, 256, usize::MAX]),
             _ => g.below(count.clamp(1, 16)),
         };
-        let address = match g.below(14) {
-            0 => g.pick(&[0u16, 240, 254, 256, 0xFF00, 0xFFFF, 511]),
-            1 => g.within(1, 239) as u16,
-            2..=5 => 255,
-            _ => node.settings.address,
-        };
+        let to = To::random(g, node);
         let left_out = g.chance(1, 3);
         let hwpid = if left_out { 0xFFFF } else { random::hwpid(g, node) };
         let room = match g.below(12) {
@@ -563,38 +511,43 @@ impl SceneCall {
             2 => g.within(ROOM, 4200),
             _ => ROOM,
         };
-        SceneCall { book, scene, address, hwpid, left_out, ..SceneCall::only(g, &[], room) }
+        SceneCall { book, scene, hwpid, left_out, ..SceneCall::only(g, to, &[], room) }
     }
 
-    /// Compiles the one scene of a book for every node.
-    fn only(g: &mut Rng, steps: &[r::Step], room: usize) -> SceneCall {
+    /// Compiles the one scene of a book, with the wildcard.
+    fn only(g: &mut Rng, to: To, steps: &[r::Step], room: usize) -> SceneCall {
         let mut out = vec![0; room + GUARD];
         g.fill(&mut out);
         let book = book_of(&[steps.to_vec()]);
-        SceneCall { book, scene: 0, address: 255, hwpid: 0xFFFF, left_out: g.chance(1, 2), room, out }
+        SceneCall { book, scene: 0, to, hwpid: 0xFFFF, left_out: g.chance(1, 2), room, out }
     }
 
     /// A side's answer and the output buffer after the call. The book is passed separately, so that it may be guarded.
     fn compile(&self, side: Side, book: &[u8]) -> (CompileAnswer, Vec<u8>) {
         let mut out = self.out.clone();
         let room = &mut out[..self.room];
-        let answer = if self.left_out {
-            (side.compile_default)(book, self.scene, self.address, room)
-        } else {
-            (side.compile)(book, self.scene, self.address, self.hwpid, room)
+        let answer = match (self.to, self.left_out) {
+            (To::Address(address), false) => (side.compile)(book, self.scene, address, self.hwpid, room),
+            (To::Address(address), true) => (side.compile_default)(book, self.scene, address, room),
+            (To::Nodes(nodes), false) => (side.compile_selected)(book, self.scene, nodes, self.hwpid, room),
+            (To::Nodes(nodes), true) => (side.compile_selected_default)(book, self.scene, nodes, room),
         };
         (answer, out)
     }
 
     fn is_for(&self, node: &Node) -> bool {
-        (self.address == 255 || self.address == node.settings.address)
-            && (self.hwpid == 0xFFFF || self.hwpid == node.settings.hwpid)
+        self.to.names(node) && Profile::of(self.hwpid, node) != Profile::Other
+    }
+
+    /// Where the list starts in a compiled request.
+    fn list_start(&self) -> usize {
+        6 + self.to.nodes().map_or(0, |nodes| nodes.bits.len())
     }
 
     /// The board after the step machine has done the scene's steps.
     fn stepped(&self, before: &Board) -> Board {
         let mut end = before.clone();
-        let mut parts = parts(&mut end);
+        let mut parts = end.parts();
         for &step in &r::read_book(&self.book).expect("compiled")[self.scene] {
             r::do_step(&mut parts, step);
         }
@@ -603,9 +556,9 @@ impl SceneCall {
     }
 
     fn inputs(&self, before: &Board) -> String {
-        let SceneCall { book, scene, address, hwpid, left_out, room, out } = self;
+        let SceneCall { book, scene, to, hwpid, left_out, room, out } = self;
         format!(
-            "scene {scene}, address {address}, HWPID {hwpid:04X}, left out {left_out}, room {room}\n\
+            "scene {scene}, to {to:02X?}, HWPID {hwpid:04X}, left out {left_out}, room {room}\n\
              book ({}) {}\n{:?}\n{}\noutput buffer{}",
             book.len(),
             hex(book),
@@ -614,33 +567,6 @@ impl SceneCall {
             rows(out)
         )
     }
-}
-
-fn parts(b: &mut Board) -> r::Parts<'_> {
-    r::Parts { node: b.node, eeprom: &mut b.eeprom[..EEPROM_SIZE], external: &mut b.external[..EXTERNAL_SIZE] }
-}
-
-/// The sets, raises and lowers that an addressed frame executes without an error, by itself or as entries of its batch,
-/// each with the node that it finds.
-fn executed_lamp_requests<'a>(board: &mut Board, frame: &'a [u8]) -> Vec<(Node, r::Request<'a>)> {
-    let whole = r::request_in(frame);
-    if r::wrong_hwpid(&board.node, &whole) {
-        return Vec::new();
-    }
-    let requests = match (whole.pnum, whole.pcmd) {
-        (2, 5) => r::read_batch(whole.pdata).unwrap_or_default(),
-        _ => vec![whole],
-    };
-    let mut parts = parts(board);
-    let mut executed = Vec::new();
-    for request in requests {
-        let node = parts.node;
-        let done = r::do_entry(&mut parts, &request).is_ok();
-        if done && request.pnum == 0x71 && request.pcmd <= 2 {
-            executed.push((node, request));
-        }
-    }
-    executed
 }
 
 /// The requests in a compiled scene, and the scene's total length.
@@ -656,11 +582,11 @@ fn requests_in(out: &[u8]) -> (Vec<&[u8]>, usize) {
 }
 
 impl Session {
-    /// Compiles a random scene and, if it is for the boards' node, sends it the requests.
+    /// Compiles a random scene and, if it is for the boards' node or for chosen nodes, sends it the requests.
     fn scene(&mut self) {
         let call = SceneCall::random(&mut self.g, &self.plain.node);
         let (answer, out) = self.compile(&call);
-        if answer.refusal == 0 && call.is_for(&self.plain.node) {
+        if answer.refusal == 0 && (call.is_for(&self.plain.node) || call.to.nodes().is_some()) {
             self.take_scene(&call, &out, answer.length);
         }
     }
@@ -680,15 +606,23 @@ impl Session {
         self.expect(c == b && fault.is_empty(), || {
             format!("{fault}fast compile: answer {c:?}, expected {b:?}\n{}", call.inputs(&self.plain))
         });
-        if (81..=84).contains(&b.refusal) {
-            self.seen.bad_steps.add(BadStep { refusal: b.refusal, short: call.room < ROOM });
+        self.seen.compile(call.to.nodes(), b.refusal, call.room < ROOM);
+        if b.refusal == 0 {
+            let lists: Vec<&[u8]> = requests_in(&out).0.iter().map(|frame| &frame[call.list_start()..]).collect();
+            self.seen.lists(call.to.nodes().is_some(), &lists);
         }
         (b, out)
     }
 
+    /// Compiles a scene that is built for this answer.
+    fn compile_built(&mut self, call: &SceneCall, want: CompileAnswer) {
+        let (answer, _) = self.compile(call);
+        self.expect(answer == want, || format!("built for {want:?}, answer {answer:?}\n{}", call.inputs(&self.plain)));
+    }
+
     /// A scene whose first bad step follows random good ones and has these bad parts: kind, target, value, time. The
     /// first bad part is reported, whatever is bad after it and however short the output buffer is.
-    fn bad_step(&mut self, bad: [bool; 4], room: usize) {
+    fn bad_step(&mut self, selective: bool, bad: [bool; 4], room: usize) {
         let g = &mut self.g;
         let mut steps = random::scene(g, 0);
         steps.truncate(63);
@@ -696,33 +630,64 @@ impl Session {
         steps.push(random::step_with(g, bad));
         steps.append(&mut random::scene(g, 2));
         steps.truncate(64);
-        let call = SceneCall::only(g, &steps, room);
+        let to = To::good(g, selective);
+        let call = SceneCall::only(g, to, &steps, room);
         let first = bad.iter().position(|&part| part).expect("a bad part") as u8;
-        let want = CompileAnswer { refusal: 81 + first, step: number, length: 0 };
-        let (answer, _) = self.compile(&call);
-        self.expect(answer == want, || format!("built for {want:?}, answer {answer:?}\n{}", call.inputs(&self.plain)));
+        self.compile_built(&call, CompileAnswer { refusal: 81 + first, step: number, length: 0 });
     }
 
-    /// No request and no entry is refused, and the node and memories end as the step machine leaves them.
+    /// A call with these faults: address or nodes (1), book (6), scene (7), step (82), room (9). The first is told.
+    fn faulty_call(&mut self, selective: bool, faults: [bool; 5]) {
+        let [to, book, scene, step, room] = faults;
+        let g = &mut self.g;
+        let mut steps = random::scene(g, 0);
+        steps.truncate(63);
+        let number = steps.len() as u8;
+        steps.push(random::step_with(g, [false, step, false, false]));
+        let to = if to { To::bad(g, selective) } else { To::good(g, selective) };
+        let room = if room { g.within(0, ROOM - 1) } else { ROOM };
+        let mut call = SceneCall::only(g, to, &steps, room);
+        if book {
+            call.book.push(0);
+        }
+        if scene {
+            call.scene = g.pick(&[1, 16, usize::MAX]);
+        }
+        let Some(first) = faults.iter().position(|&fault| fault) else {
+            let (answer, _) = self.compile(&call);
+            self.expect(answer.refusal == 0, || format!("{answer:?} without a fault\n{}", call.inputs(&self.plain)));
+            return;
+        };
+        let refusal = [1, 6, 7, 82, 9][first];
+        self.compile_built(&call, CompileAnswer { refusal, step: if refusal == 82 { number } else { 0 }, length: 0 });
+    }
+
+    /// A node that the scene is for takes every request and every entry, and ends as the step machine leaves it. Any
+    /// other node stays as it was.
     fn take_scene(&mut self, call: &SceneCall, out: &[u8], length: usize) {
         let before = self.plain.clone();
-        let end = call.stepped(&before);
+        let obeys = call.is_for(&before.node);
+        let end = if obeys { call.stepped(&before) } else { before.clone() };
         let (requests, bytes) = requests_in(out);
         self.expect(bytes == length, || format!("length {length} of {bytes} bytes\n{}", call.inputs(&before)));
         for (i, frame) in requests.iter().enumerate() {
-            let errors = r::do_batch(&mut parts(&mut self.plain.clone()), &frame[6..]);
-            let sound = matches!(&errors, Ok(list) if !list.is_empty() && list.iter().all(|&e| e == 0));
-            self.expect(sound, || format!("request {i}: entries {errors:?}\n{}", call.inputs(&before)));
+            if obeys {
+                let errors = r::do_list(&mut self.plain.clone().parts(), &frame[call.list_start()..]);
+                let sound = matches!(&errors, Ok(list) if !list.is_empty() && list.iter().all(|&e| e == 0));
+                self.expect(sound, || format!("request {i}: entries {errors:?}\n{}", call.inputs(&before)));
+            }
             let a = self.take(frame, Lengths::USUAL);
-            let taken = if call.address == 255 { a.length == 0 } else { a.length == 8 && self.tested.response[6] == 0 };
-            self.expect(a.refusal == 0 && a.addressed && taken, || {
-                format!("request {i}: {a:?}\n{}", call.inputs(&before))
-            });
+            let response = &self.tested.response;
+            let taken = if call.to.is_broadcast() { a.length == 0 } else { a.length == 8 && response[6] == 0 };
+            let unchanged = response[a.length..] == before.response[a.length..];
+            let want = RequestAnswer { length: a.length, addressed: true, ..RequestAnswer::zeros(a.node) };
+            self.expect(a == want && taken && unchanged, || format!("request {i}: {a:?}\n{}", call.inputs(&before)));
         }
         let same = self.tested.eeprom == end.eeprom && self.tested.external == end.external;
         self.expect(self.tested.node == end.node && same, || {
             format!(
-                "the step machine ends in another state\nlibrary  {:?}\nexpected {:?}\nEEPROM   {}\nexpected {}\n{}",
+                "{}\nlibrary  {:?}\nexpected {:?}\nEEPROM   {}\nexpected {}\n{}",
+                if obeys { "the step machine ends in another state" } else { "not for this node, which changed" },
                 self.tested.node,
                 end.node,
                 hex(&self.tested.eeprom),
@@ -730,6 +695,28 @@ impl Session {
                 call.inputs(&before)
             )
         });
+        if call.to.nodes().is_some() {
+            let (selected, profile) = (call.to.names(&before.node), Profile::of(call.hwpid, &before.node));
+            self.seen.takers.add(Taker { selected, profile });
+        }
+    }
+
+    /// One scene, compiled once for chosen nodes, is taken by several nodes.
+    fn chosen_nodes(&mut self) {
+        let g = &mut self.g;
+        let (nodes, steps) = (random::network(g), random::scene(g, 0));
+        let to = To::Nodes(random::good_node_set(g, &nodes));
+        let mut call = SceneCall::only(g, to, &steps, ROOM);
+        if g.chance(2, 3) {
+            (call.hwpid, call.left_out) = (nodes[0].settings.hwpid, false);
+        }
+        let (answer, out) = self.compile(&call);
+        self.expect(answer.refusal == 0, || format!("{answer:?}\n{}", call.inputs(&self.plain)));
+        for node in nodes {
+            self.new_boards();
+            self.set_node(node);
+            self.take_scene(&call, &out, answer.length);
+        }
     }
 
     /// A random frame and random buffer lengths; occasionally, or `often`, lengths that are refused.
@@ -805,7 +792,7 @@ fn every_nadr() {
         }
     }
     assert_eq!(addressed, [s.plain.node.settings.address, 0x00FF]);
-    assert_eq!(s.seen.requests, Requests { own: 1, broadcast: 1, other_node: 65_534, refused: 0 });
+    assert_eq!(s.seen.requests, Requests { own: 1, broadcast: 1, other_node: 65_534, ..Requests::default() });
 }
 
 #[test]
@@ -825,7 +812,8 @@ fn every_pnum_and_pcmd() {
     }
 }
 
-/// Lists that break in each way: the library and the fast implementation find the fault where the generator put it.
+/// Lists of both kinds of batch that break in each way: the library and the fast implementation find the fault where the
+/// generator put it, if the node is selected.
 #[test]
 fn broken_lists() {
     let boards = 200;
@@ -837,22 +825,48 @@ fn broken_lists() {
     }
 }
 
-/// Every length byte, first in the list and after one and two entries, with every number of bytes up to the end.
+/// Every length byte, first in the list and after one and two entries, with every number of bytes up to the end, in a
+/// batch and in a selective batch.
 #[test]
 fn every_length_byte() {
     let entry = [5, 0x71, 0x3E, 0xFF, 0xFF];
     for side in [LIBRARY, FAST] {
         let mut s = Session::new("every_length_byte", side);
         let own = s.plain.node.settings.address;
-        for whole in 0..=2 {
-            for length in 0..=255u8 {
-                for rest in 0..56 - 5 * whole {
-                    let mut list = entry.repeat(whole);
-                    list.push(length);
-                    list.resize(list.len() + rest, s.g.pick(&[0, 1, 5, 0xFF]));
-                    let nadr = s.g.pick(&[own, 0x00FF]);
-                    s.take(&frame_of(nadr, 2, 5, 0xFFFF, &list), Lengths::USUAL);
-                }
+        let selecting = NodeSet::of([own]).bits;
+        for (pcmd, before) in [(5, &[][..]), (0x0B, &selecting)] {
+            for whole in 0..=2 {
+                s.every_length_byte(pcmd, &[before, &entry.repeat(whole)].concat());
+            }
+        }
+    }
+}
+
+/// What a selected node does is what it does for a batch; a node that is not selected does nothing.
+#[test]
+fn selective_batches() {
+    for side in [LIBRARY, FAST] {
+        let mut s = Session::new("selective_batches", side);
+        s.run(200, 50, |s| {
+            s.same_as_batch();
+            s.not_selected();
+        });
+        println!("selective_batches: {:?}", s.seen);
+        s.seen.selective.assert_each(SelectiveBatch::every_with_list(), 200);
+    }
+}
+
+/// A node is selected by the bit of its address, whatever the 239 others are.
+#[test]
+fn every_address_and_bit() {
+    for side in [LIBRARY, FAST] {
+        let mut s = Session::new("every_address_and_bit", side);
+        for address in 1..240 {
+            for bit in 0..240 {
+                let alone = NodeSet::of([bit]);
+                let all_others = NodeSet::of((0..240).filter(|&other| other != bit));
+                assert_eq!(s.is_selected(address, alone), address == bit, "node {address}, bit {bit}");
+                assert_eq!(s.is_selected(address, all_others), address != bit, "node {address}, all but bit {bit}");
             }
         }
     }
@@ -938,10 +952,55 @@ fn random_scenes() {
         s.set_node(node);
     });
     println!("random_scenes: {:?}", s.seen);
-    s.seen.bad_steps.assert_each(BadStep::every(), 50);
+    s.seen.compiled.assert_each(Compiled::every(), 25);
+    s.seen.compiled_sets.assert_each(SetKind::EVERY, 100);
+    s.seen.at_limits.assert_each(AtLimit::every(), 100);
+    s.seen.takers.assert_each(Taker::every(), 100);
 }
 
-/// Steps with every set of bad parts, with a sufficient and with a short output buffer.
+/// Of several nodes that get the same requests, the chosen ones that accept the profile end as the step machine, and the others stay as
+/// they were.
+#[test]
+fn one_scene_for_chosen_nodes() {
+    for side in [LIBRARY, FAST] {
+        let mut s = Session::new("one_scene_for_chosen_nodes", side);
+        s.run(1, 3000, Session::chosen_nodes);
+        println!("one_scene_for_chosen_nodes: {:?}", s.seen);
+        s.seen.takers.assert_each(Taker::every(), 300);
+    }
+}
+
+/// Every set of faults of a call, in both modes.
+#[test]
+fn first_refusal_of_the_compiler() {
+    let mut s = Session::new("first_refusal_of_the_compiler", LIBRARY);
+    s.run(20, 1, |s| {
+        for set in 0..32u8 {
+            let faults = [1, 2, 4, 8, 16].map(|bit| set & bit != 0);
+            s.faulty_call(false, faults);
+            s.faulty_call(true, faults);
+        }
+    });
+}
+
+/// A set of one address is in the request as it came, unless the address is 0.
+#[test]
+fn every_set_of_one_address() {
+    let mut s = Session::new("every_set_of_one_address", LIBRARY);
+    for address in 0..240 {
+        let nodes = NodeSet::of([address]);
+        let call = SceneCall::only(&mut s.g, To::Nodes(nodes), &[[0, 0, 1, 0]], ROOM);
+        let (answer, out) = s.compile(&call);
+        if address == 0 {
+            assert_eq!(answer.refusal, 1);
+        } else {
+            assert_eq!(out[..8], [1, 6 + 30 + 11, 0xFF, 0, 2, 0x0B, 0xFF, 0xFF]);
+            assert_eq!(out[8..38], nodes.bits);
+        }
+    }
+}
+
+/// Steps with every set of bad parts, with a sufficient and with a short output buffer, in both modes.
 #[test]
 fn first_bad_part_of_the_first_bad_step() {
     let mut s = Session::new("first_bad_part_of_the_first_bad_step", LIBRARY);
@@ -949,11 +1008,12 @@ fn first_bad_part_of_the_first_bad_step() {
         for set in 1..16u8 {
             let bad = [1, 2, 4, 8].map(|bit| set & bit != 0);
             for room in [ROOM, ROOM - 1, 0] {
-                s.bad_step(bad, room);
+                s.bad_step(false, bad, room);
+                s.bad_step(true, bad, room);
             }
         }
     });
-    s.seen.bad_steps.assert_each(BadStep::every(), 200);
+    s.seen.compiled.assert_each(Compiled::bad_steps(), 200);
 }
 
 /// Every byte in each part of a step of each kind, and every unknown kind.
@@ -961,7 +1021,9 @@ fn first_bad_part_of_the_first_bad_step() {
 fn every_byte_of_a_step() {
     let mut s = Session::new("every_byte_of_a_step", LIBRARY);
     let mut compile = |step: r::Step| {
-        let call = SceneCall::only(&mut s.g, &[step], ROOM);
+        let selective = s.g.chance(1, 2);
+        let to = To::good(&mut s.g, selective);
+        let call = SceneCall::only(&mut s.g, to, &[step], ROOM);
         s.compile(&call).0.refusal
     };
     for byte in 0..=255 {

@@ -1,29 +1,34 @@
--- The requests of a scene, handled in order: each succeeds, and together they do what the steps of the scene do.
+-- The requests of a scene, handled in order. With a node that they are for, each succeeds, and together they do what the steps of
+-- the scene do; a node that they are not for stays unchanged.
 use mathlib.Core.Path.{_≡_, refl, sym, ap, subst, _∙_}
 use mathlib.Core.Logic.{_⊎_}
 use mathlib.Core.List.{List, [], _∷_, _++_, map}
-use mathlib.Core.Bool.{true}
+use mathlib.Core.Bool.{true, false}
 use Prim.Native.Nat.{ℕ, suc, _≤_}
+use native.Mathlib.Omega.{arith}
 use lib.ListN.{length}
 use Rattle.dpa.specs.declared.settings.Settings.{Settings}
 use Rattle.dpa.specs.Frame.{longestResponse, broadcastNadr, frame}
+use Rattle.dpa.specs.NodeSet.{nodeSetSize, selects}
 use Rattle.dpa.specs.Pnum.{osPnum}
 use Rattle.batch.specs.Batch.{Item, item, listBytes}
 use Rattle.dpa.specs.Lists.{All}
-use Rattle.handler.specs.Request.{State, SoundState, hwpidMatches, batchRequest, execute, handleRequest}
+use Rattle.batch.proofs.RoundTrip.{list-nonempty}
+use Rattle.handler.specs.Request.{State, SoundState, hwpidMatches, batchRequest, selectivePcmd, execute, handleRequest}
+use Rattle.handler.proofs.SelectiveBatches.{not-selected-stays}
 use Rattle.book.specs.declared.step.Step.{Step}
 use Rattle.book.specs.Group.{concat}
 use Rattle.book.specs.Machine.{machine}
-use Rattle.scene.specs.Compile.{Limits, joinedItems, batchesOf, requestBytes, requestsOf}
+use Rattle.scene.specs.Compile.{Limits, joinedItems, batchesOf, requestBytes, requestsOf, selectedEntryLimit, selectedListLimit, selectedRequests}
 use Rattle.book.proofs.Groups.{concat-append}
 use Rattle.book.proofs.MachineLaws.{machine-append, machine-stays}
 use Rattle.book.proofs.Faults.{Good}
 use Rattle.book.proofs.EntryGroups.{EntryGroup, joining-keeps}
-use Rattle.scene.proofs.Batches.{BatchRule, batches-rule, filling-keeps}
+use Rattle.scene.proofs.Batches.{BatchRule, batches-rule, selected-limits, filling-keeps}
 use Rattle.scene.proofs.Sizes.{batch-fits}
-use Rattle.acceptance.specs.SceneTheorem.{Success, AllSucceed, afterCalls, MatchesMachine}
+use Rattle.acceptance.specs.SceneTheorem.{Success, AllSucceed, afterCalls, MatchesMachine, Ignored, AllIgnored, StaysUnchanged}
 use Rattle.acceptance.proofs.Batches.{AllPerform, entries-perform, batch-performs}
-use Rattle.acceptance.proofs.OneRequest.{call-leaves, call-sound, call-succeeds}
+use Rattle.acceptance.proofs.OneRequest.{call-leaves, call-sound, call-succeeds, broadcast-ignored}
 
 -- a call succeeds, leaves the state that the step machine reaches by these steps, and leaves it sound
 pub record Done (pcmd a : ℕ) (s : Settings) (request : List ℕ) (steps : List Step) (st : State) (o : List ℕ) : Type 0 where
@@ -85,3 +90,32 @@ module _ {entryMax listMax : ℕ} {front : List ℕ} (limits : Limits entryMax l
         calls = subst (λ (n : Settings). AllSucceed pcmd a n buffers (requestsOf entryMax listMax pcmd front a h steps) st) (sym e) (executed .0);
         final = executed .1 ∙ ap (λ (l : List Step). machine l st) whole;
       }
+
+-- The selective batches of a scene, and a node that the set does not name.
+module _ (nodes : List ℕ) (size : length nodes ≡ nodeSetSize) (h : ℕ) (st : State) (k : SoundState st)
+    (unnamed : selects nodes (st .node .settings .address) ≡ false) where
+  abbrev selectedRequest : List (List Step) → List ℕ
+  selectedRequest groups = requestBytes selectivePcmd nodes broadcastNadr h groups
+
+  request-ignored : (groups : List (List Step)) (o : List ℕ) → BatchRule selectedEntryLimit selectedListLimit h groups → longestResponse ≤ length o
+      → Ignored (selectedRequest groups) st o
+  request-ignored groups o b room =
+      let list = listBytes (joinedItems h groups) in
+      broadcast-ignored selectivePcmd h (nodes ++ list) st o k (batch-fits (selected-limits nodes size) (frame broadcastNadr osPnum selectivePcmd h) groups b .1) room
+      (not-selected-stays h nodes list size (omega (arith, list-nonempty (joinedItems h groups))) st unnamed)
+
+  requests-ignored : (bs : List (List (List Step))) (buffers : ℕ → List ℕ) (st′ : State) → st′ ≡ st
+      → All (BatchRule selectedEntryLimit selectedListLimit h) bs → ((j : ℕ) → longestResponse ≤ length (buffers j))
+      → AllIgnored buffers (map selectedRequest bs) st′ × (afterCalls buffers (map selectedRequest bs) st′ ≡ st)
+  requests-ignored [] buffers st′ e b room = (tt, e)
+  requests-ignored (groups ∷ bs) buffers st′ e b room =
+      let first = subst (λ (t : State). Ignored (selectedRequest groups) t (buffers 0)) (sym e) (request-ignored groups (buffers 0) (b .0) (room 0)) in
+      let rest = requests-ignored bs (λ j. buffers (suc j)) (handleRequest (selectedRequest groups) st′ (buffers 0) .after) (first .after ∙ e) (b .1) (λ j. room (suc j)) in
+      ((first, rest .0), rest .1)
+
+  -- such a node ignores the requests of good steps
+  pub steps-ignored : (steps : List Step) (buffers : ℕ → List ℕ) → All Good steps → ((j : ℕ) → longestResponse ≤ length (buffers j))
+      → StaysUnchanged buffers (selectedRequests nodes h steps) st
+  steps-ignored steps buffers good room =
+      let all = requests-ignored (batchesOf selectedEntryLimit selectedListLimit h steps) buffers st refl (batches-rule (selected-limits nodes size) h steps good) room in
+      record { calls = all .0; final = all .1 }

@@ -2,23 +2,29 @@
 use mathlib.Core.Path.{refl}
 use lib.ListN.{length}
 use borrow.Author.Tests.{le-ltb}
+use Rattle.dpa.specs.Frame.{frameFits}
+use Rattle.dpa.specs.Lists.{allBelow}
+use Rattle.dpa.specs.Settings.{stepOk, settingsOk}
+use Rattle.dpa.specs.NodeSet.{selects, selectsAny, nodeSetOk, byteOf, bytesOf}
 use Rattle.lights.specs.Bits.{bits, bitmap}
-use Rattle.lights.specs.Lamp.{actualLevel}
+use Rattle.lights.specs.Lamp.{actualLevel, lampOk, lampZero, lampFits}
 use Rattle.lights.specs.Lights.{powerOk, timeOk, secondsOf, lampAfter, lampsAfter, levelsBefore, changeLamps, lightsRequest}
 use Rattle.checksum.specs.Sums.{addWithCarry, addByte, sums}
 use Rattle.batch.specs.Batch.{entryBytes, entriesBytes, nextEntry, readingFrom, runItems, errorsOf}
+use Rattle.batch.specs.Selective.{selectionOf}
 use Rattle.timing.specs.Slot.{baseSlot, networkExtra, slotOf, directionTime, earliestOf, sendOf}
-use Rattle.handler.specs.Request.{peripheralRequest, hwpidMatches, executeEntry, batchRequest, osRequest, execute}
+use Rattle.node.specs.Node.{shapeOk, lampsOk, nodeOk}
+use Rattle.handler.specs.Request.{peripheralRequest, hwpidMatches, executeEntry, listRequest, batchRequest, selectiveRequest, osRequest, execute, handleFrame, requestRefusal, handleRequest}
 use Rattle.book.specs.Book.{chained, bookOk, sceneOf}
 use Rattle.book.specs.Step.{stepTimeOk, lampFault, byteFault, stepFault}
 use Rattle.book.specs.Entry.{powerBytes, entryData, pnumOf, pcmdOf}
 use Rattle.book.specs.Join.{follows}
-use Rattle.scene.specs.Call.{minOutput, addressOk, compileScene, compileFor}
+use Rattle.scene.specs.Call.{minOutput, addressOk, compileScene, compileTo}
 use Rattle.acceptance.specs.Examples.{WorkedExamples, OwnExamples}
 
 -- those of document 01
 pub worked-examples : WorkedExamples
-unfolding bits bitmap actualLevel powerOk timeOk secondsOf lampAfter lampsAfter levelsBefore changeLamps lightsRequest addWithCarry addByte sums nextEntry readingFrom baseSlot networkExtra slotOf directionTime earliestOf sendOf peripheralRequest hwpidMatches batchRequest osRequest execute entryBytes entriesBytes chained bookOk sceneOf stepTimeOk lampFault byteFault stepFault powerBytes entryData pnumOf pcmdOf follows addressOk compileScene compileFor
+unfolding bits bitmap actualLevel powerOk timeOk secondsOf lampAfter lampsAfter levelsBefore changeLamps lightsRequest addWithCarry addByte sums nextEntry readingFrom baseSlot networkExtra slotOf directionTime earliestOf sendOf peripheralRequest hwpidMatches listRequest batchRequest osRequest execute entryBytes entriesBytes chained bookOk sceneOf stepTimeOk lampFault byteFault stepFault powerBytes entryData pnumOf pcmdOf follows addressOk compileScene compileTo
 worked-examples =
     record {
       set-answers = refl;
@@ -42,10 +48,22 @@ worked-examples =
 
 -- those of our own
 pub own-examples : OwnExamples
-unfolding bits bitmap actualLevel powerOk timeOk secondsOf lampAfter lampsAfter levelsBefore changeLamps lightsRequest nextEntry readingFrom runItems errorsOf peripheralRequest hwpidMatches executeEntry batchRequest osRequest execute
+unfolding bits bitmap actualLevel powerOk timeOk secondsOf lampAfter lampsAfter levelsBefore changeLamps lightsRequest nextEntry readingFrom runItems errorsOf peripheralRequest hwpidMatches executeEntry listRequest batchRequest selectiveRequest osRequest execute handleFrame requestRefusal handleRequest frameFits stepOk settingsOk lampFits lampOk lampZero shapeOk lampsOk nodeOk allBelow selects selectsAny nodeSetOk byteOf bytesOf selectionOf entryBytes entriesBytes chained bookOk sceneOf stepTimeOk lampFault byteFault stepFault powerBytes entryData pnumOf pcmdOf follows compileScene compileTo
 own-examples =
     record {
       entry-errors = refl;
       batch-error = refl;
       unchanged = refl;
+      nodes-written = refl;
+      selected-empty = refl;
+      selected-fault = refl;
+      selected-error = refl;
+      not-selected = refl;
+      selected-short = refl;
+      not-selected-short = refl;
+      selected-answers = refl;
+      selected-length = refl;
+      not-selected-silent = refl;
+      eight-in-an-entry = refl;
+      book-selected = λ out room. rw (le-ltb (length out) minOutput room);
     }

@@ -1,13 +1,16 @@
--- The assumptions of condition 3 can be met: by a node with lit lamps, running timers and filled memories, and a book with
--- steps of every kind. Then what condition 3 says about them, in numbers.
+-- The assumptions of condition 3 can be met: by a node with lit lamps, running timers and filled memories, another node, a set that
+-- names the first and not the second, and a book with steps of every kind. Then what condition 3 says about them, in numbers.
 use mathlib.Core.Path.{_≡_, refl, _∙_}
 use mathlib.Core.Logic.{inl, inr}
+use mathlib.Core.Bool.{true, false, _||_}
 use mathlib.Core.List.{List, [], _∷_, _++_, map}
 use Prim.Native.Nat.{ℕ}
 use native.Mathlib.Omega.{arith}
+use lib.Dec.{eqb}
 use lib.ListN.{length, replicate, length-replicate}
 use Rattle.dpa.specs.Frame.{broadcastNadr, anyHwpid}
 use Rattle.dpa.specs.Lists.{allBelow}
+use Rattle.dpa.specs.NodeSet.{nodeSetSize, selects, byteOf, bytesOf, nodeSetOf}
 use Rattle.dpa.specs.Settings.{stepOk, settingsOk}
 use Rattle.memory.specs.declared.block.Memory.the-variants.{External}
 use Rattle.memory.specs.Block.{sizeOf}
@@ -16,16 +19,16 @@ use Rattle.lights.specs.declared.lamp.Lamp.{Lamp}
 use Rattle.lights.specs.Lamp.{lamp, off, lampOk, lampZero, lampFits}
 use Rattle.lights.specs.Lights.{timeOk}
 use Rattle.node.specs.Node.{shapeOk, lampsOk, nodeOk}
-use Rattle.handler.specs.Request.{State, state, batchPcmd}
+use Rattle.handler.specs.Request.{State, state, SoundState, batchPcmd, selectivePcmd}
 use Rattle.book.specs.Book.{chained, bookOk, sceneOf}
 use Rattle.book.specs.Step.{stepTimeOk, lampFault, byteFault, stepFault}
 use Rattle.book.specs.Machine.{timeFormed, wellFormed, machineLevel, machineSeconds, machineLamps, machineEffect, machineStep, machine}
 use Rattle.book.specs.Entry.{powerBytes, entryData, pnumOf, pcmdOf}
 use Rattle.book.specs.Join.{follows}
-use Rattle.scene.specs.Compile.{batchesOf, entryLimit, listLimit, sceneRequests}
-use Rattle.scene.specs.Call.{minOutput, requestsIn, outputOf, compileFor}
-use Rattle.acceptance.specs.SceneTheorem.{Addressable, SceneRule, Given, MatchesMachine, afterCalls}
-use Rattle.acceptance.proofs.Refusals.{compile-refusals}
+use Rattle.scene.specs.Compile.{batchesOf, entryLimit, listLimit, sceneRequests, selectedRequests}
+use Rattle.scene.specs.Call.{minOutput, requestsIn, outputOf, compileFor, compileSelected}
+use Rattle.acceptance.specs.SceneTheorem.{Addressable, SceneRule, Given, MatchesMachine, afterCalls, StaysUnchanged}
+use Rattle.acceptance.proofs.Refusals.{compile-refusals, selected-refusals}
 use Rattle.acceptance.proofs.Scenes.{condition-3}
 
 -- five lamps, step 10; the parameters are what the scene changes
@@ -110,20 +113,84 @@ machine-leaves = refl
 
 -- condition 3 for the requests of the compiling rule
 pub done-own : MatchesMachine batchPcmd 7 buffers (sceneRequests 7 0x2471 (sceneOf book 1)) (sceneOf book 1) before
-done-own = condition-3 .requests before buffers book 1 7 0x2471 given-own faultless
+done-own = condition-3 .for-address before buffers book 1 7 0x2471 given-own .rule faultless
 
 -- for broadcast
 pub done-all : MatchesMachine batchPcmd broadcastNadr buffers (sceneRequests broadcastNadr anyHwpid (sceneOf book 1)) (sceneOf book 1) before
-done-all = condition-3 .requests before buffers book 1 broadcastNadr anyHwpid given-all faultless
+done-all = condition-3 .for-address before buffers book 1 broadcastNadr anyHwpid given-all .rule faultless
 
 -- and for those in the output
 pub buffer-own : MatchesMachine batchPcmd 7 buffers (requestsIn (outputOf (compileFor book 1 7 0x2471 out))) (sceneOf book 1) before
-buffer-own = condition-3 .buffer before buffers book 1 7 0x2471 out given-own (accepted 7 0x2471 (inl (omega arith, omega arith)))
+buffer-own = condition-3 .for-address before buffers book 1 7 0x2471 given-own .buffer out (accepted 7 0x2471 (inl (omega arith, omega arith)))
 
 -- for broadcast
 pub buffer-all : MatchesMachine batchPcmd broadcastNadr buffers (requestsIn (outputOf (compileFor book 1 broadcastNadr anyHwpid out))) (sceneOf book 1) before
-buffer-all = condition-3 .buffer before buffers book 1 broadcastNadr anyHwpid out given-all (accepted broadcastNadr anyHwpid (inr refl))
+buffer-all = condition-3 .for-address before buffers book 1 broadcastNadr anyHwpid given-all .buffer out (accepted broadcastNadr anyHwpid (inr refl))
 
 -- the node ends with these lamps, timers and bytes
 pub calls-leave : afterCalls buffers (sceneRequests 7 0x2471 (sceneOf book 1)) before ≡ afterwards
 calls-leave = done-own .final ∙ machine-leaves
+
+-- ---- the same scene for a set of nodes
+
+-- nodes 7 and 9
+abbrev nodes : List ℕ
+nodes = nodeSetOf (λ a. eqb a 7 || eqb a 9)
+
+-- a node with another address and another profile
+abbrev other : State
+other =
+    state (record {
+      settings = record { address = 12; hwpid = 0x1234; «dpa_value» = 0; «lamp_count» = 3; step = 1 };
+      lamps = lamp 50 60 ∷ lamp 0 0 ∷ lamp 7 0 ∷ replicate 29 off;
+      ram = replicate 48 0x66;
+    }) (replicate 192 0x77) (replicate (sizeOf External) 0x88)
+
+-- the set names the first node and not the second; the scene has the wildcard HWPID, which both accept, so only the set decides
+named : selects nodes 7 ≡ true
+unfolding selects byteOf bytesOf
+named = refl
+
+not-named : selects nodes 12 ≡ false
+unfolding selects byteOf bytesOf
+not-named = refl
+
+set-size : length nodes ≡ nodeSetSize
+unfolding bytesOf
+set-size = refl
+
+-- the second node is sound
+other-sound : SoundState other
+unfolding nodeOk shapeOk settingsOk stepOk lampsOk allBelow lampFits lampOk lampZero
+other-sound = record { node-ok = refl; eeprom-size = refl; external-size = refl }
+
+-- the compile call is not refused
+selected-accepted : compileSelected book 1 nodes anyHwpid out .refusal ≡ 0
+unfolding selects byteOf bytesOf
+selected-accepted =
+    selected-refusals book 1 nodes anyHwpid out .none .1 (
+      record { zero-clear = refl; address = 7; address-min = omega arith; address-max = omega arith; named = refl },
+      faultless,
+      omega (arith, length-replicate {A = ℕ} minOutput 0xCC),
+    )
+
+-- one list of requests: the scene, read back from the output
+abbrev selectedList : List (List ℕ)
+selectedList = requestsIn (outputOf (compileSelected book 1 nodes anyHwpid out))
+
+-- the compiling rule gives three requests; the second has a list of 26 bytes, the longest allowed
+pub selected-requests : map length (selectedRequests nodes anyHwpid (sceneOf book 1)) ≡ 49 ∷ 62 ∷ 59 ∷ []
+unfolding bytesOf sceneOf powerBytes entryData pnumOf pcmdOf follows entryBytes entriesBytes
+selected-requests = refl
+
+-- node 7 does what the scene says
+pub selected-done : MatchesMachine selectivePcmd broadcastNadr buffers selectedList (sceneOf book 1) before
+selected-done = condition-3 .selected before buffers book 1 nodes anyHwpid given-all set-size named .buffer out selected-accepted
+
+-- with these lamps, timers and bytes
+pub selected-leaves : afterCalls buffers selectedList before ≡ afterwards
+selected-leaves = selected-done .final ∙ machine-leaves
+
+-- node 12 stays as it is
+pub other-stays : StaysUnchanged buffers selectedList other
+other-stays = condition-3 .not-selected other buffers book 1 nodes anyHwpid other-sound (given-own .room) set-size not-named .buffer out selected-accepted

@@ -1,7 +1,7 @@
--- Refusals of the compile call: its result in each case, and that each number is given exactly for its fault.
+-- Refusals of a compile call: its result in each case, and that each number is given exactly for its fault.
 use mathlib.Core.Path.{_≡_, refl, sym, ap, subst, _∙_}
 use mathlib.Core.Logic.{inl, inr, _↔_}
-use mathlib.Core.Bool.{true, false, not, or-true}
+use mathlib.Core.Bool.{Bool, true, false, not, or-true}
 use mathlib.Core.List.{List, [], _∷_, _++_}
 use Prim.Native.Nat.{ℕ, suc, _+_, _-_, _≤_, _<_}
 use native.Mathlib.Omega.{arith}
@@ -10,7 +10,9 @@ use lib.ListN.{length, drop}
 use lib.Seq.{drop-append-seam}
 use borrow.Author.Tests.{eq-eqb, ne-eqb, eqb-true, eqb-false, le-leb, lt-leb, leb-true, leb-false, lt-ltb, ltb-true, ltb-false, not-true, not-false}
 use Rattle.dpa.specs.Frame.{broadcastNadr}
+use Rattle.dpa.specs.NodeSet.{nodeSetOk, Selectable}
 use Rattle.dpa.specs.Settings.{lastAddress, nodeAddress}
+use Rattle.dpa.proofs.NodeSets.{set-ok-exact}
 use Rattle.dpa.proofs.Bool.{and-left, and-right, by-cond, by-test}
 use Rattle.dpa.specs.Lists.{All}
 use Rattle.book.specs.declared.step.Step.{Step}
@@ -20,9 +22,9 @@ use Rattle.book.specs.Book.{sceneCount, bookOk, sceneOf}
 use Rattle.book.specs.Step.{stepFault, goodStep, firstBadFrom}
 use Rattle.dpa.proofs.All.{all-weaken}
 use Rattle.book.proofs.Faults.{Good, no-bad, fault-range}
-use Rattle.scene.specs.Compile.{sceneRequests}
-use Rattle.scene.specs.Call.{CompileResult, output, minOutput, refusedWith, outputInBuffer, addressOk, compileSteps, compileScene, compileFor}
-use Rattle.scene.proofs.Outputs.{Faultless, compile-written, compile-refused}
+use Rattle.scene.specs.Compile.{sceneRequests, selectedRequests}
+use Rattle.scene.specs.Call.{CompileResult, output, minOutput, refusedWith, outputInBuffer, addressOk, compileSteps, compileScene, compileTo, compileFor, compileSelected}
+use Rattle.scene.proofs.Outputs.{Faultless, target-refused, target-valid, compile-written, compile-refused}
 use Rattle.acceptance.specs.SceneTheorem.{Addressable, NoFault, SceneRule, StepRefusal, FirstBad, Refusals}
 
 -- ---- the faults, and the tests of the call
@@ -118,77 +120,78 @@ no {m} {n} t f e = absurd (eqb-false m n t e)
 no-step : {F X : Type 0} {m n : ℕ} → ltb m 81 ≡ true → StepRefusal n → F → m ≡ n → X
 no-step {m = m} t s f e = absurd (omega (arith, ltb-true m 81 t, s .0))
 
-module _ (b : List ℕ) (k a h : ℕ) (out : List ℕ) where
+-- for any target with an exact test, and any rule from steps to requests
+module _ (Target : Type 0) (valid : Bool) (exact : Target ↔ (valid ≡ true)) (b : List ℕ) (k : ℕ) (requests : List Step → List (List ℕ)) (out : List ℕ) where
   -- the cases, each with what the earlier tests have shown
   abbrev IllFormed : Type 0
-  IllFormed = Addressable a × (bookOk b ≡ false)
+  IllFormed = Target × (bookOk b ≡ false)
 
   abbrev Unknown : Type 0
-  Unknown = Addressable a × (bookOk b ≡ true) × (sceneCount b ≤ k)
+  Unknown = Target × (bookOk b ≡ true) × (sceneCount b ≤ k)
 
   abbrev BadStep : ℕ → ℕ → Type 0
-  BadStep n j = Addressable a × (bookOk b ≡ true) × (k < sceneCount b) × FirstBad (sceneOf b k) n j
+  BadStep n j = Target × (bookOk b ≡ true) × (k < sceneCount b) × FirstBad (sceneOf b k) n j
 
   abbrev NoRoom : Type 0
-  NoRoom = Addressable a × SceneRule b k × (length out < minOutput)
+  NoRoom = Target × SceneRule b k × (length out < minOutput)
 
   abbrev Accepted : Type 0
-  Accepted = Addressable a × SceneRule b k × (minOutput ≤ length out)
+  Accepted = Target × SceneRule b k × (minOutput ≤ length out)
 
   -- the result for each fault
-  address-answer : ¬ Addressable a → compileFor b k a h out ≡ refusedWith 1 0 out
-  unfolding compileFor compileScene
-  address-answer n = by-test (addressOk a) (λ t. absurd (n (addressable a .1 t))) (λ t. rw t refl)
+  target-answer : ¬ Target → compileTo valid b k requests out ≡ refusedWith 1 0 out
+  target-answer n = by-test valid (λ t. absurd (n (exact .1 t))) (target-refused valid b k requests out)
 
-  book-answer : IllFormed → compileFor b k a h out ≡ refusedWith 6 0 out
-  unfolding compileFor compileScene
-  book-answer f = rw (addressable a .0 (f .0), f .1)
+  book-answer : IllFormed → compileTo valid b k requests out ≡ refusedWith 6 0 out
+  unfolding compileScene
+  book-answer f = target-valid valid b k requests out (exact .0 (f .0)) ∙ rw (f .1)
 
-  number-answer : Unknown → compileFor b k a h out ≡ refusedWith 7 0 out
-  unfolding compileFor compileScene
-  number-answer f = rw (addressable a .0 (f .0), f .1, le-leb (sceneCount b) k (f .2))
+  number-answer : Unknown → compileTo valid b k requests out ≡ refusedWith 7 0 out
+  unfolding compileScene
+  number-answer f = target-valid valid b k requests out (exact .0 (f .0)) ∙ rw (f .1, le-leb (sceneCount b) k (f .2))
 
-  step-answer : (n j : ℕ) → BadStep n j → compileFor b k a h out ≡ refusedWith n j out
-  unfolding compileFor compileScene
-  step-answer n j f = rw (addressable a .0 (f .0), f .1, lt-leb (sceneCount b) k (f .2), first-bad-step (sceneOf b k) n j .1 (f .3))
+  step-answer : (n j : ℕ) → BadStep n j → compileTo valid b k requests out ≡ refusedWith n j out
+  unfolding compileScene
+  step-answer n j f = target-valid valid b k requests out (exact .0 (f .0)) ∙ rw (f .1, lt-leb (sceneCount b) k (f .2), first-bad-step (sceneOf b k) n j .1 (f .3))
 
-  room-answer : NoRoom → compileFor b k a h out ≡ refusedWith 9 0 out
-  unfolding compileFor compileScene
+  room-answer : NoRoom → compileTo valid b k requests out ≡ refusedWith 9 0 out
+  unfolding compileScene
   room-answer f =
       let w = rule-faultless b k (f .1) in
-      rw (addressable a .0 (f .0), w .book, lt-leb (sceneCount b) k (w .number), w .steps, lt-ltb (length out) minOutput (f .2))
+      target-valid valid b k requests out (exact .0 (f .0))
+      ∙ rw (w .book, lt-leb (sceneCount b) k (w .number), w .steps, lt-ltb (length out) minOutput (f .2))
 
   -- without a fault the call writes the output
-  pub accepted-answer : Accepted → compileFor b k a h out ≡ outputInBuffer (output (sceneRequests a h (sceneOf b k))) out
-  accepted-answer f = compile-written b k a h out (addressable a .0 (f .0)) (f .2) (rule-faultless b k (f .1))
+  pub accepted-answer : Accepted → compileTo valid b k requests out ≡ outputInBuffer (output (requests (sceneOf b k))) out
+  accepted-answer f = compile-written valid b k requests out (exact .0 (f .0)) (f .2) (rule-faultless b k (f .1))
 
   -- one of the cases applies: what holds for the result of each case holds for the result of the call
   module _ (P : CompileResult → Type 0)
-      (address : ¬ Addressable a → P (refusedWith 1 0 out))
+      (target : ¬ Target → P (refusedWith 1 0 out))
       (ill-formed : IllFormed → P (refusedWith 6 0 out))
       (unknown : Unknown → P (refusedWith 7 0 out))
       (bad-step : (n j : ℕ) → BadStep n j → P (refusedWith n j out))
       (no-room : NoRoom → P (refusedWith 9 0 out))
-      (accepted : Accepted → P (outputInBuffer (output (sceneRequests a h (sceneOf b k))) out)) where
-    steps-cases : Addressable a → bookOk b ≡ true → k < sceneCount b → (x : StepsCheck) → firstBadFrom 0 (sceneOf b k) ≡ x
-        → P (compileSteps x (sceneRequests a h (sceneOf b k)) out)
-    steps-cases ad ok below (Bad j n) e = bad-step n j (ad, ok, below, first-bad-step (sceneOf b k) n j .0 e)
-    steps-cases ad ok below AllGood e =
+      (accepted : Accepted → P (outputInBuffer (output (requests (sceneOf b k))) out)) where
+    steps-cases : Target → bookOk b ≡ true → k < sceneCount b → (x : StepsCheck) → firstBadFrom 0 (sceneOf b k) ≡ x
+        → P (compileSteps x (requests (sceneOf b k)) out)
+    steps-cases to ok below (Bad j n) e = bad-step n j (to, ok, below, first-bad-step (sceneOf b k) n j .0 e)
+    steps-cases to ok below AllGood e =
         let r : SceneRule b k =
         record { well-formed = ok; known = below; no-fault = good-no-fault (sceneOf b k) (no-bad (sceneOf b k) .0 e) } in
-        by-cond P (ltb (length out) minOutput) _ _ (λ t. no-room (ad, r, ltb-true _ _ t)) (λ t. accepted (ad, r, ltb-false _ _ t))
+        by-cond P (ltb (length out) minOutput) _ _ (λ t. no-room (to, r, ltb-true _ _ t)) (λ t. accepted (to, r, ltb-false _ _ t))
 
     -- the tests in their order
-    pub compile-cases : P (compileFor b k a h out)
-    unfolding compileFor compileScene
+    pub compile-cases : P (compileTo valid b k requests out)
+    unfolding compileTo compileScene
     compile-cases =
-        by-cond P (not (addressOk a)) _ _
-        (λ t. address (λ ad. let z : _≡_ {A = ℕ} 0 1 = cc (addressable a .0 ad, not-true (addressOk a) t) in absurd (omega arith)))
-        (λ t. let ad = addressable a .1 (not-false (addressOk a) t) in
-        by-cond P (not (bookOk b)) _ _ (λ u. ill-formed (ad, not-true (bookOk b) u))
+        by-cond P (not valid) _ _
+        (λ t. target (λ to. let z : _≡_ {A = ℕ} 0 1 = cc (exact .0 to, not-true valid t) in absurd (omega arith)))
+        (λ t. let to = exact .1 (not-false valid t) in
+        by-cond P (not (bookOk b)) _ _ (λ u. ill-formed (to, not-true (bookOk b) u))
         (λ u. let ok = not-false (bookOk b) u in
-        by-cond P (leb (sceneCount b) k) _ _ (λ v. unknown (ad, ok, leb-true _ _ v))
-        (λ v. steps-cases ad ok (leb-false _ _ v) (firstBadFrom 0 (sceneOf b k)) refl)))
+        by-cond P (leb (sceneCount b) k) _ _ (λ v. unknown (to, ok, leb-true _ _ v))
+        (λ v. steps-cases to ok (leb-false _ _ v) (firstBadFrom 0 (sceneOf b k)) refl)))
 
   abbrev numberOf : CompileResult → ℕ
   numberOf r = r .refusal
@@ -198,12 +201,12 @@ module _ (b : List ℕ) (k a h : ℕ) (out : List ℕ) where
   not-bad t n j f e = no-step t (step-refusal (f .3)) f (sym e)
 
   -- each number exactly for its fault
-  pub compile-refusals : Refusals b k a out (compileFor b k a h out)
-  compile-refusals =
+  pub target-refusals : Refusals Target b k out (compileTo valid b k requests out)
+  target-refusals =
       record {
-        address = (
-          compile-cases (λ r. r .refusal ≡ 1 → ¬ Addressable a) (λ f _. f) (no refl) (no refl) (not-bad refl) (no refl) (no refl),
-          λ f. ap numberOf (address-answer f),
+        target = (
+          compile-cases (λ r. r .refusal ≡ 1 → ¬ Target) (λ f _. f) (no refl) (no refl) (not-bad refl) (no refl) (no refl),
+          λ f. ap numberOf (target-answer f),
         );
         ill-formed = (
           compile-cases (λ r. r .refusal ≡ 6 → IllFormed) (no refl) (λ f _. f) (no refl) (not-bad refl) (no refl) (no refl),
@@ -229,9 +232,17 @@ module _ (b : List ℕ) (k a h : ℕ) (out : List ℕ) where
         other-step =
             compile-cases (λ r. ¬ StepRefusal (r .refusal) → r .step ≡ 0) (λ _ _. refl) (λ _ _. refl) (λ _ _. refl) (λ n j f s. absurd (s (step-refusal (f .3))))
             (λ _ _. refl) (λ _ _. refl);
-        unwritten = compile-refused b k a h out;
+        unwritten = compile-refused valid b k requests out;
         later =
-            let o = output (sceneRequests a h (sceneOf b k)) in
+            let o = output (requests (sceneOf b k)) in
             compile-cases (λ r. drop (r .length) (r .buffer) ≡ drop (r .length) out) (λ _. refl) (λ _. refl) (λ _. refl) (λ n j _. refl)
             (λ _. refl) (λ _. drop-append-seam o (drop (length o) out));
       }
+
+-- compiling for an address
+pub compile-refusals : (b : List ℕ) (k a h : ℕ) (out : List ℕ) → Refusals (Addressable a) b k out (compileFor b k a h out)
+compile-refusals b k a h out = target-refusals (Addressable a) (addressOk a) (addressable a) b k (sceneRequests a h) out
+
+-- and for a set of nodes
+pub selected-refusals : (b : List ℕ) (k : ℕ) (nodes : List ℕ) (h : ℕ) (out : List ℕ) → Refusals (Selectable nodes) b k out (compileSelected b k nodes h out)
+selected-refusals b k nodes h out = target-refusals (Selectable nodes) (nodeSetOk nodes) (set-ok-exact nodes) b k (selectedRequests nodes h) out

@@ -18,12 +18,11 @@ use Rattle.handler.proofs.Soundness.{request-sound}
 use Rattle.book.specs.Book.{sceneOf}
 use Rattle.book.specs.Machine.{machine}
 use Rattle.scene.specs.Compile.{sceneRequests}
-use Rattle.scene.specs.Call.{CompileResult, output, requestsIn, outputOf, outputInBuffer, compileFor}
-use Rattle.scene.proofs.Outputs.{compile-refused}
-use Rattle.acceptance.specs.SceneTheorem.{Given, afterCalls}
+use Rattle.scene.specs.Call.{CompileResult, output, requestsIn, outputOf, outputInBuffer, addressOk, compileFor}
+use Rattle.acceptance.specs.SceneTheorem.{Addressable, Given, afterCalls}
 use Rattle.acceptance.specs.RunScene.{zeroBuffer, CompleteOutput, SceneResult, result, afterCompile, runScene}
-use Rattle.acceptance.proofs.Refusals.{accepted-answer, compile-refusals}
-use Rattle.acceptance.proofs.Scenes.{buffer-theorem}
+use Rattle.acceptance.proofs.Refusals.{addressable, accepted-answer, compile-refusals}
+use Rattle.acceptance.proofs.Scenes.{addressed-theorem}
 use Rattle.acceptance.proofs.OutputRequests.{output-complete}
 
 -- the assumptions of the theorem hold for a sound state, its own address and its own profile
@@ -79,7 +78,7 @@ module _ {book : List ℕ} {k : ℕ} {st : State} {out : List ℕ} {c : CompileR
     written =
         let a = st .node .settings .address in
         let h = st .node .settings .hwpid in
-        p .result-is ∙ accepted-answer book k a h out (compile-refusals book k a h out .none .0 accepted)
+        p .result-is ∙ accepted-answer (Addressable a) (addressOk a) (addressable a) book k (sceneRequests a h) out (compile-refusals book k a h out .none .0 accepted)
 
     -- it is inside the buffer
     pub run-inside : c .length ≤ length (c .buffer)
@@ -103,7 +102,7 @@ module _ {book : List ℕ} {k : ℕ} {st : State} {out : List ℕ} {c : CompileR
         let end : done ≡ machine (sceneOf book k) st =
         d
         ∙ ap (λ (y : CompileResult). afterCalls (λ _. zeroBuffer) (requestsIn (outputOf y)) st) (p .result-is)
-        ∙ buffer-theorem st (λ _. zeroBuffer) book k a h out (own-given st (p .sound)) accepted .final in
+        ∙ addressed-theorem st (λ _. zeroBuffer) book k a h (own-given st (p .sound)) .buffer out accepted .final in
         sym (compiled-first ∙ rw (eq-eqb (c .refusal) 0 z) (ap (λ (y : State). result 0 0 y (c .buffer)) (sym end)))
 
 -- a sound state stays sound under any calls
@@ -134,12 +133,12 @@ module _ (book : List ℕ) (k : ℕ) (st : State) (out : List ℕ) where
   scene-refused =
       run-cases (λ (r : SceneResult). (r .refusal ≡ 0 → ⊥) → (r .after ≡ st) × (r .out ≡ out))
       (λ _ _. (refl, refl))
-      (λ n _. (refl, compile-refused book k (st .node .settings .address) (st .node .settings .hwpid) out n .1))
+      (λ n _. (refl, compile-refusals book k (st .node .settings .address) (st .node .settings .hwpid) out .unwritten n .1))
       (λ _ n. absurd (n refl))
 
   -- running a scene keeps a state sound
   pub scene-sound : SoundState st → SoundState (runScene book k st out .after)
   scene-sound s =
       run-cases (λ (r : SceneResult). SoundState (r .after)) (λ _. s) (λ _. s)
-      (λ z. subst SoundState (buffer-theorem st (λ _. zeroBuffer) book k (st .node .settings .address) (st .node .settings .hwpid) out (own-given st s) z .final)
+      (λ z. subst SoundState (addressed-theorem st (λ _. zeroBuffer) book k (st .node .settings .address) (st .node .settings .hwpid) (own-given st s) .buffer out z .final)
       (calls-sound (λ _. zeroBuffer) (requestsIn (outputOf (compileOwn book k st out))) st s))

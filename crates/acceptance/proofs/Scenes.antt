@@ -1,28 +1,35 @@
--- Condition 3: its four parts.
+-- Condition 3: its parts.
 use mathlib.Core.Path.{_≡_, refl, sym, ap, subst, _∙_}
 use mathlib.Core.Logic.{_⊎_, inl, inr, _↔_}
 use mathlib.Core.List.{List}
-use mathlib.Core.Bool.{true, or-true}
+use mathlib.Core.Bool.{Bool, true, or-true}
 use Prim.Native.Nat.{ℕ}
+use native.Mathlib.Omega.{arith}
 use lib.Dec.{eqb}
 use borrow.Author.Tests.{eq-eqb, eqb-true}
-use Rattle.dpa.specs.Frame.{anyHwpid}
+use Rattle.dpa.specs.Frame.{broadcastNadr, anyHwpid}
+use Rattle.dpa.specs.NodeSet.{selects, nodeSetOk, Selectable}
 use Rattle.dpa.specs.Pnum.{osPnum}
 use Rattle.dpa.specs.declared.settings.Settings.{Settings}
-use Rattle.batch.specs.Batch.{item, listBytes}
-use Rattle.handler.specs.Request.{State, hwpidMatches, batchRequest, batchPcmd, execute}
+use Rattle.dpa.proofs.NodeSets.{set-ok-exact}
+use Rattle.batch.specs.Batch.{item, listBytes, Reading}
+use Rattle.batch.proofs.RoundTrip.{round-trip, list-nonempty}
+use Rattle.handler.specs.Request.{State, hwpidMatches, batchRequest, batchPcmd, selectivePcmd, execute}
 use Rattle.handler.proofs.Outcomes.{execute-os, os-batch}
+use Rattle.handler.proofs.SelectiveBatches.{selected-as-batch}
 use Rattle.book.specs.declared.step.Step.{Step}
 use Rattle.book.specs.Book.{sceneOf}
 use Rattle.book.specs.Step.{noFault, stepFault}
 use Rattle.book.specs.Machine.{wellFormed}
 use Rattle.book.proofs.Faults.{fault-meaning, good-formed}
-use Rattle.scene.proofs.Batches.{batch-limits}
+use Rattle.scene.specs.Compile.{sceneRequests, selectedRequests}
+use Rattle.scene.specs.Call.{addressOk, compileTo}
+use Rattle.scene.proofs.Batches.{batch-limits, selected-limits}
 use Rattle.scene.proofs.Outputs.{buffer-back}
-use Rattle.acceptance.specs.SceneTheorem.{NoFault, MatchesMachine, SceneTheorem, BufferTheorem, Condition3}
+use Rattle.acceptance.specs.SceneTheorem.{Addressable, NoFault, SceneRule, MatchesMachine, StaysUnchanged, ClaimOfScene, AddressedTheorem, SelectedTheorem, NotSelectedTheorem, Condition3}
 use Rattle.acceptance.proofs.Entries.{group-performs}
-use Rattle.acceptance.proofs.AllRequests.{steps-done}
-use Rattle.acceptance.proofs.Refusals.{addressable, no-fault-good, rule-faultless, compile-refusals}
+use Rattle.acceptance.proofs.AllRequests.{steps-done, steps-ignored}
+use Rattle.acceptance.proofs.Refusals.{addressable, no-fault-good, rule-faultless, target-refusals, compile-refusals, selected-refusals}
 
 -- a node accepts its own profile and the one for all nodes
 own-profile : (s : Settings) (h : ℕ) → (h ≡ s .hwpid) ⊎ (h ≡ anyHwpid) → hwpidMatches s h ≡ true
@@ -34,28 +41,66 @@ own-profile s h (inr e) = rw (eq-eqb h anyHwpid e) (or-true (eqb h (s .hwpid)))
 batch-executed : (h : ℕ) (d : List ℕ) (st : State) → hwpidMatches (st .node .settings) h ≡ true → execute (item osPnum batchPcmd h d) st ≡ batchRequest d st
 batch-executed h d st own = execute-os (item osPnum batchPcmd h d) st own refl ∙ os-batch batchPcmd d st refl
 
--- part `requests`
-pub scene-theorem : SceneTheorem
-scene-theorem st buffers book scene a h g r =
+-- what holds for the requests of the compiling rule holds for those in the output, since these are the same
+of-scene : (Target : Type 0) (valid : Bool) → Target ↔ (valid ≡ true) → (book : List ℕ) (scene : ℕ) (requests : List Step → List (List ℕ))
+    (Claim : List (List ℕ) → Type 0) → (SceneRule book scene → Claim (requests (sceneOf book scene)))
+    → ClaimOfScene book scene (requests (sceneOf book scene)) (compileTo valid book scene requests) Claim
+of-scene Target valid exact book scene requests Claim claim =
+    record {
+      rule = claim;
+      buffer = λ out z.
+          let f = target-refusals Target valid exact book scene requests out .none .0 z in
+          subst Claim (sym (buffer-back valid book scene requests out (exact .0 (f .0)) (f .2) (rule-faultless book scene (f .1)))) (claim (f .1));
+    }
+
+-- part `for-address`
+pub addressed-theorem : AddressedTheorem
+addressed-theorem st buffers book scene a h g =
     let s = st .node .settings in
+    let steps = sceneOf book scene in
     let own = own-profile s h (g .profile) in
-    steps-done batch-limits batchPcmd a h s (g .address) own
+    of-scene (Addressable a) (addressOk a) (addressable a) book scene (sceneRequests a h) (λ rs. MatchesMachine batchPcmd a buffers rs steps st)
+    (λ r. steps-done batch-limits batchPcmd a h s (g .address) own
     (λ items t e. batch-executed h (listBytes items) t (ap (λ (n : Settings). hwpidMatches n h) e ∙ own))
     (group-performs batch-limits h)
-    (sceneOf book scene) buffers st (no-fault-good (sceneOf book scene) (r .no-fault)) (g .sound) refl (g .room)
+    steps buffers st (no-fault-good steps (r .no-fault)) (g .sound) refl (g .room))
+
+-- part `selected`
+selected-theorem : SelectedTheorem
+selected-theorem st buffers book scene nodes h g size named =
+    let s = st .node .settings in
+    let steps = sceneOf book scene in
+    let own = own-profile s h (g .profile) in
+    let limits = selected-limits nodes size in
+    of-scene (Selectable nodes) (nodeSetOk nodes) (set-ok-exact nodes) book scene (selectedRequests nodes h)
+    (λ rs. MatchesMachine selectivePcmd broadcastNadr buffers rs steps st)
+    (λ r. steps-done limits selectivePcmd broadcastNadr h s (g .address) own
+    (λ items t e. selected-as-batch h nodes (listBytes items) size (omega (arith, list-nonempty items)) t
+    (ap (λ (n : Settings). hwpidMatches n h) e ∙ own) (ap (λ (n : Settings). selects nodes (n .address)) e ∙ named)
+    (ap (λ (x : Reading). x .check) (round-trip items)))
+    (group-performs limits h)
+    steps buffers st (no-fault-good steps (r .no-fault)) (g .sound) refl (g .room))
+
+-- part `not-selected`
+not-selected-theorem : NotSelectedTheorem
+not-selected-theorem st buffers book scene nodes h sound room size unnamed =
+    let steps = sceneOf book scene in
+    of-scene (Selectable nodes) (nodeSetOk nodes) (set-ok-exact nodes) book scene (selectedRequests nodes h) (λ rs. StaysUnchanged buffers rs st)
+    (λ r. steps-ignored nodes size h st sound unnamed steps buffers (no-fault-good steps (r .no-fault)) room)
 
 -- part `steps`: a step without a fault passes the compiler's test, which agrees with the step machine's rule
 steps-formed : (s : Step) → NoFault s ↔ (wellFormed s ≡ true)
 steps-formed s = (λ e. good-formed s .0 (eq-eqb (stepFault s) noFault e), λ f. eqb-true (stepFault s) noFault (good-formed s .1 f))
 
--- part `buffer`: the requests in the output are those of the compiling rule
-pub buffer-theorem : BufferTheorem
-buffer-theorem st buffers book scene a h out g z =
-    let f = compile-refusals book scene a h out .none .0 z in
-    let back = buffer-back book scene a h out (addressable a .0 (f .0)) (f .2) (rule-faultless book scene (f .1)) in
-    subst (λ (rs : List (List ℕ)). MatchesMachine batchPcmd a buffers rs (sceneOf book scene) st) (sym back)
-    (scene-theorem st buffers book scene a h g (f .1))
-
--- all five parts
+-- all parts
 pub condition-3 : Condition3
-condition-3 = record { refusals = compile-refusals; faults = fault-meaning; steps = steps-formed; requests = scene-theorem; buffer = buffer-theorem }
+condition-3 =
+    record {
+      refusals = compile-refusals;
+      selected-refusals = selected-refusals;
+      faults = fault-meaning;
+      steps = steps-formed;
+      for-address = addressed-theorem;
+      selected = selected-theorem;
+      not-selected = not-selected-theorem;
+    }

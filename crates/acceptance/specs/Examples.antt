@@ -2,19 +2,24 @@
 -- Then examples of our own. Proved by computation in proofs/Examples.
 use Prim.Native.Nat.{ℕ, _≤_}
 use mathlib.Core.Path.{_≡_}
-use mathlib.Core.Bool.{false}
-use mathlib.Core.List.{List, [], _∷_, map}
+use mathlib.Core.Bool.{false, _||_}
+use mathlib.Core.List.{List, [], _∷_, _++_, map}
 use lib.ListN.{length, getD, take, replicate}
-use Rattle.dpa.specs.Frame.{anyHwpid}
+use lib.Dec.{eqb}
+use Rattle.dpa.specs.Frame.{anyHwpid, frame, headerBytes}
+use Rattle.dpa.specs.NodeSet.{nodeSetOf}
 use Rattle.dpa.specs.Pnum.{osPnum, lightsPnum}
 use Rattle.lights.specs.Lamp.{lamp, off, actualLevel}
 use Rattle.checksum.specs.Sums.{sums, start, checksum}
 use Rattle.batch.specs.Batch.{item}
 use Rattle.timing.specs.declared.slot.Network.the-variants.{Std}
 use Rattle.timing.specs.Slot.{sendOf}
-use Rattle.handler.specs.Request.{State, Outcome, batchPcmd, execute}
+use Rattle.handler.specs.Request.{State, faultReport, Outcome, unansweredOutcome, batchPcmd, selectivePcmd, execute, CallResult, unansweredResult, handleRequest}
+use Rattle.book.specs.declared.step.Step.{Step}
+use Rattle.book.specs.Join.{entriesOf}
 use Rattle.book.specs.Examples.{settings, freshState, book}
-use Rattle.scene.specs.Call.{minOutput, outputInBuffer, compileFor}
+use Rattle.scene.specs.Compile.{selectedEntryLimit}
+use Rattle.scene.specs.Call.{minOutput, outputInBuffer, compileFor, compileSelected}
 
 -- a lights request, and a batch, with the HWPID of the example node
 abbrev pub lights : ℕ → List ℕ → State → Outcome
@@ -98,8 +103,52 @@ refusedEntries =
     ∷ 0x00 ∷ []
     ) (freshState 3 1)
 
+-- a selective batch with this list to the nodes of a set, executed by the example node, whose address is 1
+abbrev pub selective : List ℕ → List ℕ → Outcome
+selective nodes list = execute (item osPnum selectivePcmd 0x2471 (nodes ++ list)) (freshState 3 1)
+
+-- the set of nodes 1 and 9, and that of node 9
+abbrev pub nodes1and9 : List ℕ
+nodes1and9 = 0x02 ∷ 0x02 ∷ replicate 28 0x00
+
+abbrev pub node9 : List ℕ
+node9 = 0x00 ∷ 0x02 ∷ replicate 28 0x00
+
+-- the call with a selective batch of an empty list, sent to address 1
+abbrev pub toNode1 : List ℕ → CallResult
+toNode1 nodes = handleRequest (headerBytes (frame 1 osPnum selectivePcmd 0x2471) ++ (nodes ++ (0x00 ∷ []))) (freshState 3 1) (replicate 64 0xEE)
+
+-- lamps 0 to 8 to 50, for a minute each
+abbrev pub nineSteps : List Step
+nineSteps = map (λ lamp. record { kind = 0; target = lamp; value = 50; time = 1 }) (0 ∷ 1 ∷ 2 ∷ 3 ∷ 4 ∷ 5 ∷ 6 ∷ 7 ∷ 8 ∷ [])
+
+-- the output of scene 0 of the book for nodes 1 and 9
+abbrev pub selectedOutput : List ℕ
+selectedOutput =
+    0x01 ∷ 0x31 ∷ 0xFF ∷ 0x00 ∷ 0x02 ∷ 0x0B ∷ 0xFF ∷ 0xFF
+    ∷ (nodes1and9 ++ (0x0C ∷ 0x71 ∷ 0x00 ∷ 0xFF ∷ 0xFF ∷ 0x05 ∷ 0x00 ∷ 0x00 ∷ 0x00 ∷ 0x0A ∷ 0xE4 ∷ 0x02 ∷ 0x00 ∷ []))
+
 pub record OwnExamples : Type 0 where
   -- the entries have errors although the batch has none: that no entry has an error says more than the batch's ErrN
   pub entry-errors : refusedEntries .entries ≡ 3 ∷ 7 ∷ 6 ∷ []
   pub batch-error : refusedEntries .error ≡ 0
   pub unchanged : refusedEntries .after ≡ freshState 3 1
+  -- nodes 1 and 9, written as a set
+  pub nodes-written : nodeSetOf (λ a. eqb a 1 || eqb a 9) ≡ nodes1and9
+  -- the shortest PData, with an empty list
+  pub selected-empty : selective nodes1and9 (0x00 ∷ []) .error ≡ 0
+  -- a list that cannot be read: its place counts in PData; a node that is not selected does not look at it
+  pub selected-fault : selective nodes1and9 (0x04 ∷ 0x00 ∷ []) .report ≡ faultReport 1 30
+  pub selected-error : selective nodes1and9 (0x04 ∷ 0x00 ∷ []) .error ≡ 6
+  pub not-selected : selective node9 (0x04 ∷ 0x00 ∷ []) ≡ unansweredOutcome (freshState 3 1)
+  -- without a list ErrN 5, whether the node is selected or not
+  pub selected-short : selective nodes1and9 [] .error ≡ 5
+  pub not-selected-short : selective node9 [] .error ≡ 5
+  -- at its own address the node answers with PCMD 8B if it is selected, and not at all if not
+  pub selected-answers : take 8 (toNode1 nodes1and9 .response) ≡ 0x01 ∷ 0x00 ∷ 0x02 ∷ 0x8B ∷ 0x71 ∷ 0x24 ∷ 0x00 ∷ 0x00 ∷ []
+  pub selected-length : toNode1 nodes1and9 .length ≡ 8
+  pub not-selected-silent : toNode1 node9 ≡ unansweredResult (unansweredOutcome (freshState 3 1)) (replicate 64 0xEE)
+  -- nine steps for lamps with a time: eight make 20 bytes of PData, the ninth opens an entry
+  pub eight-in-an-entry : map length (entriesOf selectedEntryLimit nineSteps) ≡ 8 ∷ 1 ∷ []
+  -- scene 0 for nodes 1 and 9 and the default HWPID, in any buffer with room
+  pub book-selected : (out : List ℕ) → minOutput ≤ length out → compileSelected book 0 nodes1and9 anyHwpid out ≡ outputInBuffer selectedOutput out

@@ -1,16 +1,22 @@
--- Condition 3 as one statement: `Condition3`, at the end of this file. It has five parts:
---   refusals  compiling is refused exactly for the faults that the papers name, each with its own number
---   faults    what 81 to 84 say about a step
---   steps     the steps without a fault are exactly those that the step machine executes, by a rule of its own
---   requests  a node that handles the requests of a scene in order refuses none of them, reports no error for any entry in
---             them, and ends in the state that the step machine ends in
---   buffer    the same holds for the requests that are read back from the output of the compile call, in any buffer
--- Proved in proofs/Scenes (`condition-3`). proofs/Instance gives a node and a book that meet all assumptions.
+-- Condition 3 as one statement: `Condition3`, at the end of this file. A scene is compiled in two modes: for an address, into batches,
+-- and for the nodes of a set, into broadcast selective batches. The statement has seven parts:
+--   refusals           compiling for an address is refused exactly for the faults that the papers name, each with its own number
+--   selected-refusals  the same of compiling for a set of nodes
+--   faults             what 81 to 84 say about a step
+--   steps              the steps without a fault are exactly those that the step machine executes, by a rule of its own
+--   for-address        a node that handles the requests of a scene in order refuses none of them, reports no error for any entry in
+--                      them, and ends in the state that the step machine ends in
+--   selected           the same of a scene for a set of nodes and a node that the set names
+--   not-selected       a node that the set does not name answers no call; the node, its memories and the buffers stay
+-- Each of the last three is said of the requests that the compiling rule gives, and of those that are read back from the output of
+-- the compile call, in any buffer.
+-- Proved in proofs/Scenes (`condition-3`). proofs/Instance gives nodes and a book that meet all assumptions.
 --
--- Sources: document 01, "Frames", "Scenes" and "Strength of the contracts"; document 02, change 1. The statement is about what the
--- contracts say that the calls compute: `compileFor`, `outputOf` and `requestsIn` (scene/specs/Call), `handleRequest` and `execute` (handler/specs/Request);
--- and about the rules of the book (`bookOk`, book/specs/Book), of a step (`stepFault`, book/specs/Step), of compiling
--- (`sceneRequests`, scene/specs/Compile) and of the step machine (`wellFormed`, `machine`, book/specs/Machine).
+-- Sources: document 01, "Frames", "Scenes" and "Strength of the contracts"; document 02, changes 1 and 3. The statement is about what
+-- the contracts say that the calls compute: `compileFor`, `compileSelected`, `outputOf` and `requestsIn` (scene/specs/Call),
+-- `handleRequest` and `execute` (handler/specs/Request); and about the rules of a node set (`selects`, dpa/specs/NodeSet), of the book
+-- (`bookOk`, book/specs/Book), of a step (`stepFault`, book/specs/Step), of compiling (`sceneRequests`, `selectedRequests`,
+-- scene/specs/Compile) and of the step machine (`wellFormed`, `machine`, book/specs/Machine).
 use Prim.Native.Nat.{ℕ, suc, _≤_, _<_}
 use mathlib.Core.Path.{_≡_}
 use mathlib.Core.Logic.{_⊎_, _↔_}
@@ -21,15 +27,16 @@ use lib.Dec.{eqb}
 use Rattle.dpa.specs.declared.settings.Settings.{Settings}
 use Rattle.dpa.specs.Lists.{overwriteFront, All}
 use Rattle.dpa.specs.Frame.{responseHeaderSize, longestResponse, broadcastNadr, anyHwpid, responseHeader}
+use Rattle.dpa.specs.NodeSet.{nodeSetSize, selects, Selectable}
 use Rattle.dpa.specs.Pnum.{osPnum}
 use Rattle.dpa.specs.Settings.{lastAddress}
-use Rattle.handler.specs.Request.{State, SoundState, frameItem, noReport, batchPcmd, execute, handleRequest}
+use Rattle.handler.specs.Request.{State, SoundState, frameItem, noReport, batchPcmd, selectivePcmd, execute, handleRequest}
 use Rattle.book.specs.declared.step.Step.{Step}
 use Rattle.book.specs.Book.{sceneCount, bookOk, sceneOf}
 use Rattle.book.specs.Step.{noFault, stepFault, FaultMeaning}
 use Rattle.book.specs.Machine.{wellFormed, machine}
-use Rattle.scene.specs.Compile.{sceneRequests}
-use Rattle.scene.specs.Call.{CompileResult, minOutput, requestsIn, outputOf, compileFor}
+use Rattle.scene.specs.Compile.{sceneRequests, selectedRequests}
+use Rattle.scene.specs.Call.{CompileResult, minOutput, requestsIn, outputOf, compileFor, compileSelected}
 
 -- ---- refusals
 
@@ -62,22 +69,23 @@ pub record FirstBad (steps : List Step) (n k : ℕ) : Type 0 where
   pub not-good : ¬ NoFault bad
   pub fault : stepFault bad ≡ n
 
--- The result r of a compile call. Each refusal number is given exactly for its fault, if no fault earlier in this list applies;
--- 0 is given exactly if there is no fault.
-pub record Refusals (book : List ℕ) (scene a : ℕ) (out : List ℕ) (r : CompileResult) : Type 0 where
-  -- 1: the address
-  pub address : (r .refusal ≡ 1) ↔ (¬ Addressable a)
+-- The result r of a compile call, where `Target` says that the address (`Addressable`) or the set of nodes (`Selectable`,
+-- dpa/specs/NodeSet) is one to compile for. Each refusal number is given exactly for its fault, if no fault earlier in this list
+-- applies; 0 is given exactly if there is no fault.
+pub record Refusals (Target : Type 0) (book : List ℕ) (scene : ℕ) (out : List ℕ) (r : CompileResult) : Type 0 where
+  -- 1: the address or the set of nodes
+  pub target : (r .refusal ≡ 1) ↔ (¬ Target)
   -- 6: the bytes are no scene book
-  pub ill-formed : (r .refusal ≡ 6) ↔ (Addressable a × (bookOk book ≡ false))
+  pub ill-formed : (r .refusal ≡ 6) ↔ (Target × (bookOk book ≡ false))
   -- 7: the book has no scene of that number
-  pub unknown : (r .refusal ≡ 7) ↔ (Addressable a × (bookOk book ≡ true) × (sceneCount book ≤ scene))
+  pub unknown : (r .refusal ≡ 7) ↔ (Target × (bookOk book ≡ true) × (sceneCount book ≤ scene))
   -- 81 to 84: the fault of the first bad step, with its number
   pub bad-step : (n k : ℕ) → (StepRefusal n × (r .refusal ≡ n) × (r .step ≡ k))
-      ↔ (Addressable a × (bookOk book ≡ true) × (scene < sceneCount book) × FirstBad (sceneOf book scene) n k)
+      ↔ (Target × (bookOk book ≡ true) × (scene < sceneCount book) × FirstBad (sceneOf book scene) n k)
   -- 9: the output buffer is too small
-  pub no-room : (r .refusal ≡ 9) ↔ (Addressable a × SceneRule book scene × (length out < minOutput))
+  pub no-room : (r .refusal ≡ 9) ↔ (Target × SceneRule book scene × (length out < minOutput))
   -- 0: compiled
-  pub none : (r .refusal ≡ 0) ↔ (Addressable a × SceneRule book scene × (minOutput ≤ length out))
+  pub none : (r .refusal ≡ 0) ↔ (Target × SceneRule book scene × (minOutput ≤ length out))
   -- the number of a step is given with refusals 81 to 84 only
   pub other-step : ¬ StepRefusal (r .refusal) → r .step ≡ 0
   -- a refused call has no output and leaves the buffer unchanged
@@ -128,25 +136,65 @@ pub record MatchesMachine (pcmd a : ℕ) (buffers : ℕ → List ℕ) (requests 
   pub calls : AllSucceed pcmd a (st .node .settings) buffers requests st
   pub final : afterCalls buffers requests st ≡ machine steps st
 
--- For the requests that the compiling rule gives for a scene without a fault.
-abbrev pub SceneTheorem : Type 0
-SceneTheorem =
-    (st : State) (buffers : ℕ → List ℕ) (book : List ℕ) (scene a h : ℕ)
-    → Given st buffers a h → SceneRule book scene
-    → MatchesMachine batchPcmd a buffers (sceneRequests a h (sceneOf book scene)) (sceneOf book scene) st
+-- A call that does nothing: it is not refused, there is no response and no report, and the buffer, the node and both memories stay.
+pub record Ignored (request : List ℕ) (st : State) (buffer : List ℕ) : Type 0 where
+  pub refusal : handleRequest request st buffer .refusal ≡ 0
+  pub length : handleRequest request st buffer .length ≡ 0
+  pub response : handleRequest request st buffer .response ≡ buffer
+  pub report : handleRequest request st buffer .report ≡ noReport
+  pub addressed : handleRequest request st buffer .addressed ≡ true
+  pub after : handleRequest request st buffer .after ≡ st
 
--- For the requests read back from the output of any compile call that is not refused.
-abbrev pub BufferTheorem : Type 0
-BufferTheorem =
-    (st : State) (buffers : ℕ → List ℕ) (book : List ℕ) (scene a h : ℕ) (out : List ℕ)
-    → Given st buffers a h → compileFor book scene a h out .refusal ≡ 0
-    → MatchesMachine batchPcmd a buffers (requestsIn (outputOf (compileFor book scene a h out))) (sceneOf book scene) st
+-- Every call does nothing; each starts from the state that the one before left.
+abbrev pub AllIgnored : (ℕ → List ℕ) → List (List ℕ) → State → Type 0
+AllIgnored buffers [] st = Unit
+AllIgnored buffers (r ∷ rs) st = Ignored r st (buffers 0) × AllIgnored (λ k. buffers (suc k)) rs (handleRequest r st (buffers 0) .after)
+
+-- Every call does nothing, and the final state is the first.
+pub record StaysUnchanged (buffers : ℕ → List ℕ) (requests : List (List ℕ)) (st : State) : Type 0 where
+  pub calls : AllIgnored buffers requests st
+  pub final : afterCalls buffers requests st ≡ st
+
+-- A claim about the requests of a scene. `requests` are those that the compiling rule gives; `call out` is the result of the
+-- compile call with output buffer `out`.
+pub record ClaimOfScene (book : List ℕ) (scene : ℕ) (requests : List (List ℕ)) (call : List ℕ → CompileResult)
+    (Claim : List (List ℕ) → Type 0) : Type 0 where
+  -- it holds for the requests of a scene without a fault
+  pub rule : SceneRule book scene → Claim requests
+  -- and for those read back from the output of any call that is not refused
+  pub buffer : (out : List ℕ) → call out .refusal ≡ 0 → Claim (requestsIn (outputOf (call out)))
+
+-- A scene for an address.
+abbrev pub AddressedTheorem : Type 0
+AddressedTheorem =
+    (st : State) (buffers : ℕ → List ℕ) (book : List ℕ) (scene a h : ℕ) → Given st buffers a h
+    → ClaimOfScene book scene (sceneRequests a h (sceneOf book scene)) (compileFor book scene a h)
+    (λ requests. MatchesMachine batchPcmd a buffers requests (sceneOf book scene) st)
+
+-- A scene for a set of nodes, and a node that the set names. The requests are broadcasts.
+abbrev pub SelectedTheorem : Type 0
+SelectedTheorem =
+    (st : State) (buffers : ℕ → List ℕ) (book : List ℕ) (scene : ℕ) (nodes : List ℕ) (h : ℕ) → Given st buffers broadcastNadr h
+    → length nodes ≡ nodeSetSize → selects nodes (st .node .settings .address) ≡ true
+    → ClaimOfScene book scene (selectedRequests nodes h (sceneOf book scene)) (compileSelected book scene nodes h)
+    (λ requests. MatchesMachine selectivePcmd broadcastNadr buffers requests (sceneOf book scene) st)
+
+-- The same scene, and a node that the set does not name, of any profile.
+abbrev pub NotSelectedTheorem : Type 0
+NotSelectedTheorem =
+    (st : State) (buffers : ℕ → List ℕ) (book : List ℕ) (scene : ℕ) (nodes : List ℕ) (h : ℕ) → SoundState st
+    → ((k : ℕ) → longestResponse ≤ length (buffers k)) → length nodes ≡ nodeSetSize → selects nodes (st .node .settings .address) ≡ false
+    → ClaimOfScene book scene (selectedRequests nodes h (sceneOf book scene)) (compileSelected book scene nodes h)
+    (λ requests. StaysUnchanged buffers requests st)
 
 -- ---- condition 3
 
 pub record Condition3 : Type 0 where
-  pub refusals : (book : List ℕ) (scene a h : ℕ) (out : List ℕ) → Refusals book scene a out (compileFor book scene a h out)
+  pub refusals : (book : List ℕ) (scene a h : ℕ) (out : List ℕ) → Refusals (Addressable a) book scene out (compileFor book scene a h out)
+  pub selected-refusals : (book : List ℕ) (scene : ℕ) (nodes : List ℕ) (h : ℕ) (out : List ℕ)
+      → Refusals (Selectable nodes) book scene out (compileSelected book scene nodes h out)
   pub faults : (s : Step) → FaultMeaning s
   pub steps : (s : Step) → NoFault s ↔ (wellFormed s ≡ true)
-  pub requests : SceneTheorem
-  pub buffer : BufferTheorem
+  pub for-address : AddressedTheorem
+  pub selected : SelectedTheorem
+  pub not-selected : NotSelectedTheorem

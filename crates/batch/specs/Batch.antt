@@ -109,7 +109,7 @@ abbrev pub entryLength : NextEntry → ℕ
 entryLength (Entry l p c h) = l
 entryLength (Fault r a) = 0
 
--- the result for a list whose first l bytes were left out of the check
+-- the same check, with the place of a fault l bytes later
 abbrev pub shiftFault : ℕ → ListCheck → ListCheck
 shiftFault l Sound = Sound
 shiftFault l (Broken r a) = Broken r (l + a)

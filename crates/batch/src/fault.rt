@@ -1,4 +1,4 @@
-// Why a list cannot be split into entries. Each reason comes with a position in the list.
+// Why a list cannot be split into entries. Each reason comes with a position in the list, or in PData where a node set is in front of it.
 
 // No fault.
 pub const NONE: u8 = 0;

@@ -8,7 +8,7 @@ ghost use Rattle.batch.specs.Batch.{faultOf, reading, listError};
 
 pub enum ListCheck {
     Sound,
-    // The first fault; `at` counts from the first byte of the list.
+    // The first fault; `at` counts from the first byte of the list, or of PData where a node set is in front of the list.
     Broken { reason: u8, at: usize },
 }
 

@@ -76,3 +76,14 @@ pub all-below-elim : (n : ℕ) (f : ℕ → Bool) → allBelow n f ≡ true → 
 unfolding allBelow
 all-below-elim zero f h k l = absurd (omega arith)
 all-below-elim (suc n) f h k l = last-or n k f (eqb k n) refl l (and-right (allBelow n f) _ h) (all-below-elim n f (and-left _ _ h) k)
+
+-- a false test over all numbers below n fails for one of them
+pub all-below-fails : {R : Type 0} (n : ℕ) (f : ℕ → Bool) → allBelow n f ≡ false → ((k : ℕ) → k < n → f k ≡ false → R) → R
+unfolding allBelow
+all-below-fails zero f e found = let z : _≡_ {A = ℕ} 0 1 = cc in absurd (omega arith)
+all-below-fails (suc n) f e found =
+    by-test (f n) (λ t. all-below-fails n f (earlier (allBelow n f) (f n) t e) (λ k h. found k (omega arith))) (found n (omega arith))
+  where
+    earlier : (a b : Bool) → b ≡ true → (a && b) ≡ false → a ≡ false
+    earlier true b t e = let z : _≡_ {A = ℕ} 0 1 = cc in absurd (omega arith)
+    earlier false b t e = refl

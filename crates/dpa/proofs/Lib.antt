@@ -6,3 +6,4 @@ pub mod Headers
 pub mod Replies
 pub mod All
 pub mod Bytes
+pub mod NodeSets

@@ -1,6 +1,6 @@
 // Why a call refuses its arguments. If several apply, the first of this list is returned.
 pub const NONE: u8 = 0;
-// The node record breaks the node rule, or settings or an address are out of range.
+// The node record breaks the node rule, settings or an address are out of range, or a node set names address 0 or no node.
 pub const NODE: u8 = 1;
 // The frame is shorter than its header, or longer than the longest request.
 pub const FRAME: u8 = 2;

@@ -1,14 +1,15 @@
 -- The call: refusals, the address of the frame, and the response.
-use mathlib.Core.Path.{_≡_, ap, sym, _∙_}
-use mathlib.Core.List.{List, _++_}
-use mathlib.Core.Bool.{true, _&&_, _||_}
+use mathlib.Core.Path.{_≡_, refl, ap, sym, _∙_}
+use mathlib.Core.List.{List, [], _++_}
+use mathlib.Core.Bool.{Bool, true, false, cond, _&&_, _||_}
 use Prim.Native.Nat.{ℕ, _+_, _-_, _≤_}
 use native.Mathlib.Omega.{arith}
 use lib.Dec.{ltb, eqb}
 use lib.ListN.{length, take, drop}
-use borrow.Rule.Slice.PartMut.{midOf, putMid}
+use borrow.Rule.Slice.PartMut.{midOf, putMid, put-same}
 use borrow.Author.Tests.{eq-eqb, ne-eqb, eqb-true, ltb-false}
 use Rattle.dpa.specs.declared.frame.Frame.{Frame}
+use Rattle.dpa.specs.declared.settings.Settings.{Settings}
 use Rattle.dpa.specs.Lists.{overwriteFront}
 use Rattle.dpa.specs.Frame.{headerSize, longestFrame, responseHeaderSize, longestResponse, broadcastNadr, headerOf, frameFits, responseHeader}
 use Rattle.dpa.proofs.Bool.{by-cond, then-taken, else-taken}
@@ -20,10 +21,11 @@ use Rattle.batch.specs.Batch.{Item}
 use Rattle.node.specs.declared.record.Node.{Node}
 use Rattle.node.specs.declared.record.ReadOnly.{ReadOnly}
 use Rattle.handler.specs.declared.reply.RequestReply.{RequestReply}
+use Rattle.handler.specs.declared.answer.Handled.{Handled}
 use Rattle.handler.specs.declared.answer.RequestAnswer.{RequestAnswer}
 use Rattle.node.specs.Node.{nodeOk}
-use Rattle.handler.specs.Request.{State, state, SoundState, Outcome, headerItem, frameItem, execute, CallResult, unhandledResult, broadcastResult, unicastResult, handleFrame, requestRefusal, callRefusal, handleRequest}
-use Rattle.handler.specs.Seen.{SeenOutcome, outcomeSeen, outcomeInBuffer, callResult, callResultFromParts}
+use Rattle.handler.specs.Request.{State, state, SoundState, Outcome, headerItem, frameItem, execute, CallResult, unhandledResult, unansweredResult, responseResult, unicastResult, handleFrame, requestRefusal, callRefusal, handleRequest}
+use Rattle.handler.specs.Seen.{SeenOutcome, outcomeSeen, outcomeInBuffer, handledReply, withResponseHeader, callResult, callResultFromParts}
 
 -- the request that the code reads from a frame
 pub frame-item-read : (f : List ℕ) {h : Frame} → h ≡ headerOf f → headerItem h (take (length f - headerSize) (drop headerSize f)) ≡ frameItem f
@@ -33,7 +35,7 @@ frame-item-read f e =
 
 module _ (f : List ℕ) (st : State) (o : List ℕ) where
   -- a broadcast
-  pub frame-broadcast : headerOf f .nadr ≡ broadcastNadr → handleFrame f st o ≡ broadcastResult (execute (frameItem f) st) o
+  pub frame-broadcast : headerOf f .nadr ≡ broadcastNadr → handleFrame f st o ≡ unansweredResult (execute (frameItem f) st) o
   unfolding handleFrame
   frame-broadcast e = rw (eq-eqb (headerOf f .nadr) broadcastNadr e)
 
@@ -60,16 +62,18 @@ module _ (f : List ℕ) (st : State) (o : List ℕ) where
   unfolding handleRequest
   call-accepted e = rw (eq-eqb (callRefusal f st o) 0 e)
 
--- A property of results holds for every call if it holds where nothing is done, for a broadcast and for a response.
+-- A property of results holds for every call if it holds where nothing is done, without a response and with one.
 pub call-cases : (P : CallResult → Type 0) (f : List ℕ) (st : State) (o : List ℕ) → ((k : ℕ) → P (unhandledResult st k o))
-    → (callRefusal f st o ≡ 0 → P (broadcastResult (execute (frameItem f) st) o))
-    → (callRefusal f st o ≡ 0 → P (unicastResult (st .node .settings) (frameItem f) (execute (frameItem f) st) o))
+    → (callRefusal f st o ≡ 0 → P (unansweredResult (execute (frameItem f) st) o))
+    → (callRefusal f st o ≡ 0 → P (responseResult (st .node .settings) (frameItem f) (execute (frameItem f) st) o))
     → P (handleRequest f st o)
 unfolding handleRequest handleFrame
 call-cases P f st o nothing all own =
     by-cond P (eqb (callRefusal f st o) 0) _ _
     (λ z. by-cond P (eqb (headerOf f .nadr) broadcastNadr) _ _ (λ _. all (eqb-true _ _ z))
-    (λ _. by-cond P (eqb (headerOf f .nadr) (st .node .settings .address)) _ _ (λ _. own (eqb-true _ _ z)) (λ _. nothing 0)))
+    (λ _. by-cond P (eqb (headerOf f .nadr) (st .node .settings .address)) _ _
+    (λ _. by-cond P (execute (frameItem f) st .answered) _ _ (λ _. own (eqb-true _ _ z)) (λ _. all (eqb-true _ _ z)))
+    (λ _. nothing 0)))
     (λ _. nothing (callRefusal f st o))
 
 -- a call reports "addressed" exactly if it is not refused and NADR is the broadcast's or the node's
@@ -82,7 +86,8 @@ addressed-exact f st o =
     let own = eqb (headerOf f .nadr) (st .node .settings .address) in
     let Exact : CallResult → Type 0 = λ a. a .addressed ≡ (eqb (a .refusal) 0 && (all || own)) in
     by-cond Exact (eqb (callRefusal f st o) 0) _ _
-    (λ _. by-cond Exact all _ _ (λ e. rw e) (λ e. by-cond Exact own _ _ (λ q. rw (e, q)) (λ q. rw (e, q))))
+    (λ _. by-cond Exact all _ _ (λ e. rw e)
+    (λ e. by-cond Exact own _ _ (λ q. by-cond Exact (execute (frameItem f) st .answered) _ _ (λ _. rw (e, q)) (λ _. rw (e, q))) (λ q. rw (e, q))))
     (λ e. rw e)
 
 module _ (n : Node) (f e x r : ℕ) (z : requestRefusal n f e x r ≡ 0) where
@@ -103,31 +108,86 @@ accepted-sound n e x f r z =
     let k = not-refused-facts n f (length e) (length x) r z in
     record { node-ok = k .0; eeprom-size = k .4; external-size = k .5 }
 
+-- a request to this node reports what executing it reports, answered or not
+pub unicast-report : (s : Settings) (i : Item) (a : Outcome) (o : List ℕ) → unicastResult s i a o .report ≡ a .report
+unicast-report s i a o = by-cond (λ (c : CallResult). c .report ≡ a .report) (a .answered) _ _ (λ _. refl) (λ _. refl)
+
 -- ---- as the code shows it
+
+-- equal replies to a handled request show equal results
+pub handled-as : {k : ReadOnly} {g h : Handled} {r e x o : List ℕ} → g ≡ h → callResultFromParts k g r e x o ≡ callResultFromParts k h r e x o
+handled-as {k} {g} {h} {r} {e} {x} {o} q = ap (λ (t : Handled). callResultFromParts k t r e x o) q
 
 -- equal answers show equal results
 pub call-result-as : {r t : RequestAnswer} {e x o : List ℕ} → r ≡ t → callResult r e x o ≡ callResult t e x o
 call-result-as {r} {t} {e} {x} {o} q = ap (λ (u : RequestAnswer). callResult u e x o) q
 
--- the response: the data is written to the buffer after the header, then the header in front
-pub unicast-response : (o m : List ℕ) → responseHeaderSize ≤ length o → (k : ReadOnly) (i : Item) (a : Outcome) {c : RequestReply} {r e x w : List ℕ}
-    → outcomeSeen k c r e x m ≡ outcomeInBuffer a (midOf responseHeaderSize (length o - responseHeaderSize) o)
-    → w ≡ responseHeader (k .settings) (i .pnum) (i .pcmd) (c .error) ++ drop responseHeaderSize (putMid responseHeaderSize (length o - responseHeaderSize) o m)
-    → callResultFromParts k (record { length = responseHeaderSize + c .length; report = c .report; lamps = c .lamps }) r e x w ≡ unicastResult (k .settings) i a o
-unicast-response o m h k i a {c} {r} {e} {x} {w} q u =
-    ap (callResultFromParts k (record { length = responseHeaderSize + c .length; report = c .report; lamps = c .lamps }) r e x)
-    (u ∙ ap (λ (l : List ℕ). responseHeader (k .settings) (i .pnum) (i .pcmd) (c .error) ++ l) (tail-returned responseHeaderSize o m h))
-    ∙ ap headed q
-    ∙ ap answered (tail-borrowed responseHeaderSize o)
-    ∙ ap (λ (l : List ℕ). record { after = a .after; refusal = 0; length = responseHeaderSize + length (a .bytes); report = a .report; addressed = true; response = l })
-    (sym (overwrite-append (responseHeader (k .settings) (i .pnum) (i .pcmd) (a .error)) (a .bytes) o))
-  where
-    -- the header in front of what was seen
-    headed : SeenOutcome → CallResult
-    headed l =
-        record { after = l .after; refusal = 0; length = responseHeaderSize + l .length; report = l .report; addressed = true; response = responseHeader (k .settings) (i .pnum) (i .pcmd) (l .error) ++ l .out }
+-- the response: the data is written to the buffer after the header, then the header in front; without an answer there is no data, and
+-- the buffer stays
+module _ (k : ReadOnly) (header : Frame) (d : List ℕ) (a : Outcome) (o : List ℕ) (room : responseHeaderSize ≤ length o)
+    (no-data : a .answered ≡ false → a .bytes ≡ []) where
+  -- the response buffer with these bytes after the header
+  abbrev afterHeader : List ℕ → List ℕ
+  afterHeader m = putMid responseHeaderSize (length o - responseHeaderSize) o m
 
-    -- the header in front of the data in a buffer
-    answered : List ℕ → CallResult
-    answered l =
-        record { after = a .after; refusal = 0; length = responseHeaderSize + length (a .bytes); report = a .report; addressed = true; response = responseHeader (k .settings) (i .pnum) (i .pcmd) (a .error) ++ overwriteFront (a .bytes) l }
+  -- the part of the buffer that is lent for the data
+  abbrev lent : List ℕ
+  lent = midOf responseHeaderSize (length o - responseHeaderSize) o
+
+  -- the header in front
+  abbrev withHeader : ℕ → List ℕ → List ℕ
+  withHeader error m = responseHeader (k .settings) (header .pnum) (header .pcmd) error ++ drop responseHeaderSize (afterHeader m)
+
+  -- the result, from what was seen of the outcome
+  abbrev seenResult : SeenOutcome → CallResult
+  seenResult l =
+      record {
+        after = l .after;
+        refusal = 0;
+        length = cond (l .answered) (responseHeaderSize + l .length) 0;
+        report = l .report;
+        addressed = true;
+        response = cond (l .answered) (withHeader (l .error) (l .out)) (afterHeader (l .out));
+      }
+
+  -- with an answer, the header and the data are at the front
+  header-written : withHeader (a .error) (overwriteFront (a .bytes) lent)
+      ≡ overwriteFront (responseHeader (k .settings) (header .pnum) (header .pcmd) (a .error) ++ a .bytes) o
+  header-written =
+      let front = responseHeader (k .settings) (header .pnum) (header .pcmd) (a .error) in
+      ap (λ (l : List ℕ). front ++ l) (tail-returned responseHeaderSize o (overwriteFront (a .bytes) lent) room)
+      ∙ ap (λ (l : List ℕ). front ++ overwriteFront (a .bytes) l) (tail-borrowed responseHeaderSize o)
+      ∙ sym (overwrite-append front (a .bytes) o)
+
+  -- without one, the buffer is as it was
+  nothing-written : a .bytes ≡ [] → afterHeader (overwriteFront (a .bytes) lent) ≡ o
+  nothing-written e = ap (λ (b : List ℕ). afterHeader (overwriteFront b lent)) e ∙ put-same responseHeaderSize (length o - responseHeaderSize) o
+
+  by-answer : (b : Bool) → (b ≡ false → a .bytes ≡ [])
+      → _≡_ {A = CallResult} (record {
+        after = a .after;
+        refusal = 0;
+        length = cond b (responseHeaderSize + length (a .bytes)) 0;
+        report = a .report;
+        addressed = true;
+        response = cond b (withHeader (a .error) (overwriteFront (a .bytes) lent)) (afterHeader (overwriteFront (a .bytes) lent));
+      }) (cond b (responseResult (k .settings) (headerItem header d) a o) (unansweredResult a o))
+  by-answer true n = λ j. record {
+    after = a .after;
+    refusal = 0;
+    length = responseHeaderSize + length (a .bytes);
+    report = a .report;
+    addressed = true;
+    response = header-written j;
+  }
+  by-answer false n = λ j. record { after = a .after; refusal = 0; length = 0; report = a .report; addressed = true; response = nothing-written (n refl) j }
+
+  -- so what the code leaves is the result of the request
+  pub unicast-response : {c : RequestReply} {r e x m w : List ℕ} {g : Handled} → outcomeSeen k c r e x m ≡ outcomeInBuffer a lent
+      → g ≡ handledReply c → w ≡ withResponseHeader (k .settings) header c (afterHeader m)
+      → callResultFromParts k g r e x w ≡ unicastResult (k .settings) (headerItem header d) a o
+  unicast-response {c} {r} {e} {x} {m} {w} q p u =
+      handled-as p
+      ∙ ap (callResultFromParts k (handledReply c) r e x) u
+      ∙ ap seenResult q
+      ∙ by-answer (a .answered) no-data

@@ -7,3 +7,4 @@ pub mod Batches
 pub mod Sizes
 pub mod Errors
 pub mod Reports
+pub mod SelectiveBatches

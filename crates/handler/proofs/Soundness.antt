@@ -67,7 +67,8 @@ pub execute-sound : (i : Item) (st : State) → SoundState st → OutcomeSound (
 unfolding codeCheckRequest
 execute-sound i st h =
     execute-cases OutcomeSound st (λ e. h) i
-    (os-cases OutcomeSound st (λ e. h) (i .pcmd) (i .pdata) (items-keep entryAfter SoundState entry-sound (reading (i .pdata) .items) st h) h h)
+    (os-cases OutcomeSound st (λ e. h) (i .pcmd) (i .pdata)
+    (λ list. items-keep entryAfter SoundState entry-sound (reading list .items) st h) (λ _ _ _. h) h h)
     (peripheral-sound (i .pnum) (i .pcmd) (i .pdata) st h)
 
 -- every call keeps the state sound

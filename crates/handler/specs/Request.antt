@@ -1,15 +1,16 @@
--- Document 01, "Taking a request", with document 02, change 1: what a request does to a node and its memories, and what is sent back.
+-- Document 01, "Taking a request", with document 02, changes 1 and 3: what a request does to a node and its memories, and what is sent back.
 -- From the bottom up: peripherals, batch entries, OS requests, `execute`, and at the end the whole call, `handleRequest`.
 use Prim.Native.Nat.{ℕ, _+_}
 use mathlib.Core.Path.{_≡_}
 use mathlib.Core.List.{List, [], _++_}
 use mathlib.Core.Bool.{Bool, true, false, cond, _||_}
-use lib.ListN.{length}
+use lib.ListN.{length, drop}
 use lib.Dec.{ltb, eqb}
 use Rattle.dpa.specs.declared.frame.Frame.{Frame}
 use Rattle.dpa.specs.declared.settings.Settings.{Settings}
 use Rattle.dpa.specs.Lists.{overwriteFront}
 use Rattle.dpa.specs.Frame.{responseHeaderSize, longestResponse, broadcastNadr, anyHwpid, headerOf, pdataOf, frameFits, responseHeader}
+use Rattle.dpa.specs.NodeSet.{nodeSetSize}
 use Rattle.dpa.specs.Pnum.{osPnum, lightsPnum}
 use Rattle.dpa.specs.Reply.{Reply, reply, errorReply, mapState}
 use Rattle.memory.specs.declared.block.Memory.{Memory}
@@ -19,7 +20,10 @@ use Rattle.memory.specs.Request.{memoryRequest}
 use Rattle.lights.specs.Lights.{lightsRequest}
 use Rattle.checksum.specs.Check.{codeCheck}
 use Rattle.batch.specs.declared.list.ListCheck.{ListCheck}
+use Rattle.batch.specs.declared.selective.Selection.{Selection}
+use Rattle.batch.specs.declared.selective.Selection.the-variants.{TooShort, NotSelected, Selected}
 use Rattle.batch.specs.Batch.{Item, item, reading, listError, reasonOf, placeOf, runItems, errorsOf}
+use Rattle.batch.specs.Selective.{selectionOf}
 use Rattle.node.specs.declared.record.Node.{Node}
 use Rattle.node.specs.Node.{nodeOk, withLamps, withRam}
 use Rattle.handler.specs.declared.reply.Report.{Report}
@@ -104,7 +108,7 @@ entryError i st = executeEntry i st .error
 -- ---- requests
 
 -- what a request reports to the caller besides the response: the load mark of the code check, or the reason and the place in PData
--- of the first fault of a batch's list
+-- of the first fault of a list
 abbrev pub loadReport : Bool → Report
 loadReport mark = record { load = mark; reason = 0; place = 0 }
 
@@ -114,9 +118,10 @@ faultReport reason place = record { load = false; reason = reason; place = place
 abbrev pub noReport : Report
 noReport = loadReport false
 
--- The effect of a request: the state after it, ErrN, the response data, the ErrN of each entry of a batch in order, and the
--- report. ErrN are kept here whether they are sent or not.
+-- The effect of a request: whether it gets an answer if it is sent to the node's own address, the state after it, ErrN, the response
+-- data, the ErrN of each entry of a batch in order, and the report. ErrN are kept here whether they are sent or not.
 pub record Outcome : Type 0 where
+  pub answered : Bool
   pub after : State
   pub error : ℕ
   pub bytes : List ℕ
@@ -124,7 +129,8 @@ pub record Outcome : Type 0 where
   pub report : Report
 
 abbrev pub outcome : Reply State → List ℕ → Report → Outcome
-outcome a entries report = record { after = a .after; error = a .error; bytes = a .bytes; entries = entries; report = report }
+outcome a entries report =
+    record { answered = true; after = a .after; error = a .error; bytes = a .bytes; entries = entries; report = report }
 
 -- the outcome of a request that ran no entry and has nothing to report
 abbrev pub replyOnly : Reply State → Outcome
@@ -138,12 +144,27 @@ batchOutcome is st = outcome (reply (runItems entryAfter is st) 0 []) (errorsOf 
 abbrev pub brokenOutcome : ListCheck → State → Outcome
 brokenOutcome check st = outcome (errorReply st (listError check)) [] (faultReport (reasonOf check) (placeOf check))
 
--- a batch: without PData ErrN 5; a list that can be read runs, the fault of any other is reported
+-- the list of a batch or of a selective batch, with its check: a list that can be read runs, the fault of any other is reported
+unfoldable pub listRequest : ListCheck → List ℕ → State → Outcome
+listRequest check list st = cond (eqb (listError check) 0) (batchOutcome (reading list .items) st) (brokenOutcome check st)
+
+-- a batch: without PData ErrN 5, else its list
 unfoldable pub batchRequest : List ℕ → State → Outcome
-batchRequest pdata st =
-    cond (eqb (length pdata) 0) (replyOnly (errorReply st 5))
-    (cond (eqb (listError (reading pdata .check)) 0) (batchOutcome (reading pdata .items) st)
-    (brokenOutcome (reading pdata .check) st))
+batchRequest pdata st = cond (eqb (length pdata) 0) (replyOnly (errorReply st 5)) (listRequest (reading pdata .check) pdata st)
+
+-- a selective batch that does not select this node: nothing changes, and there is no answer
+abbrev pub unansweredOutcome : State → Outcome
+unansweredOutcome st = record { answered = false; after = st; error = 0; bytes = []; entries = []; report = noReport }
+
+-- a selective batch with this list, by what its PData is to this node: too short is ErrN 5
+abbrev pub selectionOutcome : Selection → List ℕ → State → Outcome
+selectionOutcome TooShort list st = replyOnly (errorReply st 5)
+selectionOutcome NotSelected list st = unansweredOutcome st
+selectionOutcome (Selected check) list st = listRequest check list st
+
+-- a selective batch: its list is after the node set
+unfoldable pub selectiveRequest : List ℕ → State → Outcome
+selectiveRequest pdata st = selectionOutcome (selectionOf pdata (st .node .settings .address)) (drop nodeSetSize pdata) st
 
 -- a code check: the state stays, and its load mark, the `after` of `codeCheck`, is reported
 unfoldable pub codeCheckRequest : List ℕ → State → Outcome
@@ -157,12 +178,16 @@ batchPcmd = 0x05
 abbrev pub codeCheckPcmd : ℕ
 codeCheckPcmd = 0x0A
 
+abbrev pub selectivePcmd : ℕ
+selectivePcmd = 0x0B
+
 -- an OS request; any other PCMD is ErrN 2
 unfoldable pub osRequest : ℕ → List ℕ → State → Outcome
 osRequest pcmd pdata st =
     cond (eqb pcmd batchPcmd) (batchRequest pdata st)
     (cond (eqb pcmd codeCheckPcmd) (codeCheckRequest pdata st)
-    (replyOnly (errorReply st 2)))
+    (cond (eqb pcmd selectivePcmd) (selectiveRequest pdata st)
+    (replyOnly (errorReply st 2))))
 
 -- executes a request: another HWPID is ErrN 7; PNUM 02 is the OS, any other PNUM is for the peripherals
 unfoldable pub execute : Item → State → Outcome
@@ -196,14 +221,14 @@ abbrev pub unhandledResult : State → ℕ → List ℕ → CallResult
 unhandledResult st refusal buffer =
     record { after = st; refusal = refusal; length = 0; report = noReport; addressed = false; response = buffer }
 
--- a broadcast is executed without a response
-abbrev pub broadcastResult : Outcome → List ℕ → CallResult
-broadcastResult done buffer =
+-- without a response: a broadcast, or a request that is not answered
+abbrev pub unansweredResult : Outcome → List ℕ → CallResult
+unansweredResult done buffer =
     record { after = done .after; refusal = 0; length = 0; report = done .report; addressed = true; response = buffer }
 
--- a request to this node gets a response: header and data at the front of the buffer, whose later bytes stay
-abbrev pub unicastResult : Settings → Item → Outcome → List ℕ → CallResult
-unicastResult settings i done buffer =
+-- a response: header and data at the front of the buffer, whose later bytes stay
+abbrev pub responseResult : Settings → Item → Outcome → List ℕ → CallResult
+responseResult settings i done buffer =
     record {
       after = done .after;
       refusal = 0;
@@ -213,10 +238,14 @@ unicastResult settings i done buffer =
       response = overwriteFront (responseHeader settings (i .pnum) (i .pcmd) (done .error) ++ done .bytes) buffer;
     }
 
+-- a request to this node gets a response if it is answered; if not, it ends like a broadcast
+abbrev pub unicastResult : Settings → Item → Outcome → List ℕ → CallResult
+unicastResult settings i done buffer = cond (done .answered) (responseResult settings i done buffer) (unansweredResult done buffer)
+
 -- a frame that was not refused, by its NADR
 unfoldable pub handleFrame : List ℕ → State → List ℕ → CallResult
 handleFrame frame st buffer =
-    cond (eqb (headerOf frame .nadr) broadcastNadr) (broadcastResult (execute (frameItem frame) st) buffer)
+    cond (eqb (headerOf frame .nadr) broadcastNadr) (unansweredResult (execute (frameItem frame) st) buffer)
     (cond (eqb (headerOf frame .nadr) (st .node .settings .address))
     (unicastResult (st .node .settings) (frameItem frame) (execute (frameItem frame) st) buffer)
     (unhandledResult st 0 buffer))

@@ -1,9 +1,12 @@
 -- How the code's results and buffers show the outcome of a request and the result of a call.
-use Prim.Native.Nat.{ℕ}
-use mathlib.Core.List.{List}
-use mathlib.Core.Bool.{Bool, true}
-use lib.ListN.{length}
+use Prim.Native.Nat.{ℕ, _+_}
+use mathlib.Core.List.{List, _++_}
+use mathlib.Core.Bool.{Bool, true, cond}
+use lib.ListN.{length, drop}
+use Rattle.dpa.specs.declared.frame.Frame.{Frame}
+use Rattle.dpa.specs.declared.settings.Settings.{Settings}
 use Rattle.dpa.specs.Lists.{overwriteFront}
+use Rattle.dpa.specs.Frame.{responseHeaderSize, responseHeader}
 use Rattle.lights.specs.declared.lamp.Lamp.{Lamp}
 use Rattle.node.specs.declared.record.Node.{Node}
 use Rattle.node.specs.declared.record.ReadOnly.{ReadOnly}
@@ -20,8 +23,10 @@ use Rattle.handler.specs.Request.{State, state, Outcome, CallResult}
 abbrev pub stateFromParts : ReadOnly → List Lamp → List ℕ → List ℕ → List ℕ → State
 stateFromParts fixed lamps ram eeprom external = state (nodeFromParts fixed lamps ram) eeprom external
 
--- what executing a request leaves: the state, ErrN, the length of the data, the report, and the buffer for the data
+-- what executing a request leaves: whether it is answered, the state, ErrN, the length of the data, the report, and the buffer for
+-- the data
 pub record SeenOutcome : Type 0 where
+  pub answered : Bool
   pub after : State
   pub error : ℕ
   pub length : ℕ
@@ -32,6 +37,7 @@ pub record SeenOutcome : Type 0 where
 abbrev pub outcomeSeen : ReadOnly → RequestReply → List ℕ → List ℕ → List ℕ → List ℕ → SeenOutcome
 outcomeSeen fixed reply ram eeprom external out =
     record {
+      answered = reply .answered;
       after = stateFromParts fixed (reply .lamps) ram eeprom external;
       error = reply .error;
       length = reply .length;
@@ -43,12 +49,28 @@ outcomeSeen fixed reply ram eeprom external out =
 abbrev pub outcomeInBuffer : Outcome → List ℕ → SeenOutcome
 outcomeInBuffer done out =
     record {
+      answered = done .answered;
       after = done .after;
       error = done .error;
       length = length (done .bytes);
       report = done .report;
       out = overwriteFront (done .bytes) out;
     }
+
+-- the report and the lamps of a reply, with the length of the response
+abbrev pub handledAs : RequestReply → ℕ → Handled
+handledAs done size = record { report = done .report; length = size; lamps = done .lamps }
+
+-- a response has a header before the data; without an answer there is none
+abbrev pub handledReply : RequestReply → Handled
+handledReply done = handledAs done (cond (done .answered) (responseHeaderSize + done .length) 0)
+
+-- the response buffer, which has the data after the header, with the header written; without an answer it stays
+abbrev pub withResponseHeader : Settings → Frame → RequestReply → List ℕ → List ℕ
+withResponseHeader settings header done response =
+    cond (done .answered)
+    (responseHeader settings (header .pnum) (header .pcmd) (done .error) ++ drop responseHeaderSize response)
+    response
 
 -- the result of a call that was not refused, from its parts
 abbrev pub callResultFromParts : ReadOnly → Handled → List ℕ → List ℕ → List ℕ → List ℕ → CallResult

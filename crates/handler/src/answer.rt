@@ -1,5 +1,6 @@
 // What `handle_request` returns.
 use crate::reply::Report;
+use crate::reply::RequestReply;
 use dpa::refusal;
 use dpa::sizes::RAM_SIZE;
 use lights::lamp::LAMPS;
@@ -13,7 +14,7 @@ ghost use Prim.Native.Nat.{_≤_};
 ghost use Rattle.dpa.specs.Frame.{pdataMax};
 ghost use Rattle.node.specs.Node.{nodeFromParts};
 ghost use Rattle.handler.specs.Request.{noReport};
-ghost use Rattle.handler.specs.Seen.{requestAnswer};
+ghost use Rattle.handler.specs.Seen.{handledAs, requestAnswer};
 
 // The refusal, the length of the response, the load mark, whether the frame was addressed to this node or to all, why and at which
 // place in PData the list of a batch cannot be read, and the node after the call.
@@ -33,6 +34,19 @@ pub struct Handled {
     pub report: Report,
     pub length: usize,
     pub lamps: [Lamp; LAMPS],
+}
+
+// Nothing is sent: a broadcast, or a request that is not answered.
+pub fn without_response(done: RequestReply) -> Handled
+    ensures { λ r. ⌜ r ≡ handledAs done 0 ⌝ }
+{
+    let report = done.report;
+    let lamps = done.lamps;
+    Handled {
+        report,
+        length: 0,
+        lamps,
+    }
 }
 
 // The C struct has the fields of the report among its own. A place is at most the length of PData, so it fits a byte.

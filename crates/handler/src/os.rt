@@ -1,14 +1,18 @@
-// OS 02: batch and code check.
+// OS 02: batch, code check and selective batch.
 use crate::entries::run_list;
 use crate::reply::Report;
 use crate::reply::RequestReply;
 use crate::reply::list_report;
+use crate::reply::unanswered;
 use crate::reply::without_data;
 use batch::list::ListCheck;
 use batch::list::check_list;
 use batch::list::list_error;
+use batch::selective::Selection;
+use batch::selective::select;
 use checksum::check::code_check;
 use dpa::error;
+use dpa::node_set::NODE_SET_SIZE;
 use lights::lamp::LAMPS;
 use lights::lamp::Lamp;
 use node::record::ReadOnly;
@@ -17,7 +21,7 @@ ghost use mathlib.Core.List.{List};
 ghost use Prim.Native.Nat.{ℕ, _≤_};
 ghost use lib.ListN.{length};
 ghost use Rattle.dpa.specs.Frame.{pdataMax};
-ghost use Rattle.handler.specs.Request.{SoundState, batchRequest, osRequest};
+ghost use Rattle.handler.specs.Request.{SoundState, listRequest, batchRequest, selectiveRequest, osRequest};
 ghost use Rattle.handler.specs.Seen.{stateFromParts, outcomeSeen, outcomeInBuffer};
 
 // PCMDs.
@@ -25,7 +29,36 @@ pub const BATCH: u8 = 0x05;
 
 pub const CODE_CHECK: u8 = 0x0A;
 
-// Checks the whole list before the first entry runs, so a broken list changes nothing.
+pub const SELECTIVE_BATCH: u8 = 0x0B;
+
+// Runs a list that was checked to its end; a broken list changes nothing.
+fn list_request(
+    fixed: ReadOnly,
+    lamps: [Lamp; LAMPS],
+    check: ListCheck,
+    list: &[u8],
+    ram: &mut [u8],
+    eeprom: &mut [u8],
+    external: &mut [u8],
+) -> RequestReply
+    requires { ⌜ SoundState (stateFromParts fixed lamps (now ram) (now eeprom) (now external)) ⌝ }
+    ensures { λ r. ⌜ ((o : List ℕ) → outcomeSeen fixed r (now (ram .exit)) (now (eeprom .exit)) (now (external .exit)) o
+        ≡ outcomeInBuffer (listRequest check (now (list .entry)) (stateFromParts fixed lamps (now (ram .entry)) (now (eeprom .entry)) (now (external .entry)))) o) ⌝ }
+{
+    let ListCheck::Sound = check else {
+        return RequestReply {
+            answered: true,
+            error: list_error(check),
+            report: list_report(check),
+            length: 0,
+            lamps,
+        };
+    };
+    let after = run_list(fixed, lamps, list, ram, eeprom, external);
+    without_data(after, error::NONE)
+}
+
+// Checks the whole list before the first entry runs.
 fn batch_request(
     fixed: ReadOnly,
     lamps: [Lamp; LAMPS],
@@ -42,16 +75,36 @@ fn batch_request(
         return without_data(lamps, error::DATA_LEN);
     }
     let check = check_list(pdata);
-    let ListCheck::Sound = check else {
-        return RequestReply {
-            error: list_error(check),
-            report: list_report(check),
-            length: 0,
+    list_request(fixed, lamps, check, pdata, ram, eeprom, external)
+}
+
+// PData that is too short is an error for every node. Then the list runs if the set names this node; if not, there is no answer, not
+// even to a broken list.
+fn selective_request(
+    fixed: ReadOnly,
+    lamps: [Lamp; LAMPS],
+    pdata: &[u8],
+    ram: &mut [u8],
+    eeprom: &mut [u8],
+    external: &mut [u8],
+) -> RequestReply
+    requires { ⌜ SoundState (stateFromParts fixed lamps (now ram) (now eeprom) (now external)) ⌝ }
+    ensures { λ r. ⌜ ((o : List ℕ) → outcomeSeen fixed r (now (ram .exit)) (now (eeprom .exit)) (now (external .exit)) o
+        ≡ outcomeInBuffer (selectiveRequest (now (pdata .entry)) (stateFromParts fixed lamps (now (ram .entry)) (now (eeprom .entry)) (now (external .entry)))) o) ⌝ }
+{
+    match select(pdata, fixed.settings.address) {
+        Selection::TooShort => without_data(lamps, error::DATA_LEN),
+        Selection::NotSelected => unanswered(lamps),
+        Selection::Selected { check } => list_request(
+            fixed,
             lamps,
-        };
-    };
-    let after = run_list(fixed, lamps, pdata, ram, eeprom, external);
-    without_data(after, error::NONE)
+            check,
+            &pdata[NODE_SET_SIZE..],
+            ram,
+            eeprom,
+            external,
+        ),
+    }
 }
 
 // Executes an OS request.
@@ -77,11 +130,15 @@ pub fn os_request(
         let mut report = Report::NONE;
         report.load = checked.load;
         return RequestReply {
+            answered: true,
             error: checked.error,
             report,
             length: checked.length,
             lamps,
         };
+    }
+    if pcmd == SELECTIVE_BATCH {
+        return selective_request(fixed, lamps, pdata, ram, eeprom, external);
     }
     without_data(lamps, error::PCMD)
 }

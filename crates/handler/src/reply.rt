@@ -1,11 +1,13 @@
 // The reply to a request, made from the reply of the part of the node that executed it.
 use batch::fault;
 use batch::list::ListCheck;
+use dpa::error;
 use dpa::reply::Reply;
 use lights::lamp::LAMPS;
 use lights::lamp::Lamp;
 use lights::request::LampsReply;
 ghost use mathlib.Core.Path.{_≡_};
+ghost use mathlib.Core.Bool.{true, false};
 ghost use Rattle.batch.specs.Batch.{reasonOf, placeOf};
 ghost use Rattle.handler.specs.Request.{faultReport, noReport};
 
@@ -39,8 +41,9 @@ pub fn list_report(check: ListCheck) -> Report
     }
 }
 
-// ErrN, the report, the length of the response data, and the lamps after the request.
+// Whether the request is answered, ErrN, the report, the length of the response data, and the lamps after the request.
 pub struct RequestReply {
+    pub answered: bool,
     pub error: u8,
     pub report: Report,
     pub length: usize,
@@ -49,10 +52,24 @@ pub struct RequestReply {
 
 // A reply without data.
 pub fn without_data(lamps: [Lamp; LAMPS], error: u8) -> RequestReply
-    ensures { λ r. ⌜ r ≡ record { error = error; report = noReport; length = 0; lamps = lamps } ⌝ }
+    ensures { λ r. ⌜ r ≡ record { answered = true; error = error; report = noReport; length = 0; lamps = lamps } ⌝ }
 {
     RequestReply {
+        answered: true,
         error,
+        report: Report::NONE,
+        length: 0,
+        lamps,
+    }
+}
+
+// No answer, and nothing changed.
+pub fn unanswered(lamps: [Lamp; LAMPS]) -> RequestReply
+    ensures { λ r. ⌜ r ≡ record { answered = false; error = 0; report = noReport; length = 0; lamps = lamps } ⌝ }
+{
+    RequestReply {
+        answered: false,
+        error: error::NONE,
         report: Report::NONE,
         length: 0,
         lamps,
@@ -72,10 +89,11 @@ pub fn memory_reply(lamps: [Lamp; LAMPS], reply: Reply) -> LampsReply
 
 // The reply of a peripheral, which has nothing to report.
 pub fn peripheral_reply(reply: LampsReply) -> RequestReply
-    ensures { λ r. ⌜ r ≡ record { error = reply .error; report = noReport; length = reply .length; lamps = reply .lamps } ⌝ }
+    ensures { λ r. ⌜ r ≡ record { answered = true; error = reply .error; report = noReport; length = reply .length; lamps = reply .lamps } ⌝ }
 {
     let lamps = reply.lamps;
     RequestReply {
+        answered: true,
         error: reply.error,
         report: Report::NONE,
         length: reply.length,

@@ -3,6 +3,7 @@ use crate::answer::Handled;
 use crate::answer::RequestAnswer;
 use crate::answer::answer_handled;
 use crate::answer::answer_unhandled;
+use crate::answer::without_response;
 use crate::hwpid::hwpid_matches;
 use crate::os::os_request;
 use crate::peripheral::peripheral_request;
@@ -14,6 +15,7 @@ use dpa::frame::Frame;
 use dpa::frame::write_response_header;
 use dpa::pnum;
 use dpa::refusal;
+use dpa::settings::Settings;
 use lights::lamp::LAMPS;
 use lights::lamp::Lamp;
 use memory::block::Memory;
@@ -26,9 +28,9 @@ ghost use mathlib.Core.Path.{_≡_};
 ghost use mathlib.Core.List.{List};
 ghost use Prim.Native.Nat.{ℕ, _≤_};
 ghost use lib.ListN.{length};
-ghost use Rattle.dpa.specs.Frame.{headerSize, longestFrame, pdataMax, longestResponse};
-ghost use Rattle.handler.specs.Request.{state, SoundState, execute, headerItem, broadcastResult, unicastResult, handleFrame, requestRefusal, handleRequest};
-ghost use Rattle.handler.specs.Seen.{stateFromParts, outcomeSeen, outcomeInBuffer, callResult, callResultFromParts};
+ghost use Rattle.dpa.specs.Frame.{headerSize, longestFrame, pdataMax, responseHeaderSize, longestResponse};
+ghost use Rattle.handler.specs.Request.{state, SoundState, execute, headerItem, unansweredResult, unicastResult, handleFrame, requestRefusal, handleRequest};
+ghost use Rattle.handler.specs.Seen.{stateFromParts, outcomeSeen, outcomeInBuffer, handledReply, withResponseHeader, callResult, callResultFromParts};
 
 // Checks the HWPID, then executes the request. The response data goes to the front of `out`.
 fn execute(
@@ -79,7 +81,7 @@ fn handle_broadcast(
 ) -> Handled
     requires { ⌜ SoundState (stateFromParts fixed lamps (now ram) (now eeprom) (now external)) ⌝ }
     ensures { λ r. ⌜ ((o : List ℕ) → callResultFromParts fixed r (now (ram .exit)) (now (eeprom .exit)) (now (external .exit)) o
-        ≡ broadcastResult (execute (headerItem header (now (pdata .entry)))
+        ≡ unansweredResult (execute (headerItem header (now (pdata .entry)))
         (stateFromParts fixed lamps (now (ram .entry)) (now (eeprom .entry)) (now (external .entry)))) o) ⌝ }
 {
     let mut scratch = [0u8; Frame::PDATA_MAX];
@@ -93,12 +95,25 @@ fn handle_broadcast(
         external,
         &mut scratch,
     );
+    without_response(done)
+}
+
+// Writes the response header in front of the data. A request that is not answered leaves the buffer as it is.
+fn respond(response: &mut [u8], settings: Settings, header: Frame, done: RequestReply) -> Handled
+    requires { ⌜ (responseHeaderSize ≤ length (now response)) × (done .length ≤ pdataMax) ⌝ }
+    ensures { λ r. ⌜ (r ≡ handledReply done) × (now (response .exit) ≡ withResponseHeader settings header done (now (response .entry))) ⌝ }
+{
+    if !done.answered {
+        return without_response(done);
+    }
+    write_response_header(response, settings, header.pnum, header.pcmd, done.error);
     let report = done.report;
-    let after = done.lamps;
+    let length = Frame::RESPONSE_HEADER + done.length;
+    let lamps = done.lamps;
     Handled {
         report,
-        length: 0,
-        lamps: after,
+        length,
+        lamps,
     }
 }
 
@@ -129,21 +144,7 @@ fn handle_unicast(
         external,
         &mut response[Frame::RESPONSE_HEADER..],
     );
-    write_response_header(
-        response,
-        fixed.settings,
-        header.pnum,
-        header.pcmd,
-        done.error,
-    );
-    let report = done.report;
-    let length = Frame::RESPONSE_HEADER + done.length;
-    let after = done.lamps;
-    Handled {
-        report,
-        length,
-        lamps: after,
-    }
+    respond(response, fixed.settings, header, done)
 }
 
 // Handles a frame that was not refused. The node is split into parts, because only its lamps and its RAM change.

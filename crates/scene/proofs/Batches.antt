@@ -8,6 +8,7 @@ use lib.ListN.{length, length-append}
 use borrow.Author.Tests.{leb-true}
 use Rattle.batch.specs.Batch.{entriesBytes, entryBytes}
 use Rattle.dpa.specs.Lists.{All}
+use Rattle.dpa.specs.NodeSet.{nodeSetSize}
 use Rattle.book.specs.declared.step.Step.{Step}
 use Rattle.book.specs.Join.{entriesOf}
 use Rattle.book.specs.EntrySize.{EntryLimit}
@@ -16,7 +17,7 @@ use Rattle.book.proofs.Groups.{all-group, concat-group}
 use Rattle.dpa.proofs.All.{all-snoc}
 use Rattle.book.proofs.Faults.{Good}
 use Rattle.book.proofs.EntryGroups.{EntryGroup, entry-groups}
-use Rattle.scene.specs.Compile.{Limits, fitsBatch, listOf, batchesOf, entryLimit, listLimit}
+use Rattle.scene.specs.Compile.{Limits, fitsBatch, listOf, batchesOf, entryLimit, listLimit, selectedEntryLimit, selectedListLimit}
 
 -- groups that joining makes, in a list of at most `listMax` bytes
 pub record BatchRule (entryMax listMax h : ℕ) (rs : List (List Step)) : Type 0 where
@@ -46,6 +47,10 @@ entry-limit l = record { step = l .entry; frame = omega (arith, l .list, l .fram
 -- the limits of a batch are possible limits
 pub batch-limits : Limits entryLimit listLimit []
 batch-limits = record { entry = omega arith; list = omega arith; frame = omega arith }
+
+-- and so are those of a selective batch, with a node set in front
+pub selected-limits : (nodes : List ℕ) → length nodes ≡ nodeSetSize → Limits selectedEntryLimit selectedListLimit nodes
+selected-limits nodes e = record { entry = omega arith; list = omega arith; frame = omega arith }
 
 -- filling loses and reorders no entry
 pub filling-keeps : (entryMax listMax h : ℕ) (ss : List Step) → concat (batchesOf entryMax listMax h ss) ≡ entriesOf entryMax ss

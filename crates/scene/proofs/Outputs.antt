@@ -1,7 +1,7 @@
--- The output of the compile call: the requests can be read back from it, and it fits its buffer; when it is written.
+-- The output of a compile call: the requests can be read back from it, and it fits its buffer; when it is written.
 use mathlib.Core.List.{List, [], _∷_}
 use mathlib.Core.Path.{_≡_, refl, ap, _∙_}
-use mathlib.Core.Bool.{true, not}
+use mathlib.Core.Bool.{Bool, true, false, not}
 use Prim.Native.Nat.{ℕ, suc, _+_, _*_, _≤_, _<_}
 use native.Mathlib.Omega.{arith}
 use lib.ListN.{length, length-append, length-map, drop}
@@ -23,8 +23,8 @@ use Rattle.book.specs.Step.{firstBadFrom}
 use Rattle.book.proofs.Faults.{Good}
 use Rattle.book.proofs.Groups.{length-group}
 use Rattle.scene.specs.declared.fill.SizeLimits.{SizeLimits}
-use Rattle.scene.specs.Compile.{Limits, fitsBatch, batchesOf, requestWith, sceneRequests}
-use Rattle.scene.specs.Call.{lengths, output, splitBy, requestsIn, minOutput, CompileResult, outputOf, outputInBuffer, addressOk, compileSteps, compileScene, compileFor}
+use Rattle.scene.specs.Compile.{Limits, fitsBatch, batchesOf, requestWith}
+use Rattle.scene.specs.Call.{lengths, output, splitBy, requestsIn, minOutput, CompileResult, outputOf, refusedWith, outputInBuffer, compileSteps, compileScene, compileTo}
 use Rattle.scene.specs.Fill.{requestsWith}
 use Rattle.scene.proofs.Sizes.{FrameSized, requests-fit}
 
@@ -67,7 +67,7 @@ module _ (limits : SizeLimits) (header : Frame) (front : List ℕ) where
         length-group (joins (limits .entry)) ss,
       )
 
-  -- the output of any scene fits: at limits `stepsMax` requests, each no longer than a frame
+  -- the output of any scene fits: at most `stepsMax` requests, each no longer than a frame
   pub output-fits : Limits (limits .entry) (limits .list) front → (ss : List Step) → length ss ≤ stepsMax → All Good ss
       → length (output (requestsWith limits header front ss)) ≤ minOutput
   output-fits l ss n g =
@@ -103,26 +103,36 @@ module _ (b : List ℕ) (k : ℕ) (requests : List Step → List (List ℕ)) (ou
       by-cond Unwritten (not (bookOk b)) _ _ (λ _ _. (refl, refl))
       (λ _. by-cond Unwritten (leb (sceneCount b) k) _ _ (λ _ _. (refl, refl)) (λ _. steps-unwritten (firstBadFrom 0 (sceneOf b k))))
 
-module _ (b : List ℕ) (k a h : ℕ) (out : List ℕ) where
-  -- with a valid address, room and no fault, the call writes the output
-  pub compile-written : addressOk a ≡ true → minOutput ≤ length out → Faultless b k
-      → compileFor b k a h out ≡ outputInBuffer (output (sceneRequests a h (sceneOf b k))) out
-  unfolding compileFor
-  compile-written ad room f = rw ad (scene-written b k (sceneRequests a h) out room f)
+-- and any target
+module _ (valid : Bool) (b : List ℕ) (k : ℕ) (requests : List Step → List (List ℕ)) (out : List ℕ) where
+  -- a target that is not valid is refused
+  pub target-refused : valid ≡ false → compileTo valid b k requests out ≡ refusedWith 1 0 out
+  unfolding compileTo
+  target-refused e = rw e refl
+
+  -- for any other the scene is compiled
+  pub target-valid : valid ≡ true → compileTo valid b k requests out ≡ compileScene b k requests out
+  unfolding compileTo
+  target-valid e = rw e refl
+
+  -- with room and no fault the call writes the output
+  pub compile-written : valid ≡ true → minOutput ≤ length out → Faultless b k
+      → compileTo valid b k requests out ≡ outputInBuffer (output (requests (sceneOf b k))) out
+  compile-written t room f = target-valid t ∙ scene-written b k requests out room f
 
   -- a refused call has no output, and the buffer stays
-  pub compile-refused : (compileFor b k a h out .refusal ≡ 0 → ⊥) → (compileFor b k a h out .length ≡ 0) × (compileFor b k a h out .buffer ≡ out)
-  unfolding compileFor
-  compile-refused =
-      by-cond (Unwritten b k (sceneRequests a h) out) (not (addressOk a)) _ _ (λ _ _. (refl, refl)) (λ _. scene-unwritten b k (sceneRequests a h) out)
+  pub compile-refused : (compileTo valid b k requests out .refusal ≡ 0 → ⊥)
+      → (compileTo valid b k requests out .length ≡ 0) × (compileTo valid b k requests out .buffer ≡ out)
+  unfolding compileTo
+  compile-refused = by-cond (Unwritten b k requests out) (not valid) _ _ (λ _ _. (refl, refl)) (λ _. scene-unwritten b k requests out)
 
   -- the requests are read back from the output
-  pub buffer-back : addressOk a ≡ true → minOutput ≤ length out → Faultless b k
-      → requestsIn (outputOf (compileFor b k a h out)) ≡ sceneRequests a h (sceneOf b k)
-  buffer-back ad room f =
-      let rs = sceneRequests a h (sceneOf b k) in
+  pub buffer-back : valid ≡ true → minOutput ≤ length out → Faultless b k
+      → requestsIn (outputOf (compileTo valid b k requests out)) ≡ requests (sceneOf b k)
+  buffer-back t room f =
+      let rs = requests (sceneOf b k) in
       let o = output rs in
-      ap (λ (r : CompileResult). requestsIn (outputOf r)) (compile-written ad room f)
+      ap (λ (r : CompileResult). requestsIn (outputOf r)) (compile-written t room f)
       ∙ ap requestsIn (take-append-seam o (drop (length o) out))
       ∙ requests-back rs
 

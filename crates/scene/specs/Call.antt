@@ -1,4 +1,4 @@
--- Document 01, "Scenes" and "Frames", with document 02, change 1: the compile call, its refusals and its output.
+-- Document 01, "Scenes" and "Frames", with document 02, changes 1 and 3: the compile calls, their refusals and their output.
 use mathlib.Core.Bool.{Bool, cond, not, _||_}
 use mathlib.Core.List.{List, [], _∷_, _++_}
 use Prim.Native.Nat.{ℕ, suc}
@@ -6,6 +6,7 @@ use lib.Dec.{ltb, leb, eqb}
 use lib.ListN.{length, getD, take, drop}
 use Rattle.dpa.specs.Frame.{broadcastNadr}
 use Rattle.dpa.specs.Lists.{overwriteFront}
+use Rattle.dpa.specs.NodeSet.{nodeSetOk}
 use Rattle.dpa.specs.Settings.{nodeAddress}
 use Rattle.book.specs.declared.step.Step.{Step}
 use Rattle.book.specs.declared.step.StepsCheck.{StepsCheck}
@@ -14,7 +15,7 @@ use Rattle.book.specs.Book.{sceneCount, bookOk, sceneOf}
 use Rattle.book.specs.Step.{firstBadFrom}
 use Rattle.book.specs.Group.{concat}
 use Rattle.scene.specs.declared.compile.CompileAnswer.{CompileAnswer}
-use Rattle.scene.specs.Compile.{sceneRequests}
+use Rattle.scene.specs.Compile.{sceneRequests, selectedRequests}
 
 -- ---- the output
 
@@ -40,9 +41,9 @@ requestsIn o = splitBy (take (getD o 0 0) (drop 1 o)) (drop (suc (getD o 0 0)) o
 abbrev pub minOutput : ℕ
 minOutput = 4096
 
--- ---- the call
+-- ---- the calls
 
--- its result: the refusal, the number of a bad step, the length of the output, and the buffer afterwards
+-- their result: the refusal, the number of a bad step, the length of the output, and the buffer afterwards
 pub record CompileResult : Type 0 where
   pub refusal : ℕ
   pub step : ℕ
@@ -83,6 +84,14 @@ compileScene b k requests out =
     (cond (leb (sceneCount b) k) (refusedWith 7 0 out)
     (compileSteps (firstBadFrom 0 (sceneOf b k)) (requests (sceneOf b k)) out))
 
--- the call: scene k of book b, for address a and profile h; refusal 1 for an invalid address
-unfoldable pub compileFor : List ℕ → ℕ → ℕ → ℕ → List ℕ → CompileResult
-compileFor b k a h out = cond (not (addressOk a)) (refusedWith 1 0 out) (compileScene b k (sceneRequests a h) out)
+-- a call: refusal 1 for a target that is not valid, then the scene
+unfoldable pub compileTo : Bool → List ℕ → ℕ → (List Step → List (List ℕ)) → List ℕ → CompileResult
+compileTo valid b k requests out = cond (not valid) (refusedWith 1 0 out) (compileScene b k requests out)
+
+-- for address a and profile h
+abbrev pub compileFor : List ℕ → ℕ → ℕ → ℕ → List ℕ → CompileResult
+compileFor b k a h out = compileTo (addressOk a) b k (sceneRequests a h) out
+
+-- for the nodes of a set and profile h
+abbrev pub compileSelected : List ℕ → ℕ → List ℕ → ℕ → List ℕ → CompileResult
+compileSelected b k nodes h out = compileTo (nodeSetOk nodes) b k (selectedRequests nodes h) out

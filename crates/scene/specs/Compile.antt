@@ -1,14 +1,14 @@
--- Document 01, "Scenes": entries are filled into batches, and each batch is a request.
+-- Document 01, "Scenes", with document 02, change 3: entries are filled into batches, and each batch is a request.
 use mathlib.Core.List.{List, map, [], _∷_, _++_}
 use mathlib.Core.Bool.{Bool}
 use Prim.Native.Nat.{ℕ, _+_, _≤_}
 use lib.Dec.{leb}
 use lib.ListN.{length}
 use Rattle.dpa.specs.declared.frame.Frame.{Frame}
-use Rattle.dpa.specs.Frame.{pdataMax, frame, headerBytes}
+use Rattle.dpa.specs.Frame.{pdataMax, broadcastNadr, frame, headerBytes}
 use Rattle.dpa.specs.Pnum.{osPnum}
 use Rattle.batch.specs.Batch.{Item, entryHeadSize, listBytes}
-use Rattle.handler.specs.Request.{batchPcmd}
+use Rattle.handler.specs.Request.{batchPcmd, selectivePcmd}
 use Rattle.book.specs.declared.step.Step.{Step}
 use Rattle.book.specs.Entry.{joinedItem}
 use Rattle.book.specs.Group.{group}
@@ -61,7 +61,7 @@ requestBytes pcmd front a h groups = requestWith (frame a osPnum pcmd h) front g
 abbrev pub requestsOf : ℕ → ℕ → ℕ → List ℕ → ℕ → ℕ → List Step → List (List ℕ)
 requestsOf entryMax listMax pcmd front a h ss = map (requestBytes pcmd front a h) (batchesOf entryMax listMax h ss)
 
--- ---- batches: the one instance
+-- ---- batches to an address
 
 -- maximum size of an entry's PData
 abbrev pub entryLimit : ℕ
@@ -74,3 +74,17 @@ listLimit = pdataMax
 -- the batch requests of a scene for address a and profile h
 abbrev pub sceneRequests : ℕ → ℕ → List Step → List (List ℕ)
 sceneRequests a h ss = requestsOf entryLimit listLimit batchPcmd [] a h ss
+
+-- ---- selective batches to the nodes of a set
+
+-- maximum size of an entry's PData
+abbrev pub selectedEntryLimit : ℕ
+selectedEntryLimit = 20
+
+-- maximum size of a list, its closing zero included: with the node set it is the PData of its request
+abbrev pub selectedListLimit : ℕ
+selectedListLimit = 26
+
+-- the selective batch requests of a scene for profile h: a broadcast with the node set in front of each list
+abbrev pub selectedRequests : List ℕ → ℕ → List Step → List (List ℕ)
+selectedRequests nodes h ss = requestsOf selectedEntryLimit selectedListLimit selectivePcmd nodes broadcastNadr h ss

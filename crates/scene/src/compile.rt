@@ -1,4 +1,4 @@
-// Compiles a scene of a book into batch requests.
+// Compiles a scene of a book into batch requests to an address, or into selective batch requests to the nodes of a set.
 use crate::fill::SizeLimits;
 use crate::request::write_output;
 use book::locations::book_ok;
@@ -6,11 +6,14 @@ use book::locations::scene_location;
 use book::step::StepsCheck;
 use book::step::check_steps;
 use dpa::frame::Frame;
+use dpa::node_set::NodeSet;
+use dpa::node_set::node_set_ok;
 use dpa::number::wide;
 use dpa::pnum;
 use dpa::refusal;
 use dpa::settings::LAST_ADDRESS;
 use handler::os::BATCH;
+use handler::os::SELECTIVE_BATCH;
 ghost use mathlib.Core.Path.{_≡_};
 ghost use Prim.Native.Nat.{_*_, _≤_};
 ghost use lib.ListN.{length};
@@ -18,7 +21,7 @@ ghost use Rattle.dpa.specs.Frame.{anyHwpid};
 ghost use Rattle.book.specs.Book.{stepsMax, stepLength, stepsIn};
 ghost use Rattle.book.specs.Step.{firstBadFrom};
 ghost use Rattle.scene.specs.Compile.{Limits};
-ghost use Rattle.scene.specs.Call.{addressOk, compileSteps, compileScene, compileFor, compileResult};
+ghost use Rattle.scene.specs.Call.{addressOk, compileSteps, compileScene, compileFor, compileSelected, compileResult};
 ghost use Rattle.scene.specs.Fill.{requestsWith};
 
 // Maximum size of the PData of a batch entry.
@@ -26,6 +29,11 @@ const ENTRY_LIMIT: usize = 50;
 
 // Maximum size of a batch's list: it is the PData of its request.
 const LIST_LIMIT: usize = Frame::PDATA_MAX;
+
+// The same two for a selective batch, whose PData also has the node set.
+const SELECTED_ENTRY_LIMIT: usize = 20;
+
+const SELECTED_LIST_LIMIT: usize = 26;
 
 // Minimum size of the output buffer: every output fits.
 pub const MIN_OUTPUT: usize = 4096;
@@ -141,4 +149,43 @@ pub fn compile_default(book: &[u8], scene: usize, address: u16, out: &mut [u8]) 
     ensures { λ r. ⌜ compileResult r (now (out .exit)) ≡ compileFor (now (book .entry)) scene address anyHwpid (now (out .entry)) ⌝ }
 {
     compile(book, scene, address, Frame::ANY_HWPID, out)
+}
+
+// Compiles a scene into selective batches for the nodes of a set and a hardware profile.
+pub fn compile_selected(
+    book: &[u8],
+    scene: usize,
+    nodes: NodeSet,
+    hwpid: u16,
+    out: &mut [u8],
+) -> CompileAnswer
+    ensures { λ r. ⌜ compileResult r (now (out .exit)) ≡ compileSelected (now (book .entry)) scene (nodes .bits) hwpid (now (out .entry)) ⌝ }
+{
+    if !node_set_ok(nodes) {
+        return refused(refusal::NODE, 0);
+    }
+    let limits = SizeLimits {
+        entry: SELECTED_ENTRY_LIMIT,
+        list: SELECTED_LIST_LIMIT,
+    };
+    let header = Frame {
+        nadr: Frame::BROADCAST,
+        pnum: pnum::OS,
+        pcmd: SELECTIVE_BATCH,
+        hwpid,
+    };
+    let bits = nodes.bits;
+    compile_scene(book, scene, limits, header, &bits, out)
+}
+
+// Compiles for the nodes of a set and the hardware profile that every node accepts.
+pub fn compile_selected_default(
+    book: &[u8],
+    scene: usize,
+    nodes: NodeSet,
+    out: &mut [u8],
+) -> CompileAnswer
+    ensures { λ r. ⌜ compileResult r (now (out .exit)) ≡ compileSelected (now (book .entry)) scene (nodes .bits) anyHwpid (now (out .entry)) ⌝ }
+{
+    compile_selected(book, scene, nodes, Frame::ANY_HWPID, out)
 }

@@ -1,4 +1,4 @@
-// Compiles scenes into batch requests.
+// Compiles scenes into batch and selective batch requests.
 pub mod compile;
 pub mod fill;
 pub mod request;

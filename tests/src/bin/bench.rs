@@ -3,7 +3,7 @@
 //! (src/fast.rs), alternating within one run. The result is the median over all
 //! rounds of the ratio library / fast. `BENCH_ROUNDS` sets the number of rounds.
 use grelfint_tests::board::{Board, Lengths};
-use grelfint_tests::ffi::Node;
+use grelfint_tests::ffi::{CompileAnswer, Node, NodeSet};
 use grelfint_tests::reference;
 use grelfint_tests::sides::{Side, FAST, LIBRARY};
 use std::hint::black_box;
@@ -39,9 +39,13 @@ fn time_request(b: &mut Board, frame: &[u8], calls: u32) -> f64 {
     })
 }
 
-fn time_compile(side: Side, book: &[u8], out: &mut [u8], calls: u32) -> f64 {
+/// A call of the compiler: side, book, output.
+trait Compile: Fn(Side, &[u8], &mut [u8]) -> CompileAnswer {}
+impl<F: Fn(Side, &[u8], &mut [u8]) -> CompileAnswer> Compile for F {}
+
+fn time_compile(compile: &impl Compile, side: Side, book: &[u8], out: &mut [u8], calls: u32) -> f64 {
     time(calls, || {
-        black_box(&(side.compile)(black_box(book), 0, 1, 0x2471, out));
+        black_box(&compile(side, black_box(book), out));
     })
 }
 
@@ -114,6 +118,22 @@ fn full_batch() -> Vec<u8> {
     frame
 }
 
+/// The thirty nodes for which a scene is compiled in the second mode; node 1 is one of them.
+fn thirty_nodes() -> NodeSet {
+    NodeSet::of((1..240).step_by(8))
+}
+
+/// Two lamp entries of twelve and thirteen bytes and the closing zero after the nodes: 56 bytes of PData.
+fn full_selective_batch() -> Vec<u8> {
+    let mut frame = vec![1, 0, 2, 0x0B, 0xFF, 0xFF];
+    frame.extend_from_slice(&thirty_nodes().bits);
+    frame.extend_from_slice(&[12, 0x71, 0, 0x71, 0x24, 3, 0, 0, 0, 0x80 | 20, 0x8A, 30]);
+    frame.extend_from_slice(&[13, 0x71, 1, 0x71, 0x24, 12, 0, 0, 0, 0x80 | 20, 0x8A, 0x80 | 30, 2]);
+    frame.push(0);
+    assert_eq!(frame.len(), 62);
+    frame
+}
+
 fn scene_of_64() -> Vec<u8> {
     let mut book = vec![1, 4, 0, 64];
     for i in 0..64u8 {
@@ -145,12 +165,12 @@ fn compare_request(name: &str, rounds: usize, frame: &[u8]) {
     compare(name, rounds, |side, calls| time_request(&mut boards[side], frame, calls));
 }
 
-fn compare_compile(name: &str, rounds: usize, book: &[u8]) {
+fn compare_compile(name: &str, rounds: usize, book: &[u8], compile: impl Compile) {
     let sides = [LIBRARY, FAST];
     let mut outs = [vec![0; 4096], vec![0; 4096]];
-    let [l, f] = [0, 1].map(|i| (sides[i].compile)(book, 0, 1, 0x2471, &mut outs[i]));
+    let [l, f] = [0, 1].map(|i| compile(sides[i], book, &mut outs[i]));
     assert!(l == f && l.refusal == 0 && outs[0] == outs[1], "{name}: sides differ");
-    compare(name, rounds, |side, calls| time_compile(sides[side], book, &mut outs[side], calls));
+    compare(name, rounds, |side, calls| time_compile(&compile, sides[side], book, &mut outs[side], calls));
 }
 
 fn main() {
@@ -164,8 +184,15 @@ fn main() {
     compare_request("set of 32 lamps", rounds, &lamp_frame(0, 32, 16));
     compare_request("raise of 32 lamps", rounds, &lamp_frame(1, 32, 16));
     compare_request("full batch, five lamp entries", rounds, &full_batch());
+    compare_request("full selective batch, two entries", rounds, &full_selective_batch());
     compare_request("code check over 16,384 bytes", rounds, &code_check(&board(LIBRARY).external));
-    compare_compile("compiling a scene of 64 steps", rounds, &scene_of_64());
+    compare_compile("compiling a scene of 64 steps", rounds, &scene_of_64(), |side, book, out| {
+        (side.compile)(book, 0, 1, 0x2471, out)
+    });
+    let nodes = thirty_nodes();
+    compare_compile("the same for thirty chosen nodes", rounds, &scene_of_64(), |side, book, out| {
+        (side.compile_selected)(book, 0, nodes, 0x2471, out)
+    });
     let node = board(LIBRARY).node;
     assert_eq!((LIBRARY.tick)(node), (FAST.tick)(node));
     let sides = [LIBRARY, FAST];

@@ -3,13 +3,16 @@ use borrow.Author.Needs.{needs}
 use mathlib.Core.Path.{_≡_, ap, sym, subst, _∙_}
 use mathlib.Core.List.{[]}
 use Rattle.dpa.specs.declared.frame.Frame.{Frame}
-use Rattle.dpa.specs.Frame.{headerOf}
+use Prim.Native.Nat.{_-_}
+use lib.ListN.{length, take, drop}
+use Rattle.dpa.specs.Frame.{headerSize, headerOf}
 use Rattle.batch.specs.Batch.{Item}
 use Rattle.node.specs.declared.record.ReadOnly.{ReadOnly}
 use Rattle.node.proofs.Nodes.{node-ram}
-use Rattle.handler.specs.Request.{State, SoundState, frameItem, execute, CallResult, broadcastResult, unicastResult}
+use Rattle.handler.specs.declared.reply.Report.{Report}
+use Rattle.handler.specs.Request.{State, SoundState, headerItem, frameItem, execute, CallResult, unansweredResult, unicastResult}
 use Rattle.handler.specs.Seen.{stateFromParts}
-use Rattle.handler.proofs.Calls.{frame-item-read, frame-broadcast, frame-unicast, frame-other, call-result-as}
+use Rattle.handler.proofs.Calls.{frame-item-read, frame-broadcast, frame-unicast, frame-other, unicast-report, call-result-as}
 use Rattle.handler.proofs.Sizes.{frame-place}
 use Rattle.handler.proofs.request.handle_frame.Statement.{statement}
 use Rattle.handler.proofs.request.handle_frame.Tie as tie
@@ -67,8 +70,12 @@ answer-handled-requires-2 c κs =
     let call = c .before .before .before .before .before .before .before in
     let parts = parts-own (call .before .before .before .before .before) in
     let s = start parts in
-    frame-place (s .args .frame .now) (s .pre .2) (header parts .read .result) (inParts s (parts .read-only .result))
-    (ap (λ (a : CallResult). a .report .place) (call .handle-unicast .ensures))
+    let k = parts .read-only .result in
+    let f = s .args .frame .now in
+    let i = headerItem (header parts .read .result) (take (length f - headerSize) (drop headerSize f)) in
+    frame-place f (s .pre .2) (header parts .read .result) (inParts s k)
+    (ap (λ (a : CallResult). a .report .place) (call .handle-unicast .ensures)
+    ∙ ap (λ (r : Report). r .place) (unicast-report (k .settings) i (execute i (inParts s k)) (s .args .response .now)))
 
 returns : tie.Need-returns
 returns c =
@@ -80,8 +87,8 @@ returns c =
     let o = s .args .response .now in
     call-result-as (c .answer-handled .ensures)
     ∙ call .handle-broadcast .ensures o
-    ∙ ap (λ (i : Item). broadcastResult (execute i (inParts s (parts .read-only .result))) o) (frame-item-read f (header parts .read .ensures))
-    ∙ ap (λ (k : ReadOnly). broadcastResult (execute (frameItem f) (inParts s k)) o) (parts .read-only .ensures)
+    ∙ ap (λ (i : Item). unansweredResult (execute i (inParts s (parts .read-only .result))) o) (frame-item-read f (header parts .read .ensures))
+    ∙ ap (λ (k : ReadOnly). unansweredResult (execute (frameItem f) (inParts s k)) o) (parts .read-only .ensures)
     ∙ sym (frame-broadcast _ _ _ (sym (nadr-is (header parts)) ∙ test .if1 .taken))
 
 slice-aggregate-handle-unicast : tie.Need-slice-aggregate-handle-unicast
