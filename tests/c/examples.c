@@ -1,7 +1,8 @@
 /* Worked examples of document 01, broken lists and bad steps (document 02,
- * change 1/12), keep with a time (change 2/12), and selective batches and scenes
- * for chosen nodes (change 3/12), called through include/grelfint.h. To see how
- * one compiled scene reaches chosen nodes, read `one_scene_for_chosen_nodes`.
+ * change 1/12), keep with a time (change 2/12), selective batches and scenes for
+ * chosen nodes (change 3/12), and checksums of code images (change 4/12), called
+ * through include/grelfint.h. To see how one compiled scene reaches chosen nodes,
+ * read `one_scene_for_chosen_nodes`.
  * From the repository's root:
  *
  *   rt staticlib grelfint && mkdir -p target/tests
@@ -175,7 +176,7 @@ static void ticks(void)
     check("broken record", grelfint_tick(node).refusal == 1 && grelfint_tick_in_place(&node) == 1);
 }
 
-static void memories_and_code(void)
+static void memories(void)
 {
     fresh(3, 1);
     external[0x3FFF] = 0x5C;
@@ -191,14 +192,6 @@ static void memories_and_code(void)
     check("view too long", grelfint_view_status(eeprom, sizeof eeprom, external, sizeof external, 3, 0, 56) == 15);
     check("view of RAM", grelfint_view_status(eeprom, sizeof eeprom, external, sizeof external, 5, 0, 1) == 10);
     check("view of a short memory", grelfint_view_status(eeprom, 191, external, sizeof external, 3, 0, 1) == 4);
-
-    request("64 zeros", 2, 0x0A, BYTES(0, 0, 0, 64, 0, 0x01, 0x40), 0, BYTES(1));
-    check("no load mark", !load_mark);
-    request("64 zeros, load", 2, 0x0A, BYTES(1, 0, 0, 64, 0, 0x01, 0x40), 0, BYTES(1));
-    check("load mark", load_mark);
-    request("20 zeros", 2, 0x0A, BYTES(2, 0, 0, 20, 0, 0x03, 0x3C), 0, BYTES(1));
-    request("no match", 2, 0x0A, BYTES(1, 0, 0, 64, 0, 0x02, 0x40), 0, BYTES(0));
-    check("no load mark without a match", !load_mark);
 }
 
 static void batches(void)
@@ -223,6 +216,80 @@ static bool same_node(const grelfint_node *a, const grelfint_node *b)
     return a->settings.address == b->settings.address && a->settings.hwpid == b->settings.hwpid &&
            a->settings.dpa_value == b->settings.dpa_value && a->settings.lamp_count == b->settings.lamp_count &&
            a->settings.step == b->settings.step && memcmp(a->ram, b->ram, sizeof a->ram) == 0;
+}
+
+/* Flag bit 0 asks to load the code on a match; bit 1 tells the type of the code. */
+enum { LOAD = 1, HANDLER = 0, PLUG_IN = 2 };
+
+/* Checks an image without and with LOAD, at node 1 and at all nodes. The load mark
+ * is set exactly on a match with LOAD; node and memories stay. */
+static void code_check(const char *name, uint8_t type, uint16_t address, uint16_t length, uint16_t sum, bool matches)
+{
+    static const uint8_t nadrs[] = {1, 0xFF};
+    static uint8_t external_before[GRELFINT_EXTERNAL], eeprom_before[GRELFINT_EEPROM];
+    const grelfint_node before = node;
+    size_t i;
+    uint8_t load;
+
+    memcpy(external_before, external, sizeof external);
+    memcpy(eeprom_before, eeprom, sizeof eeprom);
+    for (i = 0; i < sizeof nadrs; i++) {
+        for (load = 0; load <= LOAD; load++) {
+            request_to(nadrs[i], name, 2, 0x0A,
+                       BYTES((uint8_t)(type | load), (uint8_t)(address & 0xFF), (uint8_t)(address >> 8),
+                             (uint8_t)(length & 0xFF), (uint8_t)(length >> 8),
+                             (uint8_t)(sum & 0xFF), (uint8_t)(sum >> 8)),
+                       0, BYTES(matches));
+            check(name, load_mark == (matches && load == LOAD) && same_node(&node, &before) &&
+                            memcmp(external, external_before, sizeof external) == 0 &&
+                            memcmp(eeprom, eeprom_before, sizeof eeprom) == 0);
+        }
+    }
+}
+
+static void code_checks(void)
+{
+    fresh(3, 1);
+    code_check("64 zeros", HANDLER, 0, 64, 0x4001, true);
+    code_check("64 zeros, wrong low sum", HANDLER, 0, 64, 0x4002, false);
+    code_check("64 zeros, wrong high sum", HANDLER, 0, 64, 0x4101, false);
+    code_check("20 zeros", PLUG_IN, 0, 20, 0x3C03, true);
+    code_check("20 zeros, wrong low sum", PLUG_IN, 0, 20, 0x3C01, false);
+    code_check("320 zeros as 64s", HANDLER, 0, 320, 0x4101, true); /* 320 = 255 + 65 */
+    code_check("320 zeros as 20s", PLUG_IN, 0, 320, 0xC303, true); /* 3 * 65 = 195 */
+    code_check("as the other type", PLUG_IN, 0, 320, 0x4101, false);
+    code_check("all zeros", HANDLER, 0, GRELFINT_EXTERNAL, 0x4001, true); /* 16,384 = 64 * 255 + 64 */
+
+    /* FE from start value 1 gives 255 and 255, and so it stays over zeros: a
+     * remainder modulo 255 would be 0 and 0 */
+    external[0] = 0xFE;
+    code_check("sums of 255", HANDLER, 0, 64, 0xFFFF, true);
+    code_check("sums of 255, both as 0", HANDLER, 0, 64, 0x0000, false);
+    code_check("sums of 255, high as 0", HANDLER, 0, 64, 0x00FF, false);
+    code_check("sums of 255, low as 0", HANDLER, 0, 64, 0xFF00, false);
+    code_check("sums of 255, two blocks", HANDLER, 0, 128, 0xFFFF, true);
+    code_check("sums of 255, two blocks, as 0", HANDLER, 0, 128, 0x0000, false);
+    code_check("sums of 255, whole memory", HANDLER, 0, GRELFINT_EXTERNAL, 0xFFFF, true);
+    external[0] = 0xFC;
+    code_check("plug-in, sums of 255", PLUG_IN, 0, 20, 0xFFFF, true);
+    code_check("plug-in, sums of 255 as 0", PLUG_IN, 0, 20, 0x0000, false);
+    code_check("plug-in, sums of 255, longest", PLUG_IN, 0, 16380, 0xFFFF, true);
+    external[0] = 0;
+
+    /* the last byte of the last image: the low sum is 1 and the high sum 63 before it */
+    external[0x3FFF] = 0xFE;
+    code_check("low sum of 255", HANDLER, 0x3FC0, 64, 0x3FFF, true);
+    code_check("low sum of 255 as 0", HANDLER, 0x3FC0, 64, 0x3F00, false);
+    external[0x3FFF] = 0xFC; /* 3 + FC = 255; the high sum is 79 * 3 before it */
+    code_check("plug-in, low sum of 255", PLUG_IN, 0x3FB0, 80, 0xEDFF, true);
+    code_check("plug-in, low sum of 255 as 0", PLUG_IN, 0x3FB0, 80, 0xED00, false);
+    external[0x3FFF] = 191;
+    code_check("high sum of 255", HANDLER, 0x3FC0, 64, 0xFFC0, true);
+    code_check("high sum of 255 as 0", HANDLER, 0x3FC0, 64, 0x00C0, false);
+    external[0x3FFF] = 0xFF;
+    code_check("FF sums as 00", HANDLER, 0x3FC0, 64, 0x4001, true);
+    memset(external, 0xFF, sizeof external);
+    code_check("all FF", HANDLER, 0, GRELFINT_EXTERNAL, 0x4001, true);
 }
 
 /* Node 1 with a dimming step of 10 and two lamps: lamp 0 as given, lamp 1 at 70
@@ -683,7 +750,8 @@ int main(void)
     lamps();
     addresses();
     ticks();
-    memories_and_code();
+    memories();
+    code_checks();
     batches();
     keeps();
     keep_ticks();

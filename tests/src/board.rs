@@ -1,7 +1,8 @@
 //! A node with its memories and response buffer, run on one of the sides; frames
-//! built from their fields; books built from steps.
+//! built from their fields; code images built for their checksum; books built
+//! from steps.
 use crate::ffi::{Node, NodeSet, RequestAnswer, Settings};
-use crate::reference::{Parts, EEPROM_SIZE, EXTERNAL_SIZE};
+use crate::reference::{CodeType, Parts, EEPROM_SIZE, EXTERNAL_SIZE};
 use crate::sides::Side;
 
 #[derive(Clone)]
@@ -101,6 +102,24 @@ pub fn frame_of(nadr: u16, pnum: u8, pcmd: u8, hwpid: u16, pdata: &[u8]) -> Vec<
 /// PData of a selective batch.
 pub fn selective_pdata(nodes: NodeSet, list: &[u8]) -> Vec<u8> {
     [&nodes.bits[..], list].concat()
+}
+
+/// PData of a code check.
+pub fn code_check_pdata(flags: u8, address: usize, length: usize, sum: u16) -> Vec<u8> {
+    let [address, length] = [address, length].map(|number| (number as u16).to_le_bytes());
+    [&[flags], &address[..], &length, &sum.to_le_bytes()].concat()
+}
+
+/// Sets the last two bytes of an image so that it has this checksum, whose bytes are both 1 to 255.
+pub fn set_checksum(code: CodeType, image: &mut [u8], sum: u16) {
+    let end = image.len() - 2;
+    let [low, high] = sum.to_le_bytes().map(i32::from);
+    let [low_before, high_before] = code.checksum(&image[..end]).to_le_bytes().map(i32::from);
+    // modulo 255, the last bytes a and b lead to low = low_before + a + b and
+    // high = high_before + (low_before + a) + low
+    let a = (high - low - high_before - low_before).rem_euclid(255);
+    let b = (low - low_before - a).rem_euclid(255);
+    image[end..].copy_from_slice(&[a as u8, b as u8]);
 }
 
 /// A well-formed book with these scenes.

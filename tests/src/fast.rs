@@ -328,18 +328,57 @@ fn code_check(m: &Memories, p: &[u8], data: &mut [u8; 56], load: &mut bool) -> R
     if address + length > 16384 {
         return Err(4);
     }
-    let mut low: u8 = if p[0] & 2 == 0 { 1 } else { 3 };
-    let mut high: u8 = 0;
-    for &b in &m.external[address..address + length] {
-        let (s, c) = low.overflowing_add(b);
-        low = s + c as u8;
-        let (s, c) = high.overflowing_add(low);
-        high = s + c as u8;
-    }
+    let first = if p[0] & 2 == 0 { 1 } else { 3 };
+    let (low, high) = sums_after((first, 0), &m.external[address..address + length]);
     let same = u16::from_le_bytes([low, high]) == sum;
     data[0] = same as u8;
     *load = same && p[0] & 1 != 0;
     Ok(1)
+}
+
+/// The low and the high sum after these bytes, from any two sums before them. The sums of an image fit in 64 bits, so
+/// they are reduced only once.
+#[inline(never)]
+pub fn sums_after((low, high): (u8, u8), bytes: &[u8]) -> (u8, u8) {
+    const COLUMNS: usize = 64;
+    const ROWS: usize = 22; // the most for which 255 * (1 + 2 + ... + ROWS) fits in 16 bits
+    let (mut low, mut high) = (low as u64, high as u64);
+    for table in bytes.chunks(ROWS * COLUMNS) {
+        let rows = table.chunks_exact(COLUMNS);
+        let rest = rows.remainder();
+        // each column has sums of its own, so that the compiler can use vectors
+        let (mut lows, mut highs) = ([0u16; COLUMNS], [0u16; COLUMNS]);
+        for row in rows {
+            for ((l, h), &b) in lows.iter_mut().zip(&mut highs).zip(row) {
+                *l += b as u16;
+                *h += *l;
+            }
+        }
+        // the high sum has a byte once for each byte from it to the end: COLUMNS times for each row from its own on,
+        // less the bytes before it in its row
+        let (mut sum, mut weighted) = (0u32, 0u32);
+        for (before, (&l, &h)) in lows.iter().zip(&highs).enumerate() {
+            sum += l as u32;
+            weighted += COLUMNS as u32 * h as u32 - before as u32 * l as u32;
+        }
+        high += (table.len() - rest.len()) as u64 * low + weighted as u64;
+        low += sum as u64;
+        for &b in rest {
+            low += b as u64;
+            high += low;
+        }
+    }
+    (reduced(low), reduced(high))
+}
+
+/// The byte that additions with end-around carry lead to: 0 only for 0, else 1 to 255.
+#[inline]
+pub fn reduced(sum: u64) -> u8 {
+    if sum == 0 {
+        0
+    } else {
+        ((sum - 1) % 255 + 1) as u8
+    }
 }
 
 /// The refusal for a step's first bad part; 0 for a good step.

@@ -1,5 +1,5 @@
 //! Shared by the tests: the C interface; the plain reference, written from the
-//! papers (document 01 with changes 1/12 to 3/12 of document 02) and the
+//! papers (document 01 with changes 1/12 to 4/12 of document 02) and the
 //! decisions on open points; a fast implementation of the same rules for the
 //! benchmark; a common interface to these three; a board to run them on; random
 //! inputs; and counts of what they did.

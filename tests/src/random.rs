@@ -1,8 +1,8 @@
 //! Random nodes, boards, frames and books: mostly valid, often at a limit, and
 //! occasionally with each kind of fault.
-use crate::board::{book_of, frame_of, selective_pdata, Board, Lengths};
+use crate::board::{book_of, code_check_pdata, frame_of, selective_pdata, set_checksum, Board, Lengths};
 use crate::ffi::{Lamp, Node, NodeSet, Settings};
-use crate::reference::{self, EEPROM_SIZE, EXTERNAL_SIZE, NODE_SET};
+use crate::reference::{self, CodeType, EEPROM_SIZE, EXTERNAL_SIZE, NODE_SET};
 use crate::rng::Rng;
 use crate::sides::Side;
 
@@ -282,7 +282,7 @@ fn forbidden_request(g: &mut Rng, node: &Node, limit: usize) -> (u8, u8, Vec<u8>
     let list = [10, 0x71, 0, 0xFF, 0xFF, 1, 0, 0, 0, g.within(0, 100) as u8, 0];
     let (pcmd, mut pdata) = match g.below(3) {
         0 => (5, list.to_vec()),
-        1 => (0x0A, vec![0, 0, 0, 64, 0, g.byte(), g.byte()]),
+        1 => (0x0A, code_check_pdata(0, 0, 64, g.word())),
         _ => (0x0B, selective_pdata(node_set(g, node.settings.address), &list)),
     };
     pdata.truncate(limit);
@@ -434,37 +434,74 @@ fn any_selective_pdata(g: &mut Rng, node: &Node) -> Vec<u8> {
     }
 }
 
-fn code_check_pdata(g: &mut Rng, external: &[u8]) -> Vec<u8> {
-    let mut flags = g.below(4) as u8;
-    let unit = if flags & 2 == 0 { 64 } else { 20 };
-    let most = EXTERNAL_SIZE / unit;
-    let blocks = match g.below(40) {
+/// Where an image of a random length is in external memory: address and length.
+pub fn image_place(g: &mut Rng, code: CodeType) -> (usize, usize) {
+    let most = EXTERNAL_SIZE / code.unit();
+    let units = match g.below(40) {
         0 => most,
-        1..=3 => g.within(1, most),
-        _ => g.within(1, 6),
+        1..=2 => g.within(1, most),
+        3..=15 => 1,
+        _ => g.within(1, 10),
     };
-    let mut length = blocks * unit;
-    let mut address = if g.chance(1, 4) { EXTERNAL_SIZE - length } else { g.within(0, EXTERNAL_SIZE - length) };
-    let mut sum = reference::checksum(if unit == 64 { 1 } else { 3 }, &external[address..address + length]);
+    let length = units * code.unit();
+    (edge(g, 0, EXTERNAL_SIZE - length), length)
+}
+
+/// Often changes an image: to bytes that are all extreme, and so that sums are 255 at its end and where its first unit
+/// ends, after which the sums may be reduced.
+pub fn prepare_image(g: &mut Rng, code: CodeType, image: &mut [u8]) {
+    if g.chance(1, 6) {
+        let pair = g.pick(&[[0, 0], [0xFF, 0xFF], [0, 0xFF], [0xFF, 0], [0xFE, 0xFE], [1, 1]]);
+        for (i, byte) in image.iter_mut().enumerate() {
+            *byte = pair[i % 2];
+        }
+    }
+    if image.len() > code.unit() && g.chance(1, 2) {
+        set_checksum(code, &mut image[..code.unit()], sums_of_255(g));
+    }
+    if g.chance(1, 2) {
+        set_checksum(code, image, sums_of_255(g));
+    }
+}
+
+/// A checksum in which the low sum, the high sum or both are 255.
+fn sums_of_255(g: &mut Rng) -> u16 {
+    let other = g.within(1, 255) as u8;
+    u16::from_le_bytes(g.pick(&[[255, other], [other, 255], [255, 255]]))
+}
+
+/// The checksum with one 255 in it or both as 0, which a remainder modulo 255 would give.
+fn with_0_for_255(g: &mut Rng, sum: u16) -> u16 {
+    let [low, high] = sum.to_le_bytes();
+    u16::from_le_bytes(g.pick(&[[low % 255, high], [low, high % 255], [low % 255, high % 255]]))
+}
+
+/// PData of a code check, whose image is prepared in external memory.
+fn any_code_check_pdata(g: &mut Rng, external: &mut [u8]) -> Vec<u8> {
+    let code = g.pick(&CodeType::EVERY);
+    let mut flags = code.flag() | g.below(2) as u8;
+    let (mut address, mut length) = image_place(g, code);
+    let image = &mut external[address..address + length];
+    prepare_image(g, code, image);
+    let mut sum = code.checksum(image);
     match g.below(24) {
         0 => flags |= 1 << g.within(2, 7),
         1 => length = g.pick(&[0, 1, 63, 65, 20, 64, 320, 0xFFFF, 0xFFC0]),
         2 => address = g.pick(&[0, EXTERNAL_SIZE - length + 1, 0xFFFF, 0x8000, EXTERNAL_SIZE]),
-        3..=5 => sum ^= 1 << g.below(16),
-        6 => sum = g.word(),
+        3..=6 => sum ^= 1 << g.below(16),
+        7 => sum = g.word(),
+        8..=14 => sum = with_0_for_255(g, sum),
         _ => {}
     }
-    let mut pdata = vec![flags];
-    pdata.extend_from_slice(&(address as u16).to_le_bytes());
-    pdata.extend_from_slice(&(length as u16).to_le_bytes());
-    pdata.extend_from_slice(&sum.to_le_bytes());
+    let mut pdata = code_check_pdata(flags, address, length, sum);
     if g.chance(1, 16) {
         change(g, &mut pdata);
     }
     pdata
 }
 
-pub fn frame(g: &mut Rng, node: &Node, external: &[u8]) -> Vec<u8> {
+/// A frame; the image of a code check is prepared in external memory.
+pub fn frame(g: &mut Rng, node: &Node, external: &mut [u8]) -> Vec<u8> {
     let own = node.settings.address;
     let nadr = match g.below(40) {
         0 => own | 0x0100,
@@ -474,10 +511,10 @@ pub fn frame(g: &mut Rng, node: &Node, external: &[u8]) -> Vec<u8> {
         4..=10 => 0x00FF,
         _ => own,
     };
-    let (pnum, pcmd, mut pdata) = match g.below(14) {
+    let (pnum, pcmd, mut pdata) = match g.below(16) {
         0..=2 => (2, 5, any_list(g, node, BATCH_LIST)),
-        3..=6 => (2, 0x0B, any_selective_pdata(g, node)),
-        7 => (2, 0x0A, code_check_pdata(g, external)),
+        3..=7 => (2, 0x0B, any_selective_pdata(g, node)),
+        8..=9 => (2, 0x0A, any_code_check_pdata(g, external)),
         _ => plain_request(g, node, 56),
     };
     pdata.truncate(56);

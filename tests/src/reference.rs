@@ -1,4 +1,4 @@
-//! Document 01, "Exact rules and what to build", with changes 1/12 to 3/12 of
+//! Document 01, "Exact rules and what to build", with changes 1/12 to 4/12 of
 //! document 02, implemented as plainly as possible, without regard to speed.
 //! Headings name document 01's sections.
 use super::ffi::{
@@ -490,17 +490,67 @@ fn byte_sum(a: u8, b: u8) -> u8 {
     }
 }
 
-pub fn checksum(first: u8, bytes: &[u8]) -> u16 {
-    let mut low = first;
-    let mut high = 0;
+/// The low and the high sum after these bytes, from any two sums before them.
+pub fn sums_after(sums: (u8, u8), bytes: &[u8]) -> (u8, u8) {
+    let (mut low, mut high) = sums;
     for &b in bytes {
         low = byte_sum(low, b);
         high = byte_sum(high, low);
     }
+    (low, high)
+}
+
+pub fn checksum(first: u8, bytes: &[u8]) -> u16 {
+    let (low, high) = sums_after((first, 0), bytes);
     word(low, high)
 }
 
-fn code_check(parts: &mut Parts, pdata: &[u8]) -> DataOrError {
+/// The type of the code in an image (004).
+#[derive(Clone, Copy, PartialEq, Eq, PartialOrd, Ord, Debug)]
+pub enum CodeType {
+    Handler,
+    PlugIn,
+}
+
+impl CodeType {
+    pub const EVERY: [CodeType; 2] = [CodeType::Handler, CodeType::PlugIn];
+
+    /// Flag bit 1.
+    pub fn flag(self) -> u8 {
+        match self {
+            CodeType::Handler => 0,
+            CodeType::PlugIn => 2,
+        }
+    }
+
+    /// An image is one or more of this many bytes.
+    pub fn unit(self) -> usize {
+        match self {
+            CodeType::Handler => 64,
+            CodeType::PlugIn => 20,
+        }
+    }
+
+    pub fn checksum(self, image: &[u8]) -> u16 {
+        match self {
+            CodeType::Handler => checksum(1, image),
+            CodeType::PlugIn => checksum(3, image),
+        }
+    }
+}
+
+/// A code check without an error.
+pub struct CodeCheck {
+    pub code: CodeType,
+    /// Flag bit 0: load the code if the checksum matches.
+    pub load: bool,
+    pub address: usize,
+    pub length: usize,
+    pub sum: u16,
+}
+
+/// The code check in PData, or ErrN.
+pub fn read_code_check(pdata: &[u8]) -> Result<CodeCheck, u8> {
     if pdata.len() != 7 {
         return Err(DATA_LEN);
     }
@@ -511,15 +561,26 @@ fn code_check(parts: &mut Parts, pdata: &[u8]) -> DataOrError {
     if flags & 0xFC != 0 {
         return Err(FAIL);
     }
-    let (unit, first) = if flags & 2 == 0 { (64, 1) } else { (20, 3) };
-    if length == 0 || length % unit != 0 {
+    let code = if flags & 2 == 0 { CodeType::Handler } else { CodeType::PlugIn };
+    if length == 0 || length % code.unit() != 0 {
         return Err(DATA);
     }
     if address + length > EXTERNAL_SIZE {
         return Err(ADDR);
     }
-    let matches = checksum(first, &parts.external[address..address + length]) == sum;
-    Ok((vec![matches as u8], matches && flags & 1 != 0))
+    Ok(CodeCheck { code, load: flags & 1 != 0, address, length, sum })
+}
+
+impl CodeCheck {
+    pub fn image<'a>(&self, external: &'a [u8]) -> &'a [u8] {
+        &external[self.address..self.address + self.length]
+    }
+}
+
+fn code_check(parts: &mut Parts, pdata: &[u8]) -> DataOrError {
+    let check = read_code_check(pdata)?;
+    let matches = check.code.checksum(check.image(parts.external)) == check.sum;
+    Ok((vec![matches as u8], matches && check.load))
 }
 
 // ---- FRC ----

@@ -2,7 +2,7 @@
 //! a case. What a call did is told from its inputs and the reference.
 use crate::board::Board;
 use crate::ffi::{Lamp, Node, NodeSet, RequestAnswer};
-use crate::reference::{self as r, NODE_SET};
+use crate::reference::{self as r, CodeType, EXTERNAL_SIZE, NODE_SET};
 use std::collections::BTreeMap;
 use std::fmt::Debug;
 
@@ -20,6 +20,8 @@ pub struct Seen {
     /// The sets of selective batches, and whether the node is selected.
     pub selective_sets: Counts<(SetKind, bool)>,
     pub forbidden_entries: Counts<ForbiddenEntry>,
+    pub code_checks: Counts<CodeCheck>,
+    pub code_places: Counts<CodePlace>,
     pub keeps: Counts<Keep>,
     pub keeps_in: Counts<(LampRequest, Keep)>,
     pub compiled: Counts<Compiled>,
@@ -239,6 +241,113 @@ impl ForbiddenEntry {
     }
 }
 
+/// A code check by the sums of its image.
+#[derive(PartialEq, Eq, PartialOrd, Ord, Debug)]
+pub struct CodeCheck {
+    code: CodeType,
+    units: Units,
+    /// Whether the low and the high sum are 255.
+    full: [bool; 2],
+    given: Given,
+}
+
+#[derive(Clone, Copy, PartialEq, Eq, PartialOrd, Ord, Debug)]
+enum Units {
+    One,
+    Several,
+    /// A sum is 255 where the first unit ends.
+    SeveralAfter255,
+}
+
+/// The checksum in a request, compared with the image's.
+#[derive(Clone, Copy, PartialEq, Eq, PartialOrd, Ord, Debug)]
+enum Given {
+    Right,
+    /// Wrong only by a 0 for a 255.
+    ZeroFor255,
+    Wrong,
+}
+
+impl CodeCheck {
+    fn of(check: &r::CodeCheck, image: &[u8], sum: u16) -> CodeCheck {
+        let [sums, given] = [sum, check.sum].map(u16::to_le_bytes);
+        let unit = check.code.unit();
+        let units = if image.len() == unit {
+            Units::One
+        } else if check.code.checksum(&image[..unit]).to_le_bytes().contains(&255) {
+            Units::SeveralAfter255
+        } else {
+            Units::Several
+        };
+        let given = if given == sums {
+            Given::Right
+        } else if given.map(|b| b % 255) == sums.map(|b| b % 255) {
+            Given::ZeroFor255
+        } else {
+            Given::Wrong
+        };
+        CodeCheck { code: check.code, units, full: sums.map(|b| b == 255), given }
+    }
+
+    pub fn every() -> impl Iterator<Item = CodeCheck> {
+        let units = || [Units::One, Units::Several, Units::SeveralAfter255].into_iter();
+        let given = || [Given::Right, Given::ZeroFor255, Given::Wrong].into_iter();
+        let full = || EITHER.into_iter().flat_map(|low| EITHER.map(|high| [low, high]));
+        let of = move |code| {
+            let with = move |units| {
+                full().flat_map(move |full| given().map(move |given| CodeCheck { code, units, full, given }))
+            };
+            units().flat_map(with)
+        };
+        let all = CodeType::EVERY.into_iter().flat_map(of);
+        all.filter(|check| check.given != Given::ZeroFor255 || check.full.contains(&true))
+    }
+}
+
+/// A code check by the place of its image in external memory and by what decides the load mark.
+#[derive(PartialEq, Eq, PartialOrd, Ord, Debug)]
+pub struct CodePlace {
+    code: CodeType,
+    place: Place,
+    load: bool,
+    matches: bool,
+}
+
+#[derive(Clone, Copy, PartialEq, Eq, PartialOrd, Ord, Debug)]
+enum Place {
+    AtTheStart,
+    Inside,
+    AtTheEnd,
+    /// Only 64s fill the memory.
+    Whole,
+}
+
+impl CodePlace {
+    fn of(check: &r::CodeCheck, matches: bool) -> CodePlace {
+        let &r::CodeCheck { code, load, address, length, .. } = check;
+        let place = match (address == 0, address + length == EXTERNAL_SIZE) {
+            (true, false) => Place::AtTheStart,
+            (false, false) => Place::Inside,
+            (false, true) => Place::AtTheEnd,
+            (true, true) => Place::Whole,
+        };
+        CodePlace { code, place, load, matches }
+    }
+
+    pub fn every() -> impl Iterator<Item = CodePlace> {
+        let places = || [Place::AtTheStart, Place::Inside, Place::AtTheEnd, Place::Whole].into_iter();
+        let of = move |code| {
+            let at = move |place| {
+                let with = move |load| EITHER.map(|matches| CodePlace { code, place, load, matches });
+                EITHER.into_iter().flat_map(with)
+            };
+            places().flat_map(at)
+        };
+        let all = CodeType::EVERY.into_iter().flat_map(of);
+        all.filter(|check| check.place != Place::Whole || check.code == CodeType::Handler)
+    }
+}
+
 /// A keep entry that was executed on an implemented lamp.
 #[derive(Clone, Copy, PartialEq, Eq, PartialOrd, Ord, Debug)]
 pub struct Keep {
@@ -330,7 +439,19 @@ impl Seen {
         if way == Way::SelectiveBatch {
             self.selective_batch(&before.node, &request, broadcast);
         }
+        if (request.pnum, request.pcmd) == (2, 0x0A) && !r::wrong_hwpid(&before.node, &request) {
+            self.code_check(&before.external, &request);
+        }
         self.entries(before, request, broadcast);
+    }
+
+    fn code_check(&mut self, external: &[u8], request: &r::Request) {
+        if let Ok(check) = r::read_code_check(request.pdata) {
+            let image = check.image(external);
+            let sum = check.code.checksum(image);
+            self.code_checks.add(CodeCheck::of(&check, image, sum));
+            self.code_places.add(CodePlace::of(&check, check.sum == sum));
+        }
     }
 
     fn selective_batch(&mut self, node: &Node, request: &r::Request, broadcast: bool) {
@@ -373,6 +494,7 @@ impl Seen {
         assert!(self.requests.not_selected * 50 > total, "a kind is rare: {:?}", self.requests);
         self.assert_every_kind_of_list(total);
         self.assert_every_kind_of_selective_batch(total);
+        self.assert_every_kind_of_code_check(total / 20_000);
         self.assert_every_kind_of_keep(total);
     }
 
@@ -391,6 +513,12 @@ impl Seen {
         self.selective.assert_each(SelectiveBatch::every(), requests / 4000);
         self.selective_sets.assert_each(SetKind::every_selection(), requests / 1000);
         self.selective_lengths.assert_each(SELECTIVE_LIMITS, requests / 1000);
+    }
+
+    /// At least this many code checks are of each kind.
+    pub fn assert_every_kind_of_code_check(&self, least: u64) {
+        self.code_checks.assert_each(CodeCheck::every(), least);
+        self.code_places.assert_each(CodePlace::every(), least);
     }
 
     /// On average, at least one keep entry of each kind is executed in fifty requests, and for each way to send it one in

@@ -3,14 +3,16 @@
 //! the number of calls in `random_sessions`. A failure prints all inputs.
 //! After every call the whole answer and every whole buffer are compared, with
 //! the guard bytes after it, including buffers that are only read.
-use grelfint_tests::board::{book_of, frame_of, selective_pdata, Board, Lengths};
+use grelfint_tests::board::{book_of, code_check_pdata, frame_of, selective_pdata, set_checksum, Board, Lengths};
+use grelfint_tests::fast;
 use grelfint_tests::ffi::{CompileAnswer, Lamp, Node, NodeSet, RequestAnswer, Settings};
 use grelfint_tests::random::{self, BATCH_LIST, EXCESS, GUARD, SELECTIVE_LIST};
-use grelfint_tests::reference::{self as r, EEPROM_SIZE, EXTERNAL_SIZE, NODE_SET};
+use grelfint_tests::reference::{self as r, CodeType, EEPROM_SIZE, EXTERNAL_SIZE, NODE_SET};
 use grelfint_tests::rng::{number, seed, Rng};
 use grelfint_tests::seen::{AtLimit, BrokenList, Compiled, Profile, Requests, Seen, SelectiveBatch, SetKind, Taker};
 use grelfint_tests::sides::{Side, FAST, LIBRARY, REFERENCE};
 use std::hint::black_box;
+use std::ops::Range;
 
 /// Placed before and after a record that a call writes.
 const GUARD_NODE: Node = Node {
@@ -86,6 +88,24 @@ impl Input {
     }
 }
 
+/// A code image in external memory.
+#[derive(Clone, Copy, Debug)]
+struct Image {
+    code: CodeType,
+    address: usize,
+    length: usize,
+}
+
+impl Image {
+    fn range(self) -> Range<usize> {
+        self.address..self.address + self.length
+    }
+
+    fn checksum(self, board: &Board) -> u16 {
+        self.code.checksum(&board.external[self.range()])
+    }
+}
+
 /// Runs the same calls on a board of the tested side and on one of the reference.
 struct Session {
     test: &'static str,
@@ -128,8 +148,16 @@ impl Session {
         self.plain.node = node;
     }
 
+    /// Writes external memory, the same on both boards.
+    fn write_external<T>(&mut self, write: impl FnOnce(&mut Rng, &mut [u8]) -> T) -> T {
+        let written = write(&mut self.g, &mut self.plain.external[..EXTERNAL_SIZE]);
+        self.tested.external.copy_from_slice(&self.plain.external);
+        written
+    }
+
     fn random_frame(&mut self) -> Vec<u8> {
-        random::frame(&mut self.g, &self.plain.node, &self.plain.external[..EXTERNAL_SIZE])
+        let node = self.plain.node;
+        self.write_external(|g, external| random::frame(g, &node, external))
     }
 
     fn count(&mut self, refusal: u8) {
@@ -281,6 +309,79 @@ impl Session {
         self.expect(answer == want && fault.is_empty(), || {
             format!("{fault}not selected: {answer:?}\nexpected {want:?}\nframe {}", hex(&frame))
         });
+    }
+
+    /// A code check that is built to match or not, with or without flag bit 0. It changes nothing.
+    fn code_check(&mut self, image: Image, sum: u16, matches: bool) {
+        let Image { code, address, length } = image;
+        let load = self.g.chance(1, 2);
+        let node = self.plain.node;
+        let pdata = code_check_pdata(code.flag() | load as u8, address, length, sum);
+        let frame = frame_of(node.settings.address, 2, 0x0A, 0xFFFF, &pdata);
+        let load = load && matches;
+        self.take_built(&frame, 0, RequestAnswer { length: 9, load, addressed: true, ..RequestAnswer::zeros(node) });
+        self.expect(self.plain.response[8] == matches as u8, || format!("built for {matches}: {image:?}, {sum:04X}"));
+    }
+
+    /// The image's own checksum matches; those close to it do not.
+    fn close_checksums(&mut self, image: Image) {
+        let sum = image.checksum(&self.plain);
+        self.code_check(image, sum, true);
+        let [low, high] = sum.to_le_bytes();
+        let other_type = match image.code {
+            CodeType::Handler => CodeType::PlugIn,
+            CodeType::PlugIn => CodeType::Handler,
+        };
+        let close = [
+            [low.wrapping_add(1), high],
+            [low.wrapping_sub(1), high],
+            [low, high.wrapping_add(1)],
+            [low, high.wrapping_sub(1)],
+            [low % 255, high % 255],
+            [high, low],
+            Image { code: other_type, ..image }.checksum(&self.plain).to_le_bytes(),
+        ];
+        for wrong in close.map(u16::from_le_bytes) {
+            if wrong != sum {
+                self.code_check(image, wrong, false);
+            }
+        }
+    }
+
+    /// A random image with right and wrong checksums, then with one byte changed and with two bytes exchanged.
+    fn random_image(&mut self) {
+        let code = self.g.pick(&CodeType::EVERY);
+        let (address, length) = random::image_place(&mut self.g, code);
+        let image = Image { code, address, length };
+        self.write_external(|g, external| random::prepare_image(g, code, &mut external[image.range()]));
+        self.close_checksums(image);
+
+        let sum = image.checksum(&self.plain);
+        let (i, j) = (address + self.g.below(length), address + self.g.below(length));
+        let byte = self.g.byte();
+        let [old, other] = [i, j].map(|at| self.plain.external[at]);
+        // the low sum sees every change but between 00 and FF
+        self.write_external(|_, external| external[i] = byte);
+        self.code_check(image, sum, byte % 255 == old % 255);
+        self.write_external(|_, external| external[i] = old);
+        // the high sum sees a byte as often as there are bytes from it to the end
+        let seen = i.abs_diff(j) * old.abs_diff(other) as usize;
+        self.write_external(|_, external| external.swap(i, j));
+        self.code_check(image, sum, seen % 255 == 0);
+        self.write_external(|_, external| external.swap(i, j));
+        self.exchanged_00_and_ff(image);
+    }
+
+    /// Every 00 in an image becomes FF and every FF becomes 00: the checksum stays.
+    fn exchanged_00_and_ff(&mut self, image: Image) {
+        let sum = image.checksum(&self.plain);
+        let exchanged = |b: &mut u8| {
+            if *b % 255 == 0 {
+                *b = !*b;
+            }
+        };
+        self.write_external(|_, external| external[image.range()].iter_mut().for_each(exchanged));
+        self.code_check(image, sum, true);
     }
 
     fn tick(&mut self, node: Node) -> Node {
@@ -872,6 +973,140 @@ fn every_address_and_bit() {
     }
 }
 
+/// Tests images of each type of code in random bytes.
+fn in_random_bytes(test: &'static str, images: impl Fn(&mut Session, CodeType)) {
+    for side in [LIBRARY, FAST] {
+        let mut s = Session::new(test, side);
+        s.write_external(|g, external| g.fill(external));
+        for code in CodeType::EVERY {
+            images(&mut s, code);
+        }
+    }
+}
+
+/// Images of every length, at the start and at the end of external memory and between them.
+#[test]
+fn every_length_of_an_image() {
+    in_random_bytes("every_length_of_an_image", |s, code| {
+        for length in (code.unit()..=EXTERNAL_SIZE).step_by(code.unit()) {
+            let last = EXTERNAL_SIZE - length;
+            let between = s.g.within(0, last);
+            for address in [0, last, between] {
+                let image = Image { code, address, length };
+                s.code_check(image, image.checksum(&s.plain), true);
+            }
+            s.close_checksums(Image { code, address: between, length });
+        }
+    });
+}
+
+/// Images of one to four units at every address modulo 64 and modulo 20, up to both ends of external memory.
+#[test]
+fn every_start_of_an_image() {
+    in_random_bytes("every_start_of_an_image", |s, code| {
+        for offset in 0..320 {
+            let length = code.unit() * s.g.within(1, 4);
+            for address in [offset, EXTERNAL_SIZE - length - offset] {
+                s.close_checksums(Image { code, address, length });
+            }
+        }
+    });
+}
+
+/// Random images, many with sums of 255. A wrong checksum or a changed byte is noticed exactly when the sums differ.
+#[test]
+fn random_images() {
+    for side in [LIBRARY, FAST] {
+        let mut s = Session::new("random_images", side);
+        s.run(100, 20, Session::random_image);
+        println!("random_images: {:?}", s.seen);
+        s.seen.assert_every_kind_of_code_check(10);
+    }
+}
+
+/// Images of the greatest length, from bytes that give the largest and the smallest plain sums, and from others.
+#[test]
+fn extreme_images() {
+    for side in [LIBRARY, FAST] {
+        let mut s = Session::new("extreme_images", side);
+        for bytes in [[0; 2], [0xFF; 2], [0, 0xFF], [0xFF, 0], [0xFE; 2], [0xFF, 0xFE], [1; 2], [0x80; 2], [0x7F, 0x80]]
+        {
+            for code in CodeType::EVERY {
+                let length = EXTERNAL_SIZE / code.unit() * code.unit();
+                let image = Image { code, address: EXTERNAL_SIZE - length, length };
+                s.write_external(|_, external| external.copy_from_slice(&bytes.repeat(EXTERNAL_SIZE / 2)));
+                s.close_checksums(image);
+                s.exchanged_00_and_ff(image);
+            }
+        }
+    }
+}
+
+/// Whether a code check with flag bit 0 matches; the load mark and the response agree.
+fn matches(board: &mut Board, code: CodeType, length: usize, sum: u16) -> bool {
+    let node = board.node;
+    let pdata = code_check_pdata(code.flag() | 1, 0, length, sum);
+    let answer = board.request(node, &frame_of(1, 2, 0x0A, 0xFFFF, &pdata), Lengths::USUAL);
+    assert_eq!((answer.length, board.response[8]), (9, answer.load as u8));
+    answer.load
+}
+
+/// Of all 65,536 checksums exactly one matches, for images with and without sums of 255.
+#[test]
+fn every_checksum() {
+    for side in [LIBRARY, FAST] {
+        let mut b = Board::started(side, 3, 1);
+        for code in CodeType::EVERY {
+            for (units, sum) in [(1, 0x12FF), (1, 0xFF34), (1, 0xFFFF), (1, 0x5678), (7, 0xFFFF), (7, 0x0101)] {
+                let length = units * code.unit();
+                set_checksum(code, &mut b.external[..length], sum);
+                let matching: Vec<u16> = (0..=0xFFFF).filter(|&sum| matches(&mut b, code, length, sum)).collect();
+                assert_eq!(matching, [sum], "{}, {code:?}, {units} units", side.name);
+            }
+        }
+    }
+}
+
+/// Every pair of sums that there can be where a first unit ends, before a unit of zeros, of FFs and of random bytes.
+#[test]
+fn every_pair_of_sums_after_a_unit() {
+    let mut g = Rng::new(seed("every_pair_of_sums_after_a_unit"));
+    for side in [LIBRARY, FAST] {
+        let mut b = Board::started(side, 3, 1);
+        for code in CodeType::EVERY {
+            let (unit, length) = (code.unit(), 2 * code.unit());
+            g.fill(&mut b.external[..length]);
+            let random = b.external[unit..length].to_vec();
+            for (low, high) in (1..=255u8).flat_map(|low| (1..=255u8).map(move |high| (low, high))) {
+                set_checksum(code, &mut b.external[..unit], u16::from_le_bytes([low, high]));
+                for rest in [&vec![0; unit], &vec![0xFF; unit], &random] {
+                    b.external[unit..length].copy_from_slice(rest);
+                    let sum = code.checksum(&b.external[..length]);
+                    assert!(matches(&mut b, code, length, sum), "{}, {code:?}, {low} {high}, {rest:?}", side.name);
+                }
+            }
+        }
+    }
+}
+
+/// The fast implementation adds up a block as the reference does byte by byte: from every pair of sums, also those that
+/// no image leads to, and for every length up to more than 64 bytes.
+#[test]
+fn every_pair_of_sums_before_a_block() {
+    let mut g = Rng::new(seed("every_pair_of_sums_before_a_block"));
+    let mut random = [0; 70];
+    g.fill(&mut random);
+    for block in [[0; 70], [0xFF; 70], random] {
+        for before in (0..=255).flat_map(|low| (0..=255).map(move |high| (low, high))) {
+            let mut sums = before;
+            for length in 0..=block.len() {
+                assert_eq!(fast::sums_after(before, &block[..length]), sums, "{before:?}, {:02X?}", &block[..length]);
+                sums = r::sums_after(sums, block.get(length).map_or(&[], std::slice::from_ref));
+            }
+        }
+    }
+}
+
 #[test]
 fn every_length() {
     let mut s = Session::new("every_length", LIBRARY);
@@ -1051,7 +1286,7 @@ fn every_byte_of_a_step() {
 #[test]
 fn fast_agrees() {
     let mut s = Session::new("fast_agrees", FAST);
-    s.run(340, 300, |s| {
+    s.run(450, 300, |s| {
         s.random_request(s.plain.node, false);
         let after = s.tick(s.plain.node);
         s.set_node(after);

@@ -1,4 +1,4 @@
--- Worked examples of the code check.
+-- Worked examples of the checksum and of the code check.
 use mathlib.Core.Path.{_≡_, refl}
 use mathlib.Core.List.{List, [], _∷_, _++_}
 use mathlib.Core.Bool.{true, false}
@@ -6,6 +6,7 @@ use Prim.Native.Nat.{ℕ}
 use lib.ListN.{replicate}
 use Rattle.dpa.specs.Reply.{reply}
 use Rattle.checksum.specs.Sums.{addWithCarry, addByte, sums}
+use Rattle.checksum.specs.Blocks.{blockMax, pair, plainSums, reduce, blockSums}
 use Rattle.checksum.specs.Check.{blockSize, initialLow, imageError, imageMatches, codeCheck}
 
 -- 64 zeros at the start of external memory: with the load flag, without it, and with another checksum
@@ -18,3 +19,17 @@ pub record Checks (rest : List ℕ) : Type 0 where
 pub checks : (rest : List ℕ) → Checks rest
 unfolding addWithCarry addByte sums blockSize initialLow imageError imageMatches codeCheck
 checks rest = record { load = refl; check = refl; mismatch = refl }
+
+-- over zeros, sums of 0 and of 255 stay and a low sum of 255 makes the high sum 255; document 01's byte FE; the largest plain sums
+pub record BlockExamples : Type 0 where
+  pub zeros : blockSums (pair 0 0) (replicate blockMax 0) ≡ pair 0 0
+  pub full : blockSums (pair 255 255) (replicate blockMax 0) ≡ pair 255 255
+  pub low-full : blockSums (pair 255 0) (replicate blockMax 0) ≡ pair 255 255
+  pub high-full : blockSums (pair 0 255) (replicate blockMax 0) ≡ pair 0 255
+  pub one-byte : blockSums (pair 1 0) (0xFE ∷ []) ≡ pair 255 255
+  pub largest : plainSums (pair 255 255) (replicate blockMax 0xFF) ≡ pair 16575 546975
+
+-- the definitions give these sums
+pub block-examples : BlockExamples
+unfolding plainSums reduce
+block-examples = record { zeros = refl; full = refl; low-full = refl; high-full = refl; one-byte = refl; largest = refl }

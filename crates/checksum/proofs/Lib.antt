@@ -1,3 +1,4 @@
 pub mod Fletcher
+pub mod Blocks
 pub mod Checks
 pub mod Examples

@@ -1,23 +1,27 @@
-// The Fletcher checksum: two byte sums with end-around carry.
-use std::num::wrapping_add_u8;
+// The one's complement Fletcher-16 checksum: a byte sum that exceeds 255 gets its carry added. Within a block the sums are plain, and
+// the carries of the whole block are added by one reduction at its end.
 ghost use mathlib.Core.Path.{_≡_};
 ghost use Prim.Native.Nat.{_≤_};
-ghost use Rattle.checksum.specs.Sums.{addWithCarry, addByte, sums, start};
+ghost use lib.ListN.{length};
+ghost use Rattle.checksum.specs.Sums.{sums, start};
+ghost use Rattle.checksum.specs.Blocks.{blockMax, reduce};
+
+// The most bytes between two reductions. The high sum then needs 20 bits.
+const BLOCK_MAX: usize = 64;
 
 pub struct Sums {
     pub low: u8,
     pub high: u8,
 }
 
-// Adds two bytes; if the sum exceeds 255, its carry is added to it.
-fn add_with_carry(a: u8, b: u8) -> u8
-    ensures { λ r. ⌜ r ≡ addWithCarry a b ⌝ }
+// Reduces a plain sum modulo 255 to a byte: 0 for 0, otherwise 1 to 255. Other multiples of 255 give 255, as they do with carries.
+fn reduce(sum: u32) -> u8
+    ensures { λ r. ⌜ r ≡ reduce sum ⌝ }
 {
-    let sum = wrapping_add_u8(a, b);
-    if sum < a {
-        return wrapping_add_u8(sum, 1);
+    if sum == 0 {
+        return 0;
     }
-    sum
+    ((sum - 1) % 255 + 1) as u8
 }
 
 impl Sums {
@@ -31,25 +35,21 @@ impl Sums {
         }
     }
 
-    // Adds a byte to the low sum, then the new low sum to the high sum.
-    pub fn add_byte(self, byte: u8) -> Sums
-        ensures { λ r. ⌜ r ≡ addByte self byte ⌝ }
-    {
-        let low = add_with_carry(self.low, byte);
-        let high = add_with_carry(self.high, low);
-        Sums { low, high }
-    }
-
-    pub fn add_block(self, block: &[u8]) -> Sums
+    // Adds each byte to the low sum and each new low sum to the high sum, without carries, then reduces both.
+    fn add_block(self, block: &[u8]) -> Sums
+        requires { ⌜ length (now block) ≤ blockMax ⌝ }
         ensures { λ r. ⌜ r ≡ sums self (now (block .entry)) ⌝ }
     {
-        let mut s = self;
-        let mut i: usize = 0;
-        while i < block.len() {
-            s = s.add_byte(block[i]);
-            i += 1;
+        let mut low = self.low as u32;
+        let mut high = self.high as u32;
+        for i in 0..block.len() {
+            low += block[i] as u32;
+            high += low;
         }
-        s
+        Sums {
+            low: reduce(low),
+            high: reduce(high),
+        }
     }
 }
 
@@ -62,15 +62,16 @@ fn smaller(a: usize, b: usize) -> usize
     b
 }
 
-// The sums over an image, block by block; the last block may be shorter.
+// The sums over an image, block by block; the last block may be shorter. A block size over 64 is cut to 64, the limit of `add_block`.
 pub fn image_sums(image: &[u8], initial_low: u8, block_size: usize) -> Sums
     requires { ⌜ 1 ≤ «block_size» ⌝ }
     ensures { λ r. ⌜ r ≡ sums (start «initial_low») (now (image .entry)) ⌝ }
 {
+    let size = smaller(block_size, BLOCK_MAX);
     let mut s = Sums::start(initial_low);
     let mut at: usize = 0;
     while at < image.len() {
-        let end = at + smaller(block_size, image.len() - at);
+        let end = at + smaller(size, image.len() - at);
         s = s.add_block(&image[at..end]);
         at = end;
     }

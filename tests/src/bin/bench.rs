@@ -1,10 +1,13 @@
 //! Benchmark, not part of the gate: `cargo run --release --offline`.
 //! Measures the library against a fast implementation of the same rules
 //! (src/fast.rs), alternating within one run. The result is the median over all
-//! rounds of the ratio library / fast. `BENCH_ROUNDS` sets the number of rounds.
-use grelfint_tests::board::{Board, Lengths};
+//! rounds of the ratio library / fast. Then measures ways to compute a checksum
+//! against the loop that adds byte by byte with carries, in the same manner.
+//! `BENCH_ROUNDS` sets the number of rounds.
+use grelfint_tests::board::{code_check_pdata, frame_of, Board, Lengths};
+use grelfint_tests::fast;
 use grelfint_tests::ffi::{CompileAnswer, Node, NodeSet};
-use grelfint_tests::reference;
+use grelfint_tests::reference::{CodeType, EXTERNAL_SIZE};
 use grelfint_tests::sides::{Side, FAST, LIBRARY};
 use std::hint::black_box;
 use std::time::Instant;
@@ -68,28 +71,36 @@ fn median(mut v: Vec<f64>) -> f64 {
     v[v.len() / 2]
 }
 
-/// `run(side, calls)`: 0 is the library, 1 the fast side.
-fn compare(name: &str, rounds: usize, mut run: impl FnMut(usize, u32) -> f64) {
-    // enough calls for about 10 ms per side
-    let once = run(1, 50).max(1.0);
-    let calls = (10_000_000.0 / once).clamp(20.0, 1_000_000.0) as u32;
-    run(0, calls / 4 + 1);
-    let (mut lib, mut own, mut ratio) = (Vec::new(), Vec::new(), Vec::new());
+/// The median of each round's ratio.
+fn ratio(of: &[f64], to: &[f64]) -> f64 {
+    median(of.iter().zip(to).map(|(a, b)| a / b).collect())
+}
+
+/// Nanoseconds per call of each of `N` programs in each round; each round starts with another one.
+/// `run(program, calls)` gives one such time.
+fn time_rounds<const N: usize>(rounds: usize, mut run: impl FnMut(usize, u32) -> f64) -> [Vec<f64>; N] {
+    let calls: [u32; N] = std::array::from_fn(|program| {
+        // enough calls for about 10 ms
+        let once = run(program, 50).max(1.0);
+        let calls = (10_000_000.0 / once).clamp(20.0, 1_000_000.0) as u32;
+        run(program, calls / 4 + 1);
+        calls
+    });
+    let mut times = [(); N].map(|_| Vec::new());
     for round in 0..rounds {
-        let first = round % 2;
-        let a = run(first, calls);
-        let b = run(1 - first, calls);
-        let (l, f) = if first == 0 { (a, b) } else { (b, a) };
-        lib.push(l);
-        own.push(f);
-        ratio.push(l / f);
+        for program in (round..round + N).map(|i| i % N) {
+            times[program].push(run(program, calls[program]));
+        }
     }
-    println!(
-        "{name:<34} library {:>10.1} ns   fast {:>10.1} ns   ratio {:>6.2}",
-        median(lib),
-        median(own),
-        median(ratio)
-    );
+    times
+}
+
+/// `run(side, calls)`: 0 is the library, 1 the fast side.
+fn compare(name: &str, rounds: usize, run: impl FnMut(usize, u32) -> f64) {
+    let [library, fast] = time_rounds(rounds, run);
+    let ratio = ratio(&library, &fast);
+    let [library, fast] = [library, fast].map(median);
+    println!("{name:<34} library {library:>10.1} ns   fast {fast:>10.1} ns   ratio {ratio:>6.2}");
 }
 
 fn lamp_frame(pcmd: u8, lamps: u32, timed: usize) -> Vec<u8> {
@@ -148,10 +159,10 @@ fn scene_of_64() -> Vec<u8> {
     book
 }
 
-/// A code check of all external memory: 256 blocks of 64 bytes, length 0x4000.
+/// A code check of all external memory that matches.
 fn code_check(external: &[u8]) -> Vec<u8> {
-    let sum = reference::checksum(1, external).to_le_bytes();
-    vec![1, 0, 2, 0x0A, 0xFF, 0xFF, 0, 0, 0, 0x00, 0x40, sum[0], sum[1]]
+    let sum = CodeType::Handler.checksum(external);
+    frame_of(1, 2, 0x0A, 0xFFFF, &code_check_pdata(CodeType::Handler.flag(), 0, EXTERNAL_SIZE, sum))
 }
 
 fn compare_request(name: &str, rounds: usize, frame: &[u8]) {
@@ -171,6 +182,84 @@ fn compare_compile(name: &str, rounds: usize, book: &[u8], compile: impl Compile
     let [l, f] = [0, 1].map(|i| compile(sides[i], book, &mut outs[i]));
     assert!(l == f && l.refusal == 0 && outs[0] == outs[1], "{name}: sides differ");
     compare(name, rounds, |side, calls| time_compile(&compile, sides[side], book, &mut outs[side], calls));
+}
+
+// ---- checksums from start value 1 ----
+/// Document 01's rule as it stands.
+fn byte_by_byte(bytes: &[u8]) -> u16 {
+    let (mut low, mut high) = (1u8, 0u8);
+    for &b in bytes {
+        let (sum, carry) = low.overflowing_add(b);
+        low = sum + carry as u8;
+        let (sum, carry) = high.overflowing_add(low);
+        high = sum + carry as u8;
+    }
+    u16::from_le_bytes([low, high])
+}
+
+/// Two additions for each byte; the sums are reduced after each block of 64 bytes.
+fn plain_blocks(bytes: &[u8]) -> u16 {
+    let (mut low, mut high) = (1u32, 0u32);
+    for block in bytes.chunks_exact(64) {
+        for &b in block {
+            low += b as u32;
+            high += low;
+        }
+        (low, high) = (reduced(low), reduced(high));
+    }
+    u16::from_le_bytes([low as u8, high as u8])
+}
+
+/// The bytes of a block are added up independently, each times its place from the end.
+fn weighted_blocks(bytes: &[u8]) -> u16 {
+    let (mut low, mut high) = (1u32, 0u32);
+    for block in bytes.chunks_exact(64) {
+        let (mut sum, mut weighted) = (0, 0);
+        for (i, &b) in block.iter().enumerate() {
+            sum += b as u32;
+            weighted += (64 - i as u32) * b as u32;
+        }
+        (low, high) = (reduced(low + sum), reduced(high + 64 * low + weighted));
+    }
+    u16::from_le_bytes([low as u8, high as u8])
+}
+
+fn reduced(sum: u32) -> u32 {
+    fast::reduced(sum as u64) as u32
+}
+
+fn fast_side(bytes: &[u8]) -> u16 {
+    let (low, high) = fast::sums_after((1, 0), bytes);
+    u16::from_le_bytes([low, high])
+}
+
+/// Each way to compute the checksum of the same 16,384 bytes, against the first.
+fn compare_checksums(rounds: usize) {
+    const CHECKSUMS: [(&str, fn(&[u8]) -> u16); 4] = [
+        ("byte by byte, with carries", byte_by_byte),
+        ("plain sums of 64-byte blocks", plain_blocks),
+        ("weighted sums of 64-byte blocks", weighted_blocks),
+        ("fast side, sums of columns", fast_side),
+    ];
+    let mut library = board(LIBRARY);
+    let frame = code_check(&library.external);
+    for (name, checksum) in CHECKSUMS {
+        assert_eq!(checksum(&library.external), CodeType::Handler.checksum(&library.external), "{name}");
+    }
+    library.request(library.node, &frame, Lengths::USUAL);
+    assert_eq!(library.response[8], 1, "the library's checksum");
+    let [times @ .., in_library] = time_rounds::<5>(rounds, |program, calls| match CHECKSUMS.get(program) {
+        Some((_, checksum)) => time(calls, || {
+            black_box(checksum(black_box(&library.external)));
+        }),
+        None => time_request(&mut library, &frame, calls),
+    });
+    println!("\nchecksum of the same 16,384 bytes; ratio = time / time byte by byte, median of {rounds} rounds");
+    let names = CHECKSUMS.map(|(name, _)| name);
+    let rows = names.into_iter().zip(times.iter()).chain([("library, a whole code check", &in_library)]);
+    for (name, time) in rows {
+        println!("{name:<34} {:>10.1} ns   ratio {:>6.2}", median(time.clone()), ratio(time, &times[0]));
+    }
 }
 
 fn main() {
@@ -198,4 +287,5 @@ fn main() {
     let sides = [LIBRARY, FAST];
     compare("tick", rounds, |side, calls| time_tick(sides[side], node, calls));
     compare("tick in place", rounds, |side, calls| time_tick_in_place(sides[side], node, calls));
+    compare_checksums(rounds);
 }
