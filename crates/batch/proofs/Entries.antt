@@ -2,13 +2,15 @@
 use mathlib.Core.Path.{_≡_, refl, sym, ap, subst, _∙_}
 use mathlib.Core.List.{List}
 use mathlib.Core.Bool.{Bool, true, false, cond, and-false}
-use Prim.Native.Nat.{ℕ, _≤_, _<_}
+use Prim.Native.Nat.{ℕ, _+_, _-_, _≤_, _<_}
 use native.Mathlib.Omega.{arith}
 use borrow.Author.Tests.{lt-ltb, le-ltb, eq-eqb, ne-eqb, ltb-false, ltb-true, eqb-true, eqb-false}
-use lib.ListN.{length, getD}
+use lib.ListN.{length, getD, drop, length-drop}
 use lib.Dec.{ltb, eqb}
 use Rattle.dpa.specs.Number.{wordAt}
+use Rattle.dpa.specs.Lists.{slice}
 use Rattle.dpa.proofs.Bool.{and-left, and-right, by-cond}
+use Rattle.dpa.proofs.Lists.{slice-to-end}
 use Rattle.batch.specs.declared.entry.NextEntry.{NextEntry}
 use Rattle.batch.specs.declared.entry.NextEntry.the-variants.{Entry, Fault}
 use Rattle.batch.specs.Batch.{entryHeadSize, closingZero, atEnd, shortReason, pastEndReason, unclosedReason, trailingReason, nextEntry, FaultAt, short, pastEnd, unclosed, trailing}
@@ -106,3 +108,11 @@ module _ (s : List ℕ) where
   -- an entry is not the end
   pub entry-not-at-end : {l p c h : ℕ} → nextEntry s ≡ Entry l p c h → atEnd s ≡ false
   entry-not-at-end e = let z = entry-sized e in not-at-end s (omega arith)
+
+-- an entry at a place of a list lies in the list
+pub entry-sized-at : (s : List ℕ) (at : ℕ) {l p c h : ℕ} → at ≤ length s → nextEntry (slice s at (length s - at)) ≡ Entry l p c h
+    → (entryHeadSize ≤ l) × (at + l ≤ length s)
+entry-sized-at s at k e =
+    let z = entry-sized (drop at s) (ap nextEntry (sym (slice-to-end at s)) ∙ e) in
+    let n : length (drop at s) ≡ length s - at = length-drop at s in
+    (z .0, omega arith)

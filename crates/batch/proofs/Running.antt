@@ -2,8 +2,10 @@
 use mathlib.Core.Path.{_≡_, refl, sym, ap, _∙_}
 use mathlib.Core.List.{List, [], _∷_, _++_}
 use mathlib.Core.Bool.{true}
-use Prim.Native.Nat.{ℕ, suc, _-_}
+use Prim.Native.Nat.{ℕ, suc, _+_, _-_}
+use native.Mathlib.Omega.{arith}
 use lib.ListN.{length, drop}
+use lib.Seq.{drop-drop}
 use Rattle.dpa.specs.Lists.{slice}
 use Rattle.dpa.proofs.Bool.{by-test}
 use Rattle.dpa.proofs.Lists.{slice-to-end}
@@ -36,6 +38,23 @@ module _ {S : Type 0} (f : Item → S → S) (s : List ℕ) (st : S) where
       ∙ ap (runItems f ((reading (drop l s)) .items)) d
       ∙ sym (ap (λ (x : Reading). runItems f (x .items) st) (reading-entry s e))
 
+-- the same from a place of a list on
+module _ {S : Type 0} (f : Item → S → S) (s : List ℕ) (at : ℕ) (st : S) where
+  -- at a fault no entry runs
+  pub items-fault-at : {k a : ℕ} → nextEntry (slice s at (length s - at)) ≡ Fault k a → st ≡ runItems f ((reading (drop at s)) .items) st
+  items-fault-at e = items-fault f (drop at s) st (ap nextEntry (sym (slice-to-end at s)) ∙ e)
+
+  -- the entry at the place runs, then the rest of the list
+  pub items-entry-at : {l p c h : ℕ} → nextEntry (slice s at (length s - at)) ≡ Entry l p c h
+      → runItems f ((reading (drop (at + l) s)) .items) (f (item p c h (slice s (at + entryHeadSize) ((at + l) - (at + entryHeadSize)))) st)
+      ≡ runItems f ((reading (drop at s)) .items) st
+  items-entry-at {l} {p} {c} {h} e =
+      let d : (at + l) - (at + entryHeadSize) ≡ l - entryHeadSize = omega arith in
+      let i : slice s (at + entryHeadSize) ((at + l) - (at + entryHeadSize)) ≡ slice (drop at s) entryHeadSize (l - entryHeadSize) = rw (d, drop-drop) refl in
+      let next : S = f (item p c h (slice s (at + entryHeadSize) ((at + l) - (at + entryHeadSize)))) st in
+      ap (λ (x : List ℕ). runItems f ((reading x) .items) next) (sym (drop-drop l at s) ∙ sym (slice-to-end l (drop at s)))
+      ∙ items-entry f (drop at s) st (ap nextEntry (sym (slice-to-end at s)) ∙ e) (ap (λ (x : List ℕ). f (item p c h x) st) i) refl
+
 module _ {S : Type 0} (f : Item → S → S) where
   -- a property that every entry keeps is kept by a list of entries
   pub items-keep : (P : S → Type 0) → ((i : Item) (st : S) → P st → P (f i st)) → (is : List Item) (st : S) → P st → P (runItems f is st)
@@ -62,3 +81,12 @@ module _ {S : Type 0} (f : Item → S → S) where
     unfolding errorsOf
     errors-length [] st = refl
     errors-length (i ∷ is) st = ap suc (errors-length is (f i st))
+
+-- Entries and a part of the state that each entry changes by itself; K is a property that every entry keeps.
+module _ {S T : Type 0} (f : Item → S → S) (g : Item → T → T) (part : S → T) (K : S → Type 0)
+    (keeps : (i : Item) (st : S) → K st → K (f i st)) (each : (i : Item) (st : S) → K st → part (f i st) ≡ g i (part st)) where
+  -- a list of entries changes that part by itself too
+  pub items-part : (is : List Item) (st : S) → K st → part (runItems f is st) ≡ runItems g is (part st)
+  unfolding runItems
+  items-part [] st k = refl
+  items-part (i ∷ is) st k = items-part is (f i st) (keeps i st k) ∙ ap (runItems g is) (each i st k)

@@ -1,5 +1,5 @@
 -- Laws of tests and of choices by a test.
-use mathlib.Core.Path.{_≡_, refl, sym}
+use mathlib.Core.Path.{_≡_, refl, sym, ap, _∙_}
 use mathlib.Core.Bool.{Bool, true, false, cond, _&&_, Bool·beq}
 use Prim.Native.Nat.{ℕ, zero, suc, _+_, _<_}
 use native.Mathlib.Omega.{arith}
@@ -70,6 +70,24 @@ all-below-intro (suc n) f h = both (all-below-intro n f (λ k l. h k (omega arit
 last-or : (n k : ℕ) (f : ℕ → Bool) (b : Bool) → eqb k n ≡ b → k < suc n → f n ≡ true → (k < n → f k ≡ true) → f k ≡ true
 last-or n k f true e l p h = rw (eqb-true k n e) p
 last-or n k f false e l p h = h (omega (arith, eqb-false k n e))
+
+-- two tests over all numbers below n are one
+pub all-below-both : (n : ℕ) (f g : ℕ → Bool) → (allBelow n f && allBelow n g) ≡ allBelow n (λ k. f k && g k)
+unfolding allBelow
+all-below-both zero f g = refl
+all-below-both (suc n) f g = exchange (allBelow n f) (f n) (allBelow n g) (g n) ∙ ap (λ (b : Bool). b && (f n && g n)) (all-below-both n f g)
+  where
+    exchange : (a b c d : Bool) → ((a && b) && (c && d)) ≡ ((a && c) && (b && d))
+    exchange true true c d = refl
+    exchange true false true d = refl
+    exchange true false false d = refl
+    exchange false b c d = refl
+
+-- tests that agree on each number agree on all numbers below n
+pub all-below-same : (n : ℕ) (f g : ℕ → Bool) → ((k : ℕ) → f k ≡ g k) → allBelow n f ≡ allBelow n g
+unfolding allBelow
+all-below-same zero f g h = refl
+all-below-same (suc n) f g h = rw (all-below-same n f g h, h n)
 
 -- a true test over all numbers below n holds for each of them
 pub all-below-elim : (n : ℕ) (f : ℕ → Bool) → allBelow n f ≡ true → (k : ℕ) → k < n → f k ≡ true

@@ -7,17 +7,18 @@ use native.Mathlib.Omega.{arith}
 use lib.Dec.{ltb, eqb}
 use lib.ListN.{length, take, drop}
 use borrow.Rule.Slice.PartMut.{midOf, putMid, put-same}
-use borrow.Author.Tests.{eq-eqb, ne-eqb, eqb-true, ltb-false}
+use borrow.Author.Tests.{eq-eqb, ne-eqb, eqb-true, eqb-false, ltb-false}
 use Rattle.dpa.specs.declared.frame.Frame.{Frame}
 use Rattle.dpa.specs.declared.settings.Settings.{Settings}
 use Rattle.dpa.specs.Lists.{overwriteFront}
 use Rattle.dpa.specs.Frame.{headerSize, longestFrame, responseHeaderSize, longestResponse, broadcastNadr, headerOf, frameFits, responseHeader}
-use Rattle.dpa.proofs.Bool.{by-cond, then-taken, else-taken}
+use Rattle.dpa.proofs.Bool.{by-cond, by-test, then-taken, else-taken}
 use Rattle.dpa.proofs.Headers.{fits-sizes}
 use Rattle.dpa.proofs.Lists.{slice-to-end, tail-borrowed, tail-returned, overwrite-append}
 use Rattle.memory.specs.declared.block.Memory.the-variants.{Eeprom, External}
 use Rattle.memory.specs.Block.{sizeOf}
 use Rattle.batch.specs.Batch.{Item}
+use Rattle.lights.specs.declared.lamp.Lamp.{Lamp}
 use Rattle.node.specs.declared.record.Node.{Node}
 use Rattle.node.specs.declared.record.ReadOnly.{ReadOnly}
 use Rattle.handler.specs.declared.reply.RequestReply.{RequestReply}
@@ -25,7 +26,7 @@ use Rattle.handler.specs.declared.answer.Handled.{Handled}
 use Rattle.handler.specs.declared.answer.RequestAnswer.{RequestAnswer}
 use Rattle.node.specs.Node.{nodeOk}
 use Rattle.handler.specs.Request.{State, state, SoundState, Outcome, headerItem, frameItem, execute, CallResult, unhandledResult, unansweredResult, responseResult, unicastResult, handleFrame, requestRefusal, callRefusal, handleRequest}
-use Rattle.handler.specs.Seen.{SeenOutcome, outcomeSeen, outcomeInBuffer, handledReply, withResponseHeader, callResult, callResultFromParts}
+use Rattle.handler.specs.Seen.{stateFromParts, Memories, memories, memoriesOf, succeeded, SeenOutcome, outcomeSeen, outcomeInBuffer, handledReply, withResponseHeader, SeenHandled, handledSeen, handledOf, handledBroadcast, handledUnicast, addressedResult, handledAddressed, callResult}
 
 -- the request that the code reads from a frame
 pub frame-item-read : (f : List ℕ) {h : Frame} → h ≡ headerOf f → headerItem h (take (length f - headerSize) (drop headerSize f)) ≡ frameItem f
@@ -39,17 +40,35 @@ module _ (f : List ℕ) (st : State) (o : List ℕ) where
   unfolding handleFrame
   frame-broadcast e = rw (eq-eqb (headerOf f .nadr) broadcastNadr e)
 
-  module _ (n : headerOf f .nadr ≡ broadcastNadr → ⊥) where
-    -- a frame for this node
-    pub frame-unicast : headerOf f .nadr ≡ st .node .settings .address
-        → handleFrame f st o ≡ unicastResult (st .node .settings) (frameItem f) (execute (frameItem f) st) o
-    unfolding handleFrame
-    frame-unicast e = rw (ne-eqb (headerOf f .nadr) broadcastNadr n, eq-eqb (headerOf f .nadr) (st .node .settings .address) e)
+  -- a frame for this node
+  pub frame-unicast : (headerOf f .nadr ≡ broadcastNadr → ⊥) → headerOf f .nadr ≡ st .node .settings .address
+      → handleFrame f st o ≡ unicastResult (st .node .settings) (frameItem f) (execute (frameItem f) st) o
+  unfolding handleFrame
+  frame-unicast n e = rw (ne-eqb (headerOf f .nadr) broadcastNadr n, eq-eqb (headerOf f .nadr) (st .node .settings .address) e)
 
-    -- a frame for another node
-    pub frame-other : (headerOf f .nadr ≡ st .node .settings .address → ⊥) → handleFrame f st o ≡ unhandledResult st 0 o
-    unfolding handleFrame
-    frame-other e = rw (ne-eqb (headerOf f .nadr) broadcastNadr n, ne-eqb (headerOf f .nadr) (st .node .settings .address) e)
+  -- a frame for all nodes or for this one
+  pub frame-addressed : (eqb (headerOf f .nadr) broadcastNadr || eqb (headerOf f .nadr) (st .node .settings .address)) ≡ true
+      → handleFrame f st o ≡ addressedResult (st .node .settings) (headerOf f) (frameItem f) (execute (frameItem f) st) o
+  frame-addressed e =
+      by-test (eqb (headerOf f .nadr) broadcastNadr)
+      (λ a. rw a (frame-broadcast (eqb-true _ _ a)))
+      (λ a. rw a (frame-unicast (eqb-false _ _ a) (eqb-true _ _ (own (eqb (headerOf f .nadr) broadcastNadr) (eqb (headerOf f .nadr) (st .node .settings .address)) a e))))
+    where
+      own : (b c : Bool) → b ≡ false → (b || c) ≡ true → c ≡ true
+      own true c p q = cc
+      own false c p q = q
+
+  -- a frame for another node
+  pub frame-other : (eqb (headerOf f .nadr) broadcastNadr || eqb (headerOf f .nadr) (st .node .settings .address)) ≡ false → handleFrame f st o ≡ unhandledResult st 0 o
+  unfolding handleFrame
+  frame-other e =
+      by-test (eqb (headerOf f .nadr) broadcastNadr)
+      (λ a. let z : _≡_ {A = ℕ} 0 1 = cc in absurd (omega arith))
+      (λ a. rw (a, other (eqb (headerOf f .nadr) broadcastNadr) (eqb (headerOf f .nadr) (st .node .settings .address)) a e))
+    where
+      other : (b c : Bool) → b ≡ false → (b || c) ≡ false → c ≡ false
+      other true c p q = cc
+      other false c p q = q
 
   -- a refused call changes nothing
   pub call-refused : {k : ℕ} → k ≡ callRefusal f st o → (k ≡ 0 → ⊥) → unhandledResult st k o ≡ handleRequest f st o
@@ -108,15 +127,17 @@ accepted-sound n e x f r z =
     let k = not-refused-facts n f (length e) (length x) r z in
     record { node-ok = k .0; eeprom-size = k .4; external-size = k .5 }
 
--- a request to this node reports what executing it reports, answered or not
-pub unicast-report : (s : Settings) (i : Item) (a : Outcome) (o : List ℕ) → unicastResult s i a o .report ≡ a .report
-unicast-report s i a o = by-cond (λ (c : CallResult). c .report ≡ a .report) (a .answered) _ _ (λ _. refl) (λ _. refl)
+-- a request to this node or to all reports what executing it reports, answered or not
+pub addressed-report : (s : Settings) (h : Frame) (i : Item) (a : Outcome) (o : List ℕ) → addressedResult s h i a o .report ≡ a .report
+addressed-report s h i a o =
+    let Same : CallResult → Type 0 = λ (c : CallResult). c .report ≡ a .report in
+    by-cond Same (eqb (h .nadr) broadcastNadr) _ _ (λ _. refl) (λ _. by-cond Same (a .answered) _ _ (λ _. refl) (λ _. refl))
 
 -- ---- as the code shows it
 
 -- equal replies to a handled request show equal results
-pub handled-as : {k : ReadOnly} {g h : Handled} {r e x o : List ℕ} → g ≡ h → callResultFromParts k g r e x o ≡ callResultFromParts k h r e x o
-handled-as {k} {g} {h} {r} {e} {x} {o} q = ap (λ (t : Handled). callResultFromParts k t r e x o) q
+pub handled-same : {g h : Handled} {r e x o : List ℕ} → g ≡ h → handledSeen g r e x o ≡ handledSeen h r e x o
+handled-same {g} {h} {r} {e} {x} {o} q = ap (λ (t : Handled). handledSeen t r e x o) q
 
 -- equal answers show equal results
 pub call-result-as : {r t : RequestAnswer} {e x o : List ℕ} → r ≡ t → callResult r e x o ≡ callResult t e x o
@@ -138,15 +159,14 @@ module _ (k : ReadOnly) (header : Frame) (d : List ℕ) (a : Outcome) (o : List 
   abbrev withHeader : ℕ → List ℕ → List ℕ
   withHeader error m = responseHeader (k .settings) (header .pnum) (header .pcmd) error ++ drop responseHeaderSize (afterHeader m)
 
-  -- the result, from what was seen of the outcome
-  abbrev seenResult : SeenOutcome → CallResult
-  seenResult l =
+  -- the same from what was seen of the outcome
+  abbrev seenHandled : SeenOutcome → SeenHandled
+  seenHandled l =
       record {
+        success = l .answered && eqb (l .error) 0;
         after = l .after;
-        refusal = 0;
         length = cond (l .answered) (responseHeaderSize + l .length) 0;
         report = l .report;
-        addressed = true;
         response = cond (l .answered) (withHeader (l .error) (l .out)) (afterHeader (l .out));
       }
 
@@ -164,30 +184,56 @@ module _ (k : ReadOnly) (header : Frame) (d : List ℕ) (a : Outcome) (o : List 
   nothing-written e = ap (λ (b : List ℕ). afterHeader (overwriteFront b lent)) e ∙ put-same responseHeaderSize (length o - responseHeaderSize) o
 
   by-answer : (b : Bool) → (b ≡ false → a .bytes ≡ [])
-      → _≡_ {A = CallResult} (record {
-        after = a .after;
-        refusal = 0;
+      → _≡_ {A = SeenHandled} (record {
+        success = succeeded a;
+        after = memoriesOf (a .after);
         length = cond b (responseHeaderSize + length (a .bytes)) 0;
         report = a .report;
-        addressed = true;
         response = cond b (withHeader (a .error) (overwriteFront (a .bytes) lent)) (afterHeader (overwriteFront (a .bytes) lent));
-      }) (cond b (responseResult (k .settings) (headerItem header d) a o) (unansweredResult a o))
+      }) (handledOf a (cond b (responseResult (k .settings) (headerItem header d) a o) (unansweredResult a o)))
   by-answer true n = λ j. record {
-    after = a .after;
-    refusal = 0;
+    success = succeeded a;
+    after = memoriesOf (a .after);
     length = responseHeaderSize + length (a .bytes);
     report = a .report;
-    addressed = true;
     response = header-written j;
   }
-  by-answer false n = λ j. record { after = a .after; refusal = 0; length = 0; report = a .report; addressed = true; response = nothing-written (n refl) j }
+  by-answer false n = λ j. record { success = succeeded a; after = memoriesOf (a .after); length = 0; report = a .report; response = nothing-written (n refl) j }
 
   -- so what the code leaves is the result of the request
-  pub unicast-response : {c : RequestReply} {r e x m w : List ℕ} {g : Handled} → outcomeSeen k c r e x m ≡ outcomeInBuffer a lent
+  pub unicast-response : {c : RequestReply} {r e x m w : List ℕ} {g : Handled} → outcomeSeen c r e x m ≡ outcomeInBuffer a lent
       → g ≡ handledReply c → w ≡ withResponseHeader (k .settings) header c (afterHeader m)
-      → callResultFromParts k g r e x w ≡ unicastResult (k .settings) (headerItem header d) a o
+      → handledSeen g r e x w ≡ handledOf a (unicastResult (k .settings) (headerItem header d) a o)
   unicast-response {c} {r} {e} {x} {m} {w} q p u =
-      handled-as p
-      ∙ ap (callResultFromParts k (handledReply c) r e x) u
-      ∙ ap seenResult q
+      handled-same p
+      ∙ ap (handledSeen (handledReply c) r e x) u
+      ∙ ap seenHandled q
       ∙ by-answer (a .answered) no-data
+
+-- a request to all nodes or to this one, by its NADR
+module _ (s : Settings) (h : Frame) (i : Item) (a : Outcome) (o : List ℕ) where
+  pub addressed-broadcast : h .nadr ≡ broadcastNadr → handledBroadcast a o ≡ handledAddressed s h i a o
+  addressed-broadcast e = rw (eq-eqb (h .nadr) broadcastNadr e)
+
+  pub addressed-unicast : (h .nadr ≡ broadcastNadr → ⊥) → handledUnicast s i a o ≡ handledAddressed s h i a o
+  addressed-unicast n = rw (ne-eqb (h .nadr) broadcastNadr n)
+
+-- the result of a call, from the state after the request and what else was seen of it
+abbrev resultWith : State → SeenHandled → CallResult
+resultWith st l = record { after = st; refusal = 0; length = l .length; report = l .report; addressed = true; response = l .response }
+
+-- a state is put together from the settings, the lamps and the memories that belong to it
+pub state-together : (k : ReadOnly) (ls : List Lamp) (ms : Memories) (st : State) → k .settings ≡ st .node .settings → ls ≡ st .node .lamps → ms ≡ memoriesOf st
+    → stateFromParts k ls (ms .ram) (ms .eeprom) (ms .external) ≡ st
+state-together k ls ms st p q m = λ j. stateFromParts (record { settings = p j }) (q j) (m j .ram) (m j .eeprom) (m j .external)
+
+-- with the lamps after it, what was seen of a request is the result of the call
+pub addressed-call : (k : ReadOnly) (h : Frame) (i : Item) (a : Outcome) (o : List ℕ) {g : Handled} {ls : List Lamp} {r e x w : List ℕ}
+    → handledSeen g r e x w ≡ handledOf a (addressedResult (k .settings) h i a o)
+    → k .settings ≡ a .after .node .settings → ls ≡ a .after .node .lamps
+    → resultWith (stateFromParts k ls r e x) (handledSeen g r e x w) ≡ addressedResult (k .settings) h i a o
+addressed-call k h i a o {g} {ls} {r} {e} {x} {w} s p q =
+    ap (λ (st : State). resultWith st (handledSeen g r e x w)) (state-together k ls (memories r e x) (a .after) p q (ap (λ (l : SeenHandled). l .after) s))
+    ∙ ap (resultWith (a .after)) s
+    ∙ by-cond (λ (c : CallResult). resultWith (a .after) (handledOf a c) ≡ c) (eqb (h .nadr) broadcastNadr) _ _ (λ _. refl)
+    (λ _. by-cond (λ (c : CallResult). resultWith (a .after) (handledOf a c) ≡ c) (a .answered) _ _ (λ _. refl) (λ _. refl))

@@ -3,8 +3,12 @@ pub mod BatchEntries
 pub mod Outcomes
 pub mod Calls
 pub mod Soundness
-pub mod Batches
 pub mod Sizes
 pub mod Errors
 pub mod Reports
 pub mod SelectiveBatches
+pub mod Parts
+pub mod Batches
+pub mod Walks
+pub mod WalkStarts
+pub mod LampChanges

@@ -9,7 +9,7 @@ use lib.ListN.{length, drop}
 use borrow.Author.Tests.{eq-eqb, ne-eqb, eqb-true}
 use Rattle.dpa.specs.NodeSet.{nodeSetSize}
 use Rattle.dpa.specs.Pnum.{osPnum}
-use Rattle.dpa.specs.Reply.{Reply, SeenReply, replySeen, replyInBuffer, errorReply}
+use Rattle.dpa.specs.Reply.{Reply, SeenReply, replySeen, replyInBuffer, errorReply, mapState}
 use Rattle.dpa.proofs.Bool.{by-cond}
 use Rattle.checksum.specs.Check.{codeCheck}
 use Rattle.batch.specs.Batch.{Item, reading, listError, reasonOf, placeOf}
@@ -19,11 +19,10 @@ use Rattle.batch.specs.declared.selective.Selection.{Selection}
 use Rattle.batch.specs.Selective.{selectivePdataMin, checkFrom, selectionOf}
 use Rattle.batch.proofs.Faults.{error-sound}
 use Rattle.batch.proofs.Selections.{check-from-front, select-cases}
-use Rattle.node.specs.declared.record.ReadOnly.{ReadOnly}
 use Rattle.handler.specs.declared.reply.Report.{Report}
 use Rattle.handler.specs.declared.reply.RequestReply.{RequestReply}
 use Rattle.handler.specs.Request.{State, peripheralRequest, hwpidMatches, loadReport, faultReport, noReport, Outcome, replyOnly, batchOutcome, brokenOutcome, listRequest, batchRequest, unansweredOutcome, selectionOutcome, selectiveRequest, codeCheckRequest, batchPcmd, codeCheckPcmd, selectivePcmd, osRequest, execute}
-use Rattle.handler.specs.Seen.{outcomeSeen, outcomeInBuffer}
+use Rattle.handler.specs.Seen.{Memories, memoriesOf, outcomeSeen, outcomeInBuffer}
 
 module _ (check : ListCheck) (list : List ℕ) (st : State) where
   -- a list that cannot be read runs nothing, and its fault is reported
@@ -145,15 +144,15 @@ module _ (P : Outcome → Type 0) (st : State) (error : (e : ℕ) → P (replyOn
 -- ---- as the code shows it
 
 -- equal replies show equal outcomes
-pub outcome-as : {k : ReadOnly} {c d : RequestReply} {r e x o : List ℕ} → c ≡ d → outcomeSeen k c r e x o ≡ outcomeSeen k d r e x o
-outcome-as {k} {c} {d} {r} {e} {x} {o} q = ap (λ (t : RequestReply). outcomeSeen k t r e x o) q
+pub outcome-as : {c d : RequestReply} {r e x o : List ℕ} → c ≡ d → outcomeSeen c r e x o ≡ outcomeSeen d r e x o
+outcome-as {c} {d} {r} {e} {x} {o} q = ap (λ (t : RequestReply). outcomeSeen t r e x o) q
 
 -- the reply to a broken list shows its outcome
 pub outcome-broken : (st : State) (o : List ℕ) (x : ListCheck) {e : ℕ} {r : Report} → e ≡ listError x → r ≡ faultReport (reasonOf x) (placeOf x)
-    → record { answered = true; after = st; error = e; length = 0; report = r; out = o } ≡ outcomeInBuffer (brokenOutcome x st) o
+    → record { answered = true; after = memoriesOf st; error = e; length = 0; report = r; out = o } ≡ outcomeInBuffer (brokenOutcome x st) o
 outcome-broken st o x {e} {r} p q =
-    ap (λ (n : ℕ). record { answered = true; after = st; error = n; length = 0; report = r; out = o }) p
-    ∙ ap (λ (t : Report). record { answered = true; after = st; error = listError x; length = 0; report = t; out = o }) q
+    ap (λ (n : ℕ). record { answered = true; after = memoriesOf st; error = n; length = 0; report = r; out = o }) p
+    ∙ ap (λ (t : Report). record { answered = true; after = memoriesOf st; error = listError x; length = 0; report = t; out = o }) q
 
 -- a list that is equal to the one that was checked has the same outcome
 pub list-same : (check : ListCheck) (st : State) (o : List ℕ) {l m : List ℕ} → l ≡ m
@@ -161,10 +160,10 @@ pub list-same : (check : ListCheck) (st : State) (o : List ℕ) {l m : List ℕ}
 list-same check st o q = ap (λ (z : List ℕ). outcomeInBuffer (listRequest check z st) o) q
 
 -- the reply of a peripheral shows its outcome
-pub outcome-reply-only : {st : State} {e n : ℕ} {out : List ℕ} (a : Reply State) (o : List ℕ) → replySeen st e n out ≡ replyInBuffer a o
-    → record { answered = true; after = st; error = e; length = n; report = noReport; out = out } ≡ outcomeInBuffer (replyOnly a) o
+pub outcome-reply-only : {ms : Memories} {e n : ℕ} {out : List ℕ} (a : Reply State) (o : List ℕ) → replySeen ms e n out ≡ replyInBuffer (mapState memoriesOf a) o
+    → record { answered = true; after = ms; error = e; length = n; report = noReport; out = out } ≡ outcomeInBuffer (replyOnly a) o
 outcome-reply-only a o q =
-    ap (λ (l : SeenReply State). record { answered = true; after = l .after; error = l .error; length = l .length; report = noReport; out = l .out }) q
+    ap (λ (l : SeenReply Memories). record { answered = true; after = l .after; error = l .error; length = l .length; report = noReport; out = l .out }) q
 
 -- equal outcomes are equal in the buffer
 pub in-buffer : (o : List ℕ) {a b : Outcome} → a ≡ b → outcomeInBuffer b o ≡ outcomeInBuffer a o
@@ -172,7 +171,7 @@ in-buffer o q = ap (λ (x : Outcome). outcomeInBuffer x o) (sym q)
 
 -- the reply of the code check shows its outcome
 pub outcome-check : (st : State) (d : List ℕ) {b : Bool} {e n : ℕ} {out : List ℕ} (o : List ℕ) → replySeen b e n out ≡ replyInBuffer (codeCheck (st .external) d) o
-    → record { answered = true; after = st; error = e; length = n; report = loadReport b; out = out } ≡ outcomeInBuffer (codeCheckRequest d st) o
+    → record { answered = true; after = memoriesOf st; error = e; length = n; report = loadReport b; out = out } ≡ outcomeInBuffer (codeCheckRequest d st) o
 unfolding codeCheckRequest
 outcome-check st d o q =
-    ap (λ (l : SeenReply Bool). record { answered = true; after = st; error = l .error; length = l .length; report = loadReport (l .after); out = l .out }) q
+    ap (λ (l : SeenReply Bool). record { answered = true; after = memoriesOf st; error = l .error; length = l .length; report = loadReport (l .after); out = l .out }) q

@@ -5,17 +5,15 @@ use Prim.Native.Nat.{ℕ}
 use lib.Dec.{eqb}
 use borrow.Author.Tests.{ne-eqb}
 use Rattle.dpa.specs.Pnum.{lightsPnum}
-use Rattle.dpa.specs.Reply.{Reply, replySeen, replyInBuffer, errorReply}
+use Rattle.dpa.specs.Reply.{Reply, replySeen, replyInBuffer, errorReply, mapState}
 use Rattle.dpa.proofs.Bool.{by-cond}
 use Rattle.dpa.proofs.Replies.{reply-mapped}
 use Rattle.memory.specs.declared.block.Memory.{Memory}
 use Rattle.memory.specs.declared.block.Memory.the-variants.{Eeprom, Ram, External}
 use Rattle.memory.specs.Block.{memoryPnum}
 use Rattle.memory.specs.Request.{memoryRequest}
-use Rattle.lights.specs.declared.request.LampsReply.{LampsReply}
-use Rattle.node.specs.declared.record.ReadOnly.{ReadOnly}
 use Rattle.handler.specs.Request.{State, memoryOf, withMemory, memoryRequestOnState, lightsRequestOnState, peripheralRequest}
-use Rattle.handler.specs.Seen.{stateFromParts}
+use Rattle.handler.specs.Seen.{memoriesOf}
 
 module _ (pnum pcmd : ℕ) (d : List ℕ) (st : State) where
   -- the PNUM of a memory
@@ -54,15 +52,10 @@ memory-same Memory.External st = refl
 
 -- ---- as the code shows it
 
--- equal replies are seen equal
-pub reply-as : {k : ReadOnly} {a b : LampsReply} {r e x o : List ℕ} → a ≡ b
-    → replySeen (stateFromParts k (a .lamps) r e x) (a .error) (a .length) o ≡ replySeen (stateFromParts k (b .lamps) r e x) (b .error) (b .length) o
-reply-as {k} {a} {b} {r} {e} {x} {o} q = ap (λ (t : LampsReply). replySeen (stateFromParts k (t .lamps) r e x) (t .error) (t .length) o) q
-
 -- the reply of a memory is the reply of the peripheral with its PNUM
 pub memory-seen : (m : Memory) (pnum pcmd : ℕ) (d : List ℕ) (st : State) (o : List ℕ) {bytes out : List ℕ} {e n : ℕ} → pnum ≡ memoryPnum m
     → replySeen bytes e n out ≡ replyInBuffer (memoryRequest m pcmd d (memoryOf m st)) o
-    → replySeen (withMemory m st bytes) e n out ≡ replyInBuffer (peripheralRequest pnum pcmd d st) o
+    → replySeen (memoriesOf (withMemory m st bytes)) e n out ≡ replyInBuffer (mapState memoriesOf (peripheralRequest pnum pcmd d st)) o
 memory-seen m pnum pcmd d st o p q =
-    reply-mapped (withMemory m st) (memoryRequest m pcmd d (memoryOf m st)) o q
-    ∙ ap (λ (x : Reply State). replyInBuffer x o) (sym (peripheral-memory pnum pcmd d st m p))
+    reply-mapped (λ (b : List ℕ). memoriesOf (withMemory m st b)) (memoryRequest m pcmd d (memoryOf m st)) o q
+    ∙ ap (λ (x : Reply State). replyInBuffer (mapState memoriesOf x) o) (sym (peripheral-memory pnum pcmd d st m p))

@@ -1,6 +1,7 @@
 // What `handle_request` returns.
 use crate::reply::Report;
 use crate::reply::RequestReply;
+use dpa::error;
 use dpa::refusal;
 use dpa::sizes::RAM_SIZE;
 use lights::lamp::LAMPS;
@@ -29,23 +30,22 @@ pub struct RequestAnswer {
     pub node: Node,
 }
 
-// A request that was executed: its report, the length of the response, and the lamps after it.
+// A request that was executed: its report, the length of the response, and whether it was answered without an error.
 pub struct Handled {
     pub report: Report,
     pub length: usize,
-    pub lamps: [Lamp; LAMPS],
+    pub success: bool,
 }
 
-// Nothing is sent: a broadcast, or a request that is not answered.
-pub fn without_response(done: RequestReply) -> Handled
-    ensures { λ r. ⌜ r ≡ handledAs done 0 ⌝ }
+// An executed request with this length of the response.
+pub fn handled_as(done: RequestReply, length: usize) -> Handled
+    ensures { λ r. ⌜ r ≡ handledAs done length ⌝ }
 {
     let report = done.report;
-    let lamps = done.lamps;
     Handled {
         report,
-        length: 0,
-        lamps,
+        length,
+        success: done.answered & (done.error == error::NONE),
     }
 }
 
@@ -79,11 +79,15 @@ pub fn answer_unhandled(node: Node, refusal: u8) -> RequestAnswer
 }
 
 // Executed: the node is put together again from its parts.
-pub fn answer_handled(fixed: ReadOnly, done: Handled, ram: [u8; RAM_SIZE]) -> RequestAnswer
+pub fn answer_handled(
+    fixed: ReadOnly,
+    done: Handled,
+    lamps: [Lamp; LAMPS],
+    ram: [u8; RAM_SIZE],
+) -> RequestAnswer
     requires { ⌜ done .report .place ≤ pdataMax ⌝ }
-    ensures { λ r. ⌜ r ≡ requestAnswer 0 (done .length) (done .report) true (nodeFromParts fixed (done .lamps) ram) ⌝ }
+    ensures { λ r. ⌜ r ≡ requestAnswer 0 (done .length) (done .report) true (nodeFromParts fixed lamps ram) ⌝ }
 {
-    let lamps = done.lamps;
     let node = node_from_parts(fixed, lamps, ram);
     request_answer(refusal::NONE, done.length, done.report, true, node)
 }

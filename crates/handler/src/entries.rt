@@ -1,23 +1,46 @@
-// Runs the entries of a batch in order.
+// Runs the entries of a batch that are for a memory. Entries get no answer, so only writes matter.
 use crate::hwpid::hwpid_matches;
-use crate::peripheral::peripheral_request;
 use batch::entry::HEAD_SIZE;
 use batch::entry::NextEntry;
 use batch::entry::at_end;
 use batch::entry::next_entry;
-use dpa::frame::Frame;
-use lights::lamp::LAMPS;
-use lights::lamp::Lamp;
-use node::record::ReadOnly;
+use dpa::pnum;
+use dpa::settings::Settings;
+use memory::block::Memory;
 ghost use mathlib.Core.Path.{_≡_};
-ghost use Rattle.batch.specs.Batch.{item, reading, runItems};
-ghost use Rattle.handler.specs.Request.{SoundState, entryAfter};
-ghost use Rattle.handler.specs.Seen.{stateFromParts};
+ghost use Rattle.batch.specs.Batch.{item};
+ghost use Rattle.handler.specs.Seen.{memories, Sized, peripheralMemories, entryMemories, listMemories};
 
-// Runs one entry. Entries get no response, so the data goes to a scratch buffer.
+// Executes a request to the memory of this PNUM, without an answer. Any other PNUM leaves the memories.
+fn change_memory(
+    pnum: u8,
+    pcmd: u8,
+    pdata: &[u8],
+    ram: &mut [u8],
+    eeprom: &mut [u8],
+    external: &mut [u8],
+)
+    requires { ⌜ Sized (memories (now ram) (now eeprom) (now external)) ⌝ }
+    ensures { λ r. ⌜ memories (now (ram .exit)) (now (eeprom .exit)) (now (external .exit))
+        ≡ peripheralMemories pnum pcmd (now (pdata .entry)) (memories (now (ram .entry)) (now (eeprom .entry)) (now (external .entry))) ⌝ }
+{
+    if pnum == pnum::EEPROM {
+        memory::request::change(Memory::Eeprom, eeprom, pcmd, pdata);
+        return;
+    }
+    if pnum == pnum::EXTERNAL {
+        memory::request::change(Memory::External, external, pcmd, pdata);
+        return;
+    }
+    if pnum == pnum::RAM {
+        memory::request::change(Memory::Ram, ram, pcmd, pdata);
+        return;
+    }
+}
+
+// Runs one entry.
 fn run_entry(
-    fixed: ReadOnly,
-    lamps: [Lamp; LAMPS],
+    settings: Settings,
     pnum: u8,
     pcmd: u8,
     hwpid: u16,
@@ -25,41 +48,28 @@ fn run_entry(
     ram: &mut [u8],
     eeprom: &mut [u8],
     external: &mut [u8],
-) -> [Lamp; LAMPS]
-    requires { ⌜ SoundState (stateFromParts fixed lamps (now ram) (now eeprom) (now external)) ⌝ }
-    ensures { λ r. ⌜ stateFromParts fixed r (now (ram .exit)) (now (eeprom .exit)) (now (external .exit))
-        ≡ entryAfter (item pnum pcmd hwpid (now (pdata .entry))) (stateFromParts fixed lamps (now (ram .entry)) (now (eeprom .entry)) (now (external .entry))) ⌝ }
+)
+    requires { ⌜ Sized (memories (now ram) (now eeprom) (now external)) ⌝ }
+    ensures { λ r. ⌜ memories (now (ram .exit)) (now (eeprom .exit)) (now (external .exit))
+        ≡ entryMemories settings (item pnum pcmd hwpid (now (pdata .entry))) (memories (now (ram .entry)) (now (eeprom .entry)) (now (external .entry))) ⌝ }
 {
-    if hwpid_matches(fixed.settings, hwpid) {
-        let mut scratch = [0u8; Frame::PDATA_MAX];
-        let reply = peripheral_request(
-            fixed,
-            lamps,
-            pnum,
-            pcmd,
-            pdata,
-            ram,
-            eeprom,
-            external,
-            &mut scratch,
-        );
-        return reply.lamps;
+    if !hwpid_matches(settings, hwpid) {
+        return;
     }
-    lamps
+    change_memory(pnum, pcmd, pdata, ram, eeprom, external);
 }
 
-// Runs the entries of a list, each on the lamps and memories that the previous one left.
-pub fn run_list(
-    fixed: ReadOnly,
-    mut lamps: [Lamp; LAMPS],
+// Runs the entries of a list, each on the memories that the previous one left.
+pub fn run_memories(
+    settings: Settings,
     list: &[u8],
     ram: &mut [u8],
     eeprom: &mut [u8],
     external: &mut [u8],
-) -> [Lamp; LAMPS]
-    requires { ⌜ SoundState (stateFromParts fixed lamps (now ram) (now eeprom) (now external)) ⌝ }
-    ensures { λ r. ⌜ stateFromParts fixed r (now (ram .exit)) (now (eeprom .exit)) (now (external .exit))
-        ≡ runItems entryAfter (reading (now (list .entry)) .items) (stateFromParts fixed lamps (now (ram .entry)) (now (eeprom .entry)) (now (external .entry))) ⌝ }
+)
+    requires { ⌜ Sized (memories (now ram) (now eeprom) (now external)) ⌝ }
+    ensures { λ r. ⌜ memories (now (ram .exit)) (now (eeprom .exit)) (now (external .exit))
+        ≡ listMemories settings (now (list .entry)) (memories (now (ram .entry)) (now (eeprom .entry)) (now (external .entry))) ⌝ }
 {
     let mut at: usize = 0;
     while !at_end(&list[at..]) {
@@ -71,11 +81,10 @@ pub fn run_list(
         } = next_entry(&list[at..])
         else {
             // Not reached in a batch, whose list is checked before it runs.
-            return lamps;
+            return;
         };
-        let next = run_entry(
-            fixed,
-            lamps,
+        run_entry(
+            settings,
             pnum,
             pcmd,
             hwpid,
@@ -84,8 +93,6 @@ pub fn run_list(
             eeprom,
             external,
         );
-        lamps = next;
         at = at + len;
     }
-    lamps
 }

@@ -2,6 +2,7 @@
 pub mod answer;
 pub mod entries;
 pub mod hwpid;
+pub mod lamps;
 pub mod os;
 pub mod peripheral;
 pub mod reply;

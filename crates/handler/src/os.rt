@@ -1,5 +1,5 @@
 // OS 02: batch, code check and selective batch.
-use crate::entries::run_list;
+use crate::entries::run_memories;
 use crate::reply::Report;
 use crate::reply::RequestReply;
 use crate::reply::list_report;
@@ -13,16 +13,15 @@ use batch::selective::select;
 use checksum::check::code_check;
 use dpa::error;
 use dpa::node_set::NODE_SET_SIZE;
-use lights::lamp::LAMPS;
-use lights::lamp::Lamp;
 use node::record::ReadOnly;
 ghost use mathlib.Core.Path.{_≡_};
 ghost use mathlib.Core.List.{List};
 ghost use Prim.Native.Nat.{ℕ, _≤_};
 ghost use lib.ListN.{length};
 ghost use Rattle.dpa.specs.Frame.{pdataMax};
-ghost use Rattle.handler.specs.Request.{SoundState, listRequest, batchRequest, selectiveRequest, osRequest};
-ghost use Rattle.handler.specs.Seen.{stateFromParts, outcomeSeen, outcomeInBuffer};
+ghost use Rattle.lights.specs.declared.lamp.Lamp.{Lamp};
+ghost use Rattle.handler.specs.Request.{listRequest, batchRequest, selectiveRequest, osRequest};
+ghost use Rattle.handler.specs.Seen.{stateFromParts, memories, Sized, outcomeSeen, outcomeInBuffer};
 
 // PCMDs.
 pub const BATCH: u8 = 0x05;
@@ -31,19 +30,19 @@ pub const CODE_CHECK: u8 = 0x0A;
 
 pub const SELECTIVE_BATCH: u8 = 0x0B;
 
-// Runs a list that was checked to its end; a broken list changes nothing.
+// Runs the entries for the memories in a list that was checked to its end; a broken list changes nothing. The lamps are changed at the
+// end of a request, by `lamps_after`.
 fn list_request(
     fixed: ReadOnly,
-    lamps: [Lamp; LAMPS],
     check: ListCheck,
     list: &[u8],
     ram: &mut [u8],
     eeprom: &mut [u8],
     external: &mut [u8],
 ) -> RequestReply
-    requires { ⌜ SoundState (stateFromParts fixed lamps (now ram) (now eeprom) (now external)) ⌝ }
-    ensures { λ r. ⌜ ((o : List ℕ) → outcomeSeen fixed r (now (ram .exit)) (now (eeprom .exit)) (now (external .exit)) o
-        ≡ outcomeInBuffer (listRequest check (now (list .entry)) (stateFromParts fixed lamps (now (ram .entry)) (now (eeprom .entry)) (now (external .entry)))) o) ⌝ }
+    requires { ⌜ Sized (memories (now ram) (now eeprom) (now external)) ⌝ }
+    ensures { λ r. ⌜ ((ls : List Lamp) (o : List ℕ) → outcomeSeen r (now (ram .exit)) (now (eeprom .exit)) (now (external .exit)) o
+        ≡ outcomeInBuffer (listRequest check (now (list .entry)) (stateFromParts fixed ls (now (ram .entry)) (now (eeprom .entry)) (now (external .entry)))) o) ⌝ }
 {
     let ListCheck::Sound = check else {
         return RequestReply {
@@ -51,53 +50,49 @@ fn list_request(
             error: list_error(check),
             report: list_report(check),
             length: 0,
-            lamps,
         };
     };
-    let after = run_list(fixed, lamps, list, ram, eeprom, external);
-    without_data(after, error::NONE)
+    run_memories(fixed.settings, list, ram, eeprom, external);
+    without_data(error::NONE)
 }
 
 // Checks the whole list before the first entry runs.
 fn batch_request(
     fixed: ReadOnly,
-    lamps: [Lamp; LAMPS],
     pdata: &[u8],
     ram: &mut [u8],
     eeprom: &mut [u8],
     external: &mut [u8],
 ) -> RequestReply
-    requires { ⌜ SoundState (stateFromParts fixed lamps (now ram) (now eeprom) (now external)) ⌝ }
-    ensures { λ r. ⌜ ((o : List ℕ) → outcomeSeen fixed r (now (ram .exit)) (now (eeprom .exit)) (now (external .exit)) o
-        ≡ outcomeInBuffer (batchRequest (now (pdata .entry)) (stateFromParts fixed lamps (now (ram .entry)) (now (eeprom .entry)) (now (external .entry)))) o) ⌝ }
+    requires { ⌜ Sized (memories (now ram) (now eeprom) (now external)) ⌝ }
+    ensures { λ r. ⌜ ((ls : List Lamp) (o : List ℕ) → outcomeSeen r (now (ram .exit)) (now (eeprom .exit)) (now (external .exit)) o
+        ≡ outcomeInBuffer (batchRequest (now (pdata .entry)) (stateFromParts fixed ls (now (ram .entry)) (now (eeprom .entry)) (now (external .entry)))) o) ⌝ }
 {
     if pdata.len() == 0 {
-        return without_data(lamps, error::DATA_LEN);
+        return without_data(error::DATA_LEN);
     }
     let check = check_list(pdata);
-    list_request(fixed, lamps, check, pdata, ram, eeprom, external)
+    list_request(fixed, check, pdata, ram, eeprom, external)
 }
 
 // PData that is too short is an error for every node. Then the list runs if the set names this node; if not, there is no answer, not
 // even to a broken list.
 fn selective_request(
     fixed: ReadOnly,
-    lamps: [Lamp; LAMPS],
     pdata: &[u8],
     ram: &mut [u8],
     eeprom: &mut [u8],
     external: &mut [u8],
 ) -> RequestReply
-    requires { ⌜ SoundState (stateFromParts fixed lamps (now ram) (now eeprom) (now external)) ⌝ }
-    ensures { λ r. ⌜ ((o : List ℕ) → outcomeSeen fixed r (now (ram .exit)) (now (eeprom .exit)) (now (external .exit)) o
-        ≡ outcomeInBuffer (selectiveRequest (now (pdata .entry)) (stateFromParts fixed lamps (now (ram .entry)) (now (eeprom .entry)) (now (external .entry)))) o) ⌝ }
+    requires { ⌜ Sized (memories (now ram) (now eeprom) (now external)) ⌝ }
+    ensures { λ r. ⌜ ((ls : List Lamp) (o : List ℕ) → outcomeSeen r (now (ram .exit)) (now (eeprom .exit)) (now (external .exit)) o
+        ≡ outcomeInBuffer (selectiveRequest (now (pdata .entry)) (stateFromParts fixed ls (now (ram .entry)) (now (eeprom .entry)) (now (external .entry)))) o) ⌝ }
 {
     match select(pdata, fixed.settings.address) {
-        Selection::TooShort => without_data(lamps, error::DATA_LEN),
-        Selection::NotSelected => unanswered(lamps),
+        Selection::TooShort => without_data(error::DATA_LEN),
+        Selection::NotSelected => unanswered(),
         Selection::Selected { check } => list_request(
             fixed,
-            lamps,
             check,
             &pdata[NODE_SET_SIZE..],
             ram,
@@ -110,7 +105,6 @@ fn selective_request(
 // Executes an OS request.
 pub fn os_request(
     fixed: ReadOnly,
-    lamps: [Lamp; LAMPS],
     pcmd: u8,
     pdata: &[u8],
     ram: &mut [u8],
@@ -118,12 +112,12 @@ pub fn os_request(
     external: &mut [u8],
     out: &mut [u8],
 ) -> RequestReply
-    requires { ⌜ SoundState (stateFromParts fixed lamps (now ram) (now eeprom) (now external)) × (pdataMax ≤ length (now out)) ⌝ }
-    ensures { λ r. ⌜ outcomeSeen fixed r (now (ram .exit)) (now (eeprom .exit)) (now (external .exit)) (now (out .exit))
-        ≡ outcomeInBuffer (osRequest pcmd (now (pdata .entry)) (stateFromParts fixed lamps (now (ram .entry)) (now (eeprom .entry)) (now (external .entry)))) (now (out .entry)) ⌝ }
+    requires { ⌜ Sized (memories (now ram) (now eeprom) (now external)) × (pdataMax ≤ length (now out)) ⌝ }
+    ensures { λ r. ⌜ ((ls : List Lamp) → outcomeSeen r (now (ram .exit)) (now (eeprom .exit)) (now (external .exit)) (now (out .exit))
+        ≡ outcomeInBuffer (osRequest pcmd (now (pdata .entry)) (stateFromParts fixed ls (now (ram .entry)) (now (eeprom .entry)) (now (external .entry)))) (now (out .entry))) ⌝ }
 {
     if pcmd == BATCH {
-        return batch_request(fixed, lamps, pdata, ram, eeprom, external);
+        return batch_request(fixed, pdata, ram, eeprom, external);
     }
     if pcmd == CODE_CHECK {
         let checked = code_check(external, pdata, out);
@@ -134,11 +128,10 @@ pub fn os_request(
             error: checked.error,
             report,
             length: checked.length,
-            lamps,
         };
     }
     if pcmd == SELECTIVE_BATCH {
-        return selective_request(fixed, lamps, pdata, ram, eeprom, external);
+        return selective_request(fixed, pdata, ram, eeprom, external);
     }
-    without_data(lamps, error::PCMD)
+    without_data(error::PCMD)
 }

@@ -3,9 +3,6 @@ use batch::fault;
 use batch::list::ListCheck;
 use dpa::error;
 use dpa::reply::Reply;
-use lights::lamp::LAMPS;
-use lights::lamp::Lamp;
-use lights::request::LampsReply;
 ghost use mathlib.Core.Path.{_≡_};
 ghost use mathlib.Core.Bool.{true, false};
 ghost use Rattle.batch.specs.Batch.{reasonOf, placeOf};
@@ -41,62 +38,46 @@ pub fn list_report(check: ListCheck) -> Report
     }
 }
 
-// Whether the request is answered, ErrN, the report, the length of the response data, and the lamps after the request.
+// Whether the request is answered, ErrN, the report, and the length of the response data.
 pub struct RequestReply {
     pub answered: bool,
     pub error: u8,
     pub report: Report,
     pub length: usize,
-    pub lamps: [Lamp; LAMPS],
 }
 
 // A reply without data.
-pub fn without_data(lamps: [Lamp; LAMPS], error: u8) -> RequestReply
-    ensures { λ r. ⌜ r ≡ record { answered = true; error = error; report = noReport; length = 0; lamps = lamps } ⌝ }
+pub fn without_data(error: u8) -> RequestReply
+    ensures { λ r. ⌜ r ≡ record { answered = true; error = error; report = noReport; length = 0 } ⌝ }
 {
     RequestReply {
         answered: true,
         error,
         report: Report::NONE,
         length: 0,
-        lamps,
     }
 }
 
-// No answer, and nothing changed.
-pub fn unanswered(lamps: [Lamp; LAMPS]) -> RequestReply
-    ensures { λ r. ⌜ r ≡ record { answered = false; error = 0; report = noReport; length = 0; lamps = lamps } ⌝ }
+// No answer.
+pub fn unanswered() -> RequestReply
+    ensures { λ r. ⌜ r ≡ record { answered = false; error = 0; report = noReport; length = 0 } ⌝ }
 {
     RequestReply {
         answered: false,
         error: error::NONE,
         report: Report::NONE,
         length: 0,
-        lamps,
-    }
-}
-
-// The reply of a memory; the lamps stay.
-pub fn memory_reply(lamps: [Lamp; LAMPS], reply: Reply) -> LampsReply
-    ensures { λ r. ⌜ r ≡ record { error = reply .error; length = reply .length; lamps = lamps } ⌝ }
-{
-    LampsReply {
-        error: reply.error,
-        length: reply.length,
-        lamps,
     }
 }
 
 // The reply of a peripheral, which has nothing to report.
-pub fn peripheral_reply(reply: LampsReply) -> RequestReply
-    ensures { λ r. ⌜ r ≡ record { answered = true; error = reply .error; report = noReport; length = reply .length; lamps = reply .lamps } ⌝ }
+pub fn peripheral_reply(reply: Reply) -> RequestReply
+    ensures { λ r. ⌜ r ≡ record { answered = true; error = reply .error; report = noReport; length = reply .length } ⌝ }
 {
-    let lamps = reply.lamps;
     RequestReply {
         answered: true,
         error: reply.error,
         report: Report::NONE,
         length: reply.length,
-        lamps,
     }
 }

@@ -1,10 +1,11 @@
-// `handle_request`: refusals, the address, the HWPID, then the peripherals and the response.
+// `handle_request`: refusals, the address, the HWPID, then the peripherals, the response, and at last the lamps.
 use crate::answer::Handled;
 use crate::answer::RequestAnswer;
 use crate::answer::answer_handled;
 use crate::answer::answer_unhandled;
-use crate::answer::without_response;
+use crate::answer::handled_as;
 use crate::hwpid::hwpid_matches;
+use crate::lamps::lamps_after;
 use crate::os::os_request;
 use crate::peripheral::peripheral_request;
 use crate::reply::RequestReply;
@@ -26,13 +27,15 @@ use node::record::node_ok;
 use node::record::read_only;
 ghost use mathlib.Core.Path.{_≡_};
 ghost use mathlib.Core.List.{List};
+ghost use mathlib.Core.Bool.{_||_};
 ghost use Prim.Native.Nat.{ℕ, _≤_};
+ghost use lib.Dec.{eqb};
 ghost use lib.ListN.{length};
-ghost use Rattle.dpa.specs.Frame.{headerSize, longestFrame, pdataMax, responseHeaderSize, longestResponse};
-ghost use Rattle.handler.specs.Request.{state, SoundState, execute, headerItem, unansweredResult, unicastResult, handleFrame, requestRefusal, handleRequest};
-ghost use Rattle.handler.specs.Seen.{stateFromParts, outcomeSeen, outcomeInBuffer, handledReply, withResponseHeader, callResult, callResultFromParts};
+ghost use Rattle.dpa.specs.Frame.{headerSize, longestFrame, pdataMax, responseHeaderSize, longestResponse, broadcastNadr};
+ghost use Rattle.handler.specs.Request.{state, SoundState, execute, headerItem, handleFrame, requestRefusal, handleRequest};
+ghost use Rattle.handler.specs.Seen.{stateFromParts, outcomeSeen, outcomeInBuffer, handledReply, withResponseHeader, handledSeen, handledBroadcast, handledUnicast, handledAddressed, callResult};
 
-// Checks the HWPID, then executes the request. The response data goes to the front of `out`.
+// Checks the HWPID, then executes the request, except that the lamps stay. The response data goes to the front of `out`.
 fn execute(
     fixed: ReadOnly,
     lamps: [Lamp; LAMPS],
@@ -44,16 +47,16 @@ fn execute(
     out: &mut [u8],
 ) -> RequestReply
     requires { ⌜ SoundState (stateFromParts fixed lamps (now ram) (now eeprom) (now external)) × (pdataMax ≤ length (now out)) ⌝ }
-    ensures { λ r. ⌜ outcomeSeen fixed r (now (ram .exit)) (now (eeprom .exit)) (now (external .exit)) (now (out .exit))
+    ensures { λ r. ⌜ outcomeSeen r (now (ram .exit)) (now (eeprom .exit)) (now (external .exit)) (now (out .exit))
         ≡ outcomeInBuffer (execute (headerItem header (now (pdata .entry)))
         (stateFromParts fixed lamps (now (ram .entry)) (now (eeprom .entry)) (now (external .entry)))) (now (out .entry)) ⌝ }
 {
     if !hwpid_matches(fixed.settings, header.hwpid) {
-        return without_data(lamps, error::HWPID);
+        return without_data(error::HWPID);
     }
     let pcmd = header.pcmd;
     if header.pnum == pnum::OS {
-        return os_request(fixed, lamps, pcmd, pdata, ram, eeprom, external, out);
+        return os_request(fixed, pcmd, pdata, ram, eeprom, external, out);
     }
     let reply = peripheral_request(
         fixed,
@@ -80,8 +83,8 @@ fn handle_broadcast(
     external: &mut [u8],
 ) -> Handled
     requires { ⌜ SoundState (stateFromParts fixed lamps (now ram) (now eeprom) (now external)) ⌝ }
-    ensures { λ r. ⌜ ((o : List ℕ) → callResultFromParts fixed r (now (ram .exit)) (now (eeprom .exit)) (now (external .exit)) o
-        ≡ unansweredResult (execute (headerItem header (now (pdata .entry)))
+    ensures { λ r. ⌜ ((o : List ℕ) → handledSeen r (now (ram .exit)) (now (eeprom .exit)) (now (external .exit)) o
+        ≡ handledBroadcast (execute (headerItem header (now (pdata .entry)))
         (stateFromParts fixed lamps (now (ram .entry)) (now (eeprom .entry)) (now (external .entry)))) o) ⌝ }
 {
     let mut scratch = [0u8; Frame::PDATA_MAX];
@@ -95,7 +98,7 @@ fn handle_broadcast(
         external,
         &mut scratch,
     );
-    without_response(done)
+    handled_as(done, 0)
 }
 
 // Writes the response header in front of the data. A request that is not answered leaves the buffer as it is.
@@ -104,17 +107,10 @@ fn respond(response: &mut [u8], settings: Settings, header: Frame, done: Request
     ensures { λ r. ⌜ (r ≡ handledReply done) × (now (response .exit) ≡ withResponseHeader settings header done (now (response .entry))) ⌝ }
 {
     if !done.answered {
-        return without_response(done);
+        return handled_as(done, 0);
     }
     write_response_header(response, settings, header.pnum, header.pcmd, done.error);
-    let report = done.report;
-    let length = Frame::RESPONSE_HEADER + done.length;
-    let lamps = done.lamps;
-    Handled {
-        report,
-        length,
-        lamps,
-    }
+    handled_as(done, Frame::RESPONSE_HEADER + done.length)
 }
 
 // Executes a request to this node: the data is written after the response header, then the header in front of it.
@@ -129,8 +125,8 @@ fn handle_unicast(
     response: &mut [u8],
 ) -> Handled
     requires { ⌜ SoundState (stateFromParts fixed lamps (now ram) (now eeprom) (now external)) × (longestResponse ≤ length (now response)) ⌝ }
-    ensures { λ r. ⌜ callResultFromParts fixed r (now (ram .exit)) (now (eeprom .exit)) (now (external .exit)) (now (response .exit))
-        ≡ unicastResult (fixed .settings) (headerItem header (now (pdata .entry)))
+    ensures { λ r. ⌜ handledSeen r (now (ram .exit)) (now (eeprom .exit)) (now (external .exit)) (now (response .exit))
+        ≡ handledUnicast (fixed .settings) (headerItem header (now (pdata .entry)))
         (execute (headerItem header (now (pdata .entry)))
         (stateFromParts fixed lamps (now (ram .entry)) (now (eeprom .entry)) (now (external .entry)))) (now (response .entry)) ⌝ }
 {
@@ -147,7 +143,41 @@ fn handle_unicast(
     respond(response, fixed.settings, header, done)
 }
 
-// Handles a frame that was not refused. The node is split into parts, because only its lamps and its RAM change.
+// Executes a request to all nodes or to this one.
+fn handle_addressed(
+    fixed: ReadOnly,
+    lamps: [Lamp; LAMPS],
+    header: Frame,
+    pdata: &[u8],
+    ram: &mut [u8],
+    eeprom: &mut [u8],
+    external: &mut [u8],
+    response: &mut [u8],
+) -> Handled
+    requires { ⌜ SoundState (stateFromParts fixed lamps (now ram) (now eeprom) (now external)) × (longestResponse ≤ length (now response)) ⌝ }
+    ensures { λ r. ⌜ handledSeen r (now (ram .exit)) (now (eeprom .exit)) (now (external .exit)) (now (response .exit))
+        ≡ handledAddressed (fixed .settings) header (headerItem header (now (pdata .entry)))
+        (execute (headerItem header (now (pdata .entry)))
+        (stateFromParts fixed lamps (now (ram .entry)) (now (eeprom .entry)) (now (external .entry)))) (now (response .entry)) ⌝ }
+{
+    if header.nadr == Frame::BROADCAST {
+        return handle_broadcast(fixed, lamps, header, pdata, ram, eeprom, external);
+    }
+    handle_unicast(fixed, lamps, header, pdata, ram, eeprom, external, response)
+}
+
+// Whether a frame is for all nodes or for the one with this address.
+fn addressed(nadr: u16, address: u16) -> bool
+    ensures { λ r. ⌜ r ≡ (eqb nadr broadcastNadr || eqb nadr address) ⌝ }
+{
+    if nadr == Frame::BROADCAST {
+        return true;
+    }
+    nadr == address
+}
+
+// Handles a frame that was not refused. The node is split into parts, because only its lamps and its RAM change; the lamps change
+// last, in one place, so that no other function passes them back.
 fn handle_frame(
     node: Node,
     frame: &[u8],
@@ -161,28 +191,25 @@ fn handle_frame(
         ≡ handleFrame (now (frame .entry)) (state node (now (eeprom .entry)) (now (external .entry))) (now (response .entry)) ⌝ }
 {
     let header = Frame::read(frame);
+    if !addressed(header.nadr, node.settings.address) {
+        return answer_unhandled(node, refusal::NONE);
+    }
     let pdata = &frame[Frame::HEADER..];
     let fixed = read_only(node);
     let lamps = node.lamps;
     let mut ram = node.ram;
-    if header.nadr == Frame::BROADCAST {
-        let done = handle_broadcast(fixed, lamps, header, pdata, &mut ram, eeprom, external);
-        return answer_handled(fixed, done, ram);
-    }
-    if header.nadr == node.settings.address {
-        let done = handle_unicast(
-            fixed,
-            lamps,
-            header,
-            pdata,
-            &mut ram,
-            eeprom,
-            external,
-            response,
-        );
-        return answer_handled(fixed, done, ram);
-    }
-    answer_unhandled(node, refusal::NONE)
+    let done = handle_addressed(
+        fixed,
+        lamps,
+        header,
+        pdata,
+        &mut ram,
+        eeprom,
+        external,
+        response,
+    );
+    let after = lamps_after(fixed.settings, done.success, header, pdata, lamps);
+    answer_handled(fixed, done, after, ram)
 }
 
 // The refusal of a call, tested in the order of the numbers.

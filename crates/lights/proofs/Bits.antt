@@ -61,6 +61,10 @@ bits-cat (suc k) j a r h =
     ∙ ap₂ (λ (x y : ℕ). x ∷ bits (k + j) y) (block-odd a k r) (block-half a k r)
     ∙ ap (λ (l : List ℕ). r % 2 ∷ l) (bits-cat k j a (r / 2) (half-lt k r h))
 
+-- the mask of four bytes has a bit for each lamp
+pub mask-max : (xs : List ℕ) → Bytes xs → maskOf xs < 2 ^ maxLamps
+mask-max xs small = omega (arith, small 0, small 1, small 2, small 3)
+
 -- the mask has the bits of the bitmap
 pub bits-mask : (xs : List ℕ) → Bytes xs → bits maxLamps (maskOf xs) ≡ bitmap xs
 unfolding bitmap

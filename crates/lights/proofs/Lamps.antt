@@ -1,17 +1,17 @@
 -- Laws of one lamp: its valid values, its actual level, and its timer.
-use Prim.Native.Nat.{ℕ, suc, _+_, _-_, _*_, _/_, _%_, _≤_, _<_}
-use mathlib.Core.Path.{_≡_, refl, sym, _∙_}
+use Prim.Native.Nat.{ℕ, suc, _+_, _-_, _*_, _/_, _%_, _^_, _≤_, _<_}
+use mathlib.Core.Path.{_≡_, refl, sym, subst, _∙_}
 use mathlib.Core.Bool.{Bool, true, false, not, _&&_, _||_}
 use native.Mathlib.Omega.{arith}
-use native.Mathlib.Nat.{div-add-mod', mod-lt, div-lt-iff-lt-mul, mul-le-mul-right, mul-mod-left, suc-mul, zero-mod}
+use native.Mathlib.Nat.{div-add-mod', mod-lt, div-le-self, div-lt-iff-lt-mul, mul-le-mul, mul-le-mul-right, mul-mod-left, suc-mul, zero-mod}
 use lib.Dec.{leb, ltb, eqb}
-use borrow.Author.Tests.{leb-true, leb-false, le-leb, eqb-true, eqb-false, eq-eqb, ne-eqb, lt-ltb, le-ltb, ltb-true, ltb-false}
+use borrow.Author.Tests.{leb-true, le-leb, eqb-true, eqb-false, eq-eqb, ne-eqb, lt-ltb, le-ltb, ltb-true, ltb-false}
 use Rattle.dpa.specs.declared.settings.Settings.{Settings}
 use Rattle.dpa.specs.Settings.{stepOk, settingsOk}
 use Rattle.dpa.proofs.Bool.{and-left, and-right, both, by-cond, by-test}
 use Rattle.dpa.proofs.Ranges.{step-positive, step-remainder, settings-facts}
 use Rattle.lights.specs.declared.lamp.Lamp.{Lamp}
-use Rattle.lights.specs.Lamp.{maxLevel, maxSeconds, lamp, off, lampOk, LampRule, lampZero, lampFits, actualLevel, tickLamp}
+use Rattle.lights.specs.Lamp.{maxLevel, maxSeconds, lamp, off, lampOk, LampRule, lampZero, lampFits, actualLevel, stepInverse, tickLamp}
 
 -- Valid values, as a test and as facts
 
@@ -84,17 +84,32 @@ fits-rule count k l e =
 
 -- The actual level, for valid settings
 
+step-or : (P : ℕ → Type 0) (s k : ℕ) (b : Bool) → (b ≡ true → P s) → P k → (b || eqb s k) ≡ true → P s
+step-or P s k true f p e = f refl
+step-or P s k false f p e = subst P (sym (eqb-true s k e)) p
+
+-- what holds for each of the nine dimming steps holds for a valid step
+step-cases : (P : ℕ → Type 0) → P 1 → P 2 → P 4 → P 5 → P 10 → P 20 → P 25 → P 50 → P 100 → (s : ℕ) → stepOk s ≡ true → P s
+unfolding stepOk
+step-cases P p1 p2 p4 p5 p10 p20 p25 p50 p100 s =
+    step-or P s 100 _ (step-or P s 50 _ (step-or P s 25 _ (step-or P s 20 _ (step-or P s 10 _ (step-or P s 5 _ (step-or P s 4 _ (step-or P s 2 _
+    (λ e. subst P (sym (eqb-true s 1 e)) p1) p2) p4) p5) p10) p20) p25) p50) p100
+
 -- a dimming step is at most 100
 step-small : (s : ℕ) → stepOk s ≡ true → s ≤ 100
-unfolding stepOk
-step-small s e =
-    by-test (leb s 100)
-    (λ t. leb-true _ _ t)
-    (λ t. let l : 100 < s = leb-false _ _ t in
-    let differs : (k : ℕ) → k ≤ 100 → eqb s k ≡ false = λ k h. ne-eqb s k (λ x. omega (arith, l, h, x)) in
-    let z : false ≡ true
-    = rw (differs 1 (omega arith), differs 2 (omega arith), differs 4 (omega arith), differs 5 (omega arith), differs 10 (omega arith), differs 20 (omega arith), differs 25 (omega arith), differs 50 (omega arith), differs 100 (omega arith)) at e in
-    let y : _≡_ {A = ℕ} 0 1 = cc in absurd (omega (arith, y)))
+step-small =
+    step-cases (λ (s : ℕ). s ≤ 100)
+    (omega arith) (omega arith) (omega arith) (omega arith) (omega arith) (omega arith) (omega arith) (omega arith) (omega arith)
+
+-- the inverse of a step is not above that of step 1
+pub inverse-max : (s : Settings) → stepInverse s ≤ 65537
+unfolding stepInverse
+inverse-max s = omega (arith, div-le-self 65536 (s .step))
+
+inverse-each : (x : ℕ) → x ≤ 199 → (s : ℕ) → stepOk s ≡ true → x * (65536 / s + 1) / 65536 ≡ x / s
+inverse-each x h =
+    step-cases (λ (s : ℕ). x * (65536 / s + 1) / 65536 ≡ x / s)
+    (omega arith) (omega arith) (omega arith) (omega arith) (omega arith) (omega arith) (omega arith) (omega arith) (omega arith)
 
 module _ (s : Settings) (h : settingsOk s ≡ true) where
   -- the step is at most 100
@@ -131,6 +146,22 @@ module _ (s : Settings) (h : settingsOk s ≡ true) where
   -- the actual level is at most 100
   pub actual-max : (level : ℕ) → level ≤ maxLevel → actualLevel s level ≤ maxLevel
   actual-max level l = actual-least level 100 step-of-100 l
+
+  module _ (level : ℕ) (l : level ≤ maxLevel) where
+    -- multiplying by the inverse of the step divides by the step
+    pub inverse-divides : (level + (s .step - 1)) * stepInverse s / 65536 ≡ (level + (s .step - 1)) / s .step
+    unfolding stepInverse
+    inverse-divides = inverse-each (level + (s .step - 1)) (omega (arith, step-max)) (s .step) (settings-facts s h .step-valid)
+
+    -- the product fits four bytes
+    pub inverse-product : (level + (s .step - 1)) * stepInverse s < 2 ^ 32
+    inverse-product =
+        let x : level + (s .step - 1) ≤ 199 = omega (arith, step-max) in
+        omega (arith, mul-le-mul x (inverse-max s))
+
+    -- and the quotient a byte
+    pub quotient-max : (level + (s .step - 1)) * stepInverse s / 65536 ≤ 199
+    quotient-max = rw inverse-divides (omega (arith, div-le-self (level + (s .step - 1)) (s .step), step-max))
 
   -- the actual level of a lamp that is off is 0
   pub actual-off : actualLevel s 0 ≡ 0

@@ -2,9 +2,11 @@ pub mod Lamps
 pub mod Bits
 pub mod Selected
 pub mod PowerEntries
+pub mod WellFormed
 pub mod Remaining
 pub mod Replies
-pub mod ApplyLoop
+pub mod RemainingLamps
+pub mod LevelsLoop
 pub mod EachLamp
 pub mod ValidChanges
 pub mod Keep

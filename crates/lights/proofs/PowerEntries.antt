@@ -10,7 +10,7 @@ use lib.Seq.{drop-cons, drop-drop}
 use lib.Dec.{ltb, eqb}
 use borrow.Author.Tests.{lt-ltb, le-ltb, ltb-true, ltb-false, eq-eqb, ne-eqb, eqb-false, not-true}
 use Rattle.dpa.proofs.Bool.{by-cond, by-test}
-use Rattle.lights.specs.Lights.{bit7, powerOk, timeOk, secondsOf, change, timedPowerEntry, firstPowerEntry, isValid, PowerEntries, allValid, malformed, prepend, followedBy, powerEntries, areValid}
+use Rattle.lights.specs.Lights.{bit7, powerOk, timeOk, secondsOf, change, timedPowerEntry, firstPowerEntry, isValid, PowerEntries, allValid, malformed, prepend, followedBy, powerEntries, areValid, changesOf}
 use Rattle.lights.specs.declared.power.LampChange.{LampChange}
 use Rattle.lights.specs.declared.power.PowerEntry.{PowerEntry}
 use Rattle.lights.specs.declared.power.PowerEntry.the-variants.{Valid, Invalid}
@@ -85,11 +85,6 @@ module _ (src : List ℕ) (at : ℕ) (v : isValid (firstPowerEntry (drop at src)
 abbrev pub zeroChange : LampChange
 zeroChange = change 0 0
 
--- the changes of the power entries; none if they are malformed
-abbrev pub changesOf : PowerEntries → List LampChange
-changesOf (allValid es) = es
-changesOf malformed = []
-
 -- valid power entries are their changes
 pub valid-changes : (r : PowerEntries) → areValid r ≡ true → r ≡ allValid (changesOf r)
 valid-changes (allValid es) g = refl
@@ -154,13 +149,13 @@ untimed-exact =
     first-cases (λ xs (e : LampChange) size. eqb (e .seconds) 0 ≡ eqb size 1) (λ b xs p. refl)
     (λ b t xs p k. ne-eqb (secondsOf t) 0 (time-positive t k))
 
--- a power entry is no longer than the bytes it is parsed from
-first-size : (xs : List ℕ) (e : LampChange) (size : ℕ) → firstPowerEntry xs ≡ Valid e size → size ≤ length xs
-first-size = first-cases (λ xs e size. size ≤ length xs) (λ b xs p. omega arith) (λ b t xs p k. omega arith)
+-- a power entry has a byte, and is no longer than the bytes it is parsed from
+pub first-size : (xs : List ℕ) (e : LampChange) (size : ℕ) → firstPowerEntry xs ≡ Valid e size → (0 < size) × (size ≤ length xs)
+first-size = first-cases (λ xs e size. (0 < size) × (size ≤ length xs)) (λ b xs p. (omega arith, omega arith)) (λ b t xs p k. (omega arith, omega arith))
 
 -- it ends inside the source
 pub first-room : (src : List ℕ) (at : ℕ) (e : LampChange) (size : ℕ) → firstPowerEntry (drop at src) ≡ Valid e size → size ≤ length src - at
-first-room src at e size h = rw length-drop at (first-size (drop at src) e size h)
+first-room src at e size h = rw length-drop at (first-size (drop at src) e size h .1)
 
 module _ (src : List ℕ) (at k n : ℕ) where
   -- the loop passes a valid power entry

@@ -14,18 +14,15 @@ use Rattle.dpa.specs.declared.settings.Settings.{Settings}
 use Rattle.lights.specs.Bits.{bits}
 use Rattle.lights.specs.Lamp.{off, actualLevel}
 use Rattle.lights.specs.Lights.{lampAfter, lampsAfter, levelsBefore}
+use Rattle.lights.specs.Remaining.{lampsFrom}
 use Rattle.lights.proofs.Bits.{bits-more}
 use Rattle.lights.specs.declared.apply.Command.{Command}
 use Rattle.lights.specs.declared.lamp.Lamp.{Lamp}
 use Rattle.lights.specs.declared.power.LampChange.{LampChange}
 
 module _ (c : Command) (n : ℕ) where
-  -- the lamps below i as they are, and those from i on after the remaining changes es
-  abbrev pub lampsFrom : ℕ → ℕ → List LampChange → List Lamp → List Lamp
-  lampsFrom i m es ls = take i ls ++ lampsAfter c (n - i) (bits (maxLamps - i) m) es (drop i ls)
-
   -- a lamp that is not selected
-  pub lamps-from-skip : (i m : ℕ) (es : List LampChange) (ls : List Lamp) → i < maxLamps → length ls ≡ maxLamps → m % 2 ≡ 0 → lampsFrom i m es ls ≡ lampsFrom (i + 1) (m / 2) es ls
+  pub lamps-from-skip : (i m : ℕ) (es : List LampChange) (ls : List Lamp) → i < maxLamps → length ls ≡ maxLamps → m % 2 ≡ 0 → lampsFrom c n i m es ls ≡ lampsFrom c n (i + 1) (m / 2) es ls
   unfolding lampsAfter
   lamps-from-skip i m es ls h l z =
       let w : i < length ls = omega arith in
@@ -34,7 +31,7 @@ module _ (c : Command) (n : ℕ) where
 
   -- a selected, unimplemented lamp
   pub lamps-from-unimplemented : (i m : ℕ) (e : LampChange) (es : List LampChange) (ls : List Lamp) → i < maxLamps → length ls ≡ maxLamps → m % 2 ≡ 1 → n ≤ i
-      → lampsFrom i m (e ∷ es) ls ≡ lampsFrom (i + 1) (m / 2) es ls
+      → lampsFrom c n i m (e ∷ es) ls ≡ lampsFrom c n (i + 1) (m / 2) es ls
   unfolding lampsAfter
   lamps-from-unimplemented i m e es ls h l z q =
       let w : i < length ls = omega arith in
@@ -45,7 +42,7 @@ module _ (c : Command) (n : ℕ) where
   -- a selected, implemented lamp
   pub lamps-from-changed : (i m : ℕ) (e : LampChange) (es : List LampChange) (ls : List Lamp) (r : Lamp) → i < maxLamps → length ls ≡ maxLamps → m % 2 ≡ 1 → i < n
       → r ≡ lampAfter c (getD ls i off) (e .power) (e .seconds)
-      → lampsFrom i m (e ∷ es) ls ≡ lampsFrom (i + 1) (m / 2) es (set ls i r)
+      → lampsFrom c n i m (e ∷ es) ls ≡ lampsFrom c n (i + 1) (m / 2) es (set ls i r)
   unfolding lampsAfter
   lamps-from-changed i m e es ls r h l z q x =
       let w : i < length ls = omega arith in
@@ -61,7 +58,7 @@ module _ (c : Command) (n : ℕ) where
   lamps-none (suc k) j es (l ∷ ls) = ap (λ (xs : List Lamp). l ∷ xs) (lamps-none k (j - 1) es ls)
 
   -- no selected lamp remains
-  pub lamps-from-end : (i : ℕ) (es : List LampChange) (ls : List Lamp) → lampsFrom i 0 es ls ≡ ls
+  pub lamps-from-end : (i : ℕ) (es : List LampChange) (ls : List Lamp) → lampsFrom c n i 0 es ls ≡ ls
   lamps-from-end i es ls = rw (lamps-none (maxLamps - i) (n - i) es (drop i ls)) (take-append-drop i ls)
 
 module _ (s : Settings) (n : ℕ) (ls : List Lamp) where

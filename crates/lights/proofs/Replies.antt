@@ -1,28 +1,29 @@
 -- Laws of a request's reply, one for each return of the code.
-use mathlib.Core.Path.{_≡_, refl, ap, _∙_}
+use mathlib.Core.Path.{_≡_, refl, sym, ap, _∙_}
 use mathlib.Core.List.{List, [], _∷_}
 use Prim.Native.Nat.{ℕ, zero, suc, _-_, _≤_, _<_}
-use mathlib.Core.Bool.{false}
+use mathlib.Core.Bool.{true, false}
 use native.Mathlib.Omega.{arith}
-use lib.ListN.{length, drop}
-use borrow.Author.Tests.{lt-ltb, le-ltb, ne-eqb}
-use Rattle.dpa.specs.Settings.{maxLamps}
-use Rattle.dpa.specs.Lists.{Bytes}
-use Rattle.dpa.specs.Reply.{Reply, errorReply, replySeen, replyInBuffer}
+use lib.ListN.{length}
+use lib.Dec.{ltb}
+use borrow.Author.Tests.{le-ltb, ltb-false, ne-eqb}
+use Rattle.dpa.specs.Lists.{overwriteFront}
+use Rattle.dpa.specs.Reply.{Reply, reply, errorReply, replySeen, replyInBuffer}
+use Rattle.dpa.specs.declared.reply.Reply as code
 use Rattle.dpa.specs.declared.settings.Settings.{Settings}
-use Rattle.lights.specs.Bits.{bitmapSize, bits, count, bitmap, maskOf}
-use Rattle.lights.specs.Lights.{commandPcmd, enumeratePcmd, powerEntries, areValid, malformedError, levelsBefore, levelsReply, commandOf, changeLamps, enumerateLamps, lightsRequest}
-use Rattle.lights.proofs.Bits.{bits-mask}
-use Rattle.lights.proofs.PowerEntries.{not-valid-malformed}
+use Rattle.dpa.proofs.Bool.{by-test}
+use Rattle.lights.specs.Bits.{bitmapSize, count, bitmap}
+use Rattle.lights.specs.Lights.{commandPcmd, enumeratePcmd, malformedError, lampsAfter, levelsBefore, levelsReply, wellFormed, commandOf, changeLamps, enumerateLamps, lightsRequest}
+use Rattle.lights.proofs.PowerEntries.{valid-changes, not-valid-malformed}
+use Rattle.lights.proofs.WellFormed.{entriesIn, changesIn, well-formed-entries, bitmap-there, entries-valid}
 use Rattle.lights.specs.declared.apply.Command.{Command}
 use Rattle.lights.specs.declared.apply.Command.the-variants.{Set, Raise, Lower}
 use Rattle.lights.specs.declared.lamp.Lamp.{Lamp}
-use Rattle.lights.specs.declared.request.LampsReply.{LampsReply}
 
 -- a refused request leaves the lent buffer
-pub reply-error : (r : LampsReply) (x : Reply (List Lamp)) (e : ℕ) (ls : List Lamp) (o : List ℕ)
-    → r ≡ record { error = e; length = 0; lamps = ls } → x ≡ errorReply ls e
-    → replySeen (r .lamps) (r .error) (r .length) o ≡ replyInBuffer x o
+pub reply-error : (r : code.Reply) (x : Reply (List Lamp)) (e : ℕ) (ls : List Lamp) (o : List ℕ)
+    → r ≡ record { error = e; length = 0 } → x ≡ errorReply ls e
+    → replySeen (x .after) (r .error) (r .length) o ≡ replyInBuffer x o
 reply-error r x e ls o p q = rw (p, q)
 
 -- there is a level for each selected lamp
@@ -34,29 +35,34 @@ levels-length s n (zero ∷ bs) (l ∷ ls) h = levels-length s (n - 1) bs ls (om
 levels-length s n (suc b ∷ bs) (l ∷ ls) h = ap suc (levels-length s (n - 1) bs ls (omega arith))
 
 module _ (s : Settings) (c : Command) (xs : List ℕ) (ls : List Lamp) where
-  -- PData is too short for the bitmap
-  pub change-no-bitmap : length xs < bitmapSize → changeLamps s c xs ls ≡ errorReply ls malformedError
-  unfolding changeLamps
-  change-no-bitmap h = rw (lt-ltb (length xs) bitmapSize h)
-
   -- with a bitmap the reply depends on the power entries after it
-  pub change-entries : bitmapSize ≤ length xs → changeLamps s c xs ls ≡ levelsReply s c (bitmap xs) ls (powerEntries (count (bitmap xs)) (drop bitmapSize xs))
+  change-entries : bitmapSize ≤ length xs → changeLamps s c xs ls ≡ levelsReply s c (bitmap xs) ls (entriesIn xs)
   unfolding changeLamps
   change-entries h = rw (le-ltb (length xs) bitmapSize h)
 
-  module _ (m k : ℕ) (h : bitmapSize ≤ length xs) (small : Bytes xs) (w : m ≡ maskOf xs) (q : k ≡ count (bits maxLamps m)) where
-    change-by-mask : changeLamps s c xs ls ≡ levelsReply s c (bits maxLamps m) ls (powerEntries k (drop bitmapSize xs))
-    change-by-mask = rw (q, w, bits-mask xs small) (change-entries h)
+  -- PData that is not well formed is refused
+  pub change-malformed : wellFormed xs ≡ false → changeLamps s c xs ls ≡ errorReply ls malformedError
+  unfolding changeLamps
+  change-malformed e =
+      by-test (ltb (length xs) bitmapSize) (λ t. rw t)
+      (λ t. let h : bitmapSize ≤ length xs = ltb-false _ _ t in
+      change-entries h ∙ ap (levelsReply s c (bitmap xs) ls) (not-valid-malformed (entriesIn xs) (sym (well-formed-entries xs h) ∙ e)))
 
-    -- the power entries are malformed
-    pub change-malformed : areValid (powerEntries k (drop bitmapSize xs)) ≡ false → changeLamps s c xs ls ≡ errorReply ls malformedError
-    change-malformed e = change-by-mask ∙ ap (levelsReply s c (bits maxLamps m) ls) (not-valid-malformed (powerEntries k (drop bitmapSize xs)) e)
+  module _ (w : wellFormed xs ≡ true) where
+    change-done : changeLamps s c xs ls
+        ≡ reply (lampsAfter c (s .«lamp_count») (bitmap xs) (changesIn xs) ls) 0 (levelsBefore s (s .«lamp_count») (bitmap xs) ls)
+    change-done = change-entries (bitmap-there xs w) ∙ ap (levelsReply s c (bitmap xs) ls) (valid-changes (entriesIn xs) (entries-valid xs w))
 
-    -- the result of `apply` is the reply
-    pub change-applied : (after : List Lamp) (out old : List ℕ)
-        → replySeen after 0 (count (bits maxLamps m)) out ≡ replyInBuffer (levelsReply s c (bits maxLamps m) ls (powerEntries (count (bits maxLamps m)) (drop bitmapSize xs))) old
-        → replySeen after 0 k out ≡ replyInBuffer (changeLamps s c xs ls) old
-    change-applied after out old p = rw (change-by-mask, q) p
+    -- well-formed PData changes the lamps
+    pub change-applied : changeLamps s c xs ls .after ≡ lampsAfter c (s .«lamp_count») (bitmap xs) (changesIn xs) ls
+    change-applied = ap (λ (x : Reply (List Lamp)). x .after) change-done
+
+    -- and is answered with the levels before the change
+    pub change-answered : (k : ℕ) (out old : List ℕ)
+        → k ≡ length (levelsBefore s (s .«lamp_count») (bitmap xs) ls)
+        → out ≡ overwriteFront (levelsBefore s (s .«lamp_count») (bitmap xs) ls) old
+        → replySeen (changeLamps s c xs ls .after) 0 k out ≡ replyInBuffer (changeLamps s c xs ls) old
+    change-answered k out old p q = rw (change-done, p, q)
 
 -- enumerate with PData is refused
 pub enumerate-with-data : (s : Settings) (xs : List ℕ) (ls : List Lamp) → (length xs ≡ 0 → ⊥) → enumerateLamps s xs ls ≡ errorReply ls 5

@@ -1,35 +1,32 @@
 -- Laws of a lights request as a whole.
 use mathlib.Core.Path.{_≡_, refl, sym, ap, _∙_}
-use mathlib.Core.Bool.{true, cond, _&&_}
+use mathlib.Core.Bool.{true, false, cond, _&&_}
 use mathlib.Core.List.{List, [], _∷_}
 use Prim.Native.Nat.{ℕ, _≤_, _<_}
 use native.Mathlib.Omega.{arith}
 use lib.ListN.{length, getD, take, drop}
-use lib.Dec.{ltb, eqb}
-use borrow.Author.Tests.{lt-ltb, ltb-false}
+use lib.Dec.{leb, ltb, eqb}
+use borrow.Author.Tests.{le-leb, leb-true, leb-false, lt-ltb, ltb-false, eqb-true, eqb-false}
 use Rattle.dpa.specs.Settings.{maxLamps}
 use Rattle.dpa.specs.Reply.{Harmless, Reply, reply, errorReply}
-use Rattle.dpa.proofs.Bool.{by-cond}
+use Rattle.dpa.proofs.Bool.{both, by-cond, by-test}
 use Rattle.dpa.specs.declared.settings.Settings.{Settings}
 use Rattle.lights.specs.Bits.{bitmapSize, count, bitmap, isOne, selected, numberBelow}
 use Rattle.lights.specs.Lamp.{off, lampFits, LampRule, actualLevel}
-use Rattle.lights.specs.Lights.{commandPcmd, enumeratePcmd, keepPower, PowerEntries, allValid, malformed, powerEntries, malformedError, kept, lampsAfter, levelsBefore, levelsReply, changeLamps, enumerateLamps, lightsRequest}
+use Rattle.lights.specs.Lights.{commandPcmd, enumeratePcmd, keepPower, PowerEntries, allValid, malformed, powerEntries, malformedError, kept, lampsAfter, levelsBefore, levelsReply, changeLamps, enumerateLamps, lightsRequest, wellFormed, changesOf, changesLamps, commandOf}
 use Rattle.lights.proofs.Lamps.{fits-test, fits-rule, fits-above, zero-facts}
 use Rattle.lights.proofs.Bits.{count-length}
 use Rattle.lights.proofs.Selected.{bitmap-length, count-selected, rank-selected, selected-bit}
-use Rattle.lights.proofs.PowerEntries.{zeroChange, changesOf, power-entries-length}
+use Rattle.lights.proofs.PowerEntries.{zeroChange, power-entries-length}
+use Rattle.lights.proofs.WellFormed.{changesIn}
 use Rattle.lights.proofs.EachLamp.{lampAfterEntry, lamps-after-at, lamp-unimplemented, lamps-length, levels-before-at}
-use Rattle.lights.proofs.Replies.{levels-length}
+use Rattle.lights.proofs.Replies.{levels-length, change-malformed, known-pcmd, unknown-pcmd}
 use Rattle.lights.proofs.ValidChanges.{ChangeRule, power-entries-rule, lamp-after-rule}
 use Rattle.lights.proofs.Keep.{keep-after}
 use Rattle.lights.specs.declared.apply.Command.{Command}
 use Rattle.lights.specs.declared.apply.Command.the-variants.{Set, Raise, Lower}
 use Rattle.lights.specs.declared.lamp.Lamp.{Lamp}
 use Rattle.lights.specs.declared.power.LampChange.{LampChange}
-
--- the changes that PData holds
-abbrev pub changesIn : List ℕ → List LampChange
-changesIn xs = changesOf (powerEntries (count (bitmap xs)) (drop bitmapSize xs))
 
 -- the change for lamp k
 abbrev pub changeFor : List ℕ → ℕ → LampChange
@@ -156,3 +153,23 @@ module _ (s : Settings) (xs : List ℕ) (ls : List Lamp) where
         (λ _. lamp-after-rule c (getD ls k off) (getD es (count (take k (bitmap xs))) zeroChange) rule (valid (count (take k (bitmap xs)))))
         (λ _. rule))))
         (λ h. unimplemented-stays p k h ∙ zero-facts (getD ls k off) (sym (fits-above n k (getD ls k off) h) ∙ fit))
+
+-- a request that does not change lamps leaves them
+pub unchanged : (s : Settings) (pcmd : ℕ) (xs : List ℕ) (ls : List Lamp) → changesLamps pcmd xs ≡ false → lightsRequest s pcmd xs ls .after ≡ ls
+unfolding changesLamps lightsRequest enumerateLamps
+unchanged s pcmd xs ls e =
+    by-test (leb pcmd (commandPcmd Lower))
+    (λ t. ap (λ (x : Reply (List Lamp)). x .after)
+    (known-pcmd s pcmd xs ls (leb-true _ _ t) ∙ change-malformed s (commandOf pcmd) xs ls (rw t at e)))
+    (λ t. by-test (eqb pcmd enumeratePcmd)
+    (λ u. rw (eqb-true pcmd enumeratePcmd u) (by-cond (λ (x : Reply (List Lamp)). x .after ≡ ls) (eqb (length xs) 0) _ _ (λ _. refl) (λ _. refl)))
+    (λ u. ap (λ (x : Reply (List Lamp)). x .after) (unknown-pcmd s pcmd xs ls (leb-false _ _ t) (eqb-false pcmd enumeratePcmd u))))
+
+-- set, raise and lower without an error change lamps
+pub success-changes : (s : Settings) (pcmd : ℕ) (xs : List ℕ) (ls : List Lamp) → pcmd ≤ commandPcmd Lower → lightsRequest s pcmd xs ls .error ≡ 0 → changesLamps pcmd xs ≡ true
+unfolding changesLamps
+success-changes s pcmd xs ls h e =
+    both (le-leb pcmd (commandPcmd Lower) h)
+    (by-test (wellFormed xs) (λ t. t)
+    (λ t. let z : malformedError ≡ 0 = sym (ap (λ (x : Reply (List Lamp)). x .error) (known-pcmd s pcmd xs ls h ∙ change-malformed s (commandOf pcmd) xs ls t)) ∙ e in
+    absurd (omega arith)))

@@ -14,7 +14,7 @@ use Rattle.dpa.specs.Settings.{maxLamps}
 use Rattle.dpa.specs.Lists.{Bytes}
 use Rattle.dpa.proofs.Bool.{by-test}
 use Rattle.lights.specs.Bits.{bits, count, bitmap, maskOf, isOne, selected, numberBelow}
-use Rattle.lights.proofs.Bits.{bits-length, bits-mask, ones-count}
+use Rattle.lights.proofs.Bits.{bits-length, mask-max, bits-mask, ones-count}
 
 -- bit i of a number
 pub bit-at : (k m i : ℕ) → i < k → getD (bits k m) i 0 ≡ m / 2 ^ i % 2
@@ -102,5 +102,4 @@ count-selected xs = sym (ap count (take-all maxLamps (bitmap xs) (omega (arith, 
 -- `count_ones` of the mask is the number of selected lamps
 pub mask-selected : (xs : List ℕ) → Bytes xs → ones (maskOf xs) ≡ numberBelow maxLamps (selected xs)
 mask-selected xs small =
-    let h : maskOf xs < 2 ^ 32 = omega (arith, small 0, small 1, small 2, small 3) in
-    ones-count maxLamps (maskOf xs) h ∙ ap count (bits-mask xs small) ∙ count-selected xs
+    ones-count maxLamps (maskOf xs) (mask-max xs small) ∙ ap count (bits-mask xs small) ∙ count-selected xs

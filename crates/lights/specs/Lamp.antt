@@ -53,6 +53,10 @@ LevelsInRange ls = (i : ℕ) → getD ls i off .level ≤ maxLevel
 unfoldable pub actualLevel : Settings → ℕ → ℕ
 actualLevel s level = (level + (s .step - 1)) / s .step * s .step
 
+-- rounding multiplies by this number in place of dividing by the step (proofs/Lamps: `inverse-divides`)
+unfoldable pub stepInverse : Settings → ℕ
+stepInverse s = 65536 / s .step + 1
+
 -- one second later: a running timer counts down, and the lamp turns off when it reaches 0
 unfoldable pub tickLamp : Lamp → Lamp
 tickLamp l =

@@ -1,3 +1,4 @@
 pub mod Lamp
 pub mod Bits
 pub mod Lights
+pub mod Remaining

@@ -1,7 +1,7 @@
 -- Document 01, "Lights 71": set, raise and lower by a list of power entries, and enumerate. Document 02, change 2: keep with a time.
 use Prim.Native.Nat.{ℕ, zero, suc, _+_, _-_, _*_, _%_, min}
 use mathlib.Core.List.{List, [], _∷_}
-use mathlib.Core.Bool.{Bool, true, false, cond, not, _||_}
+use mathlib.Core.Bool.{Bool, true, false, cond, not, _&&_, _||_}
 use lib.ListN.{length, drop}
 use lib.Dec.{ltb, leb, eqb}
 use Rattle.dpa.specs.Reply.{Reply, reply, errorReply}
@@ -171,6 +171,19 @@ isValid entry = eqb (powerEntryError entry) 0
 abbrev pub areValid : PowerEntries → Bool
 areValid (allValid es) = true
 areValid malformed = false
+
+-- the changes of the power entries; none if they are malformed
+abbrev pub changesOf : PowerEntries → List LampChange
+changesOf (allValid es) = es
+changesOf malformed = []
+
+-- PData of set, raise and lower is well formed: the bitmap, a valid power entry for each selected lamp, and no byte after them
+unfoldable pub wellFormed : List ℕ → Bool
+wellFormed xs = cond (ltb (length xs) bitmapSize) false (areValid (powerEntries (count (bitmap xs)) (drop bitmapSize xs)))
+
+-- a request changes lamps: set, raise or lower with well-formed PData
+unfoldable pub changesLamps : ℕ → List ℕ → Bool
+changesLamps pcmd xs = leb pcmd (commandPcmd Lower) && wellFormed xs
 
 -- the command of a PCMD up to lower's
 unfoldable pub commandOf : ℕ → Command

@@ -5,7 +5,7 @@ ghost use mathlib.Core.Path.{_≡_};
 ghost use mathlib.Core.Bool.{true};
 ghost use Prim.Native.Nat.{_≤_};
 ghost use Rattle.dpa.specs.Settings.{settingsOk};
-ghost use Rattle.lights.specs.Lamp.{maxLevel, lampOk, lampZero, actualLevel, tickLamp};
+ghost use Rattle.lights.specs.Lamp.{maxLevel, lampOk, lampZero, actualLevel, stepInverse, tickLamp};
 
 // Lamp records in a node. Those at and above the lamp count are unused.
 pub const LAMPS: usize = MAX_LAMPS as usize;
@@ -15,6 +15,9 @@ pub const MAX_LEVEL: u8 = 100;
 
 // The longest timer: 127 minutes.
 pub const MAX_SECONDS: u16 = 7620;
+
+// The scale of a step's inverse.
+const INVERSE_SCALE: u32 = 65536;
 
 #[repr(C)]
 pub struct Lamp {
@@ -40,13 +43,23 @@ pub fn lamp_zero(lamp: Lamp) -> bool
     (lamp.level == 0) & (lamp.seconds == 0)
 }
 
+// Rounding multiplies by this number in place of dividing by the step: a division for each lamp is slow.
+pub fn step_inverse(settings: Settings) -> u32
+    requires { ⌜ settingsOk settings ≡ true ⌝ }
+    ensures { λ r. ⌜ r ≡ stepInverse settings ⌝ }
+{
+    INVERSE_SCALE / (settings.step as u32) + 1
+}
+
 // The level that the lamp shows: the requested level rounded up to a multiple of the step.
-pub fn actual_level(settings: Settings, level: u8) -> u8
-    requires { ⌜ (settingsOk settings ≡ true) × (level ≤ maxLevel) ⌝ }
+pub fn actual_level(settings: Settings, inverse: u32, level: u8) -> u8
+    requires { ⌜ (settingsOk settings ≡ true) × (level ≤ maxLevel) × (inverse ≡ stepInverse settings) ⌝ }
     ensures { λ r. ⌜ r ≡ actualLevel settings level ⌝ }
 {
     let step = settings.step;
-    (level + (step - 1)) / step * step
+    let raised = level + (step - 1);
+    let quotient = (raised as u32) * inverse / INVERSE_SCALE;
+    (quotient as u8) * step
 }
 
 // The lamp one second later.

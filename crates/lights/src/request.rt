@@ -1,24 +1,25 @@
-// Requests to the lights peripheral.
+// Requests to the lights peripheral: whether a request changes lamps, its command, and its answer.
 use crate::apply::Command;
-use crate::apply::apply;
+use crate::bitmap::mask_of;
+use crate::bitmap::selected_count;
 use crate::lamp::LAMPS;
 use crate::lamp::Lamp;
+use crate::levels::write_levels;
 use crate::power::BITMAP_SIZE;
 use crate::power::power_entries_ok;
 use dpa::error;
-use dpa::number::wide_word;
-use dpa::number::word_of;
+use dpa::reply::Reply;
 use dpa::settings::Settings;
 ghost use mathlib.Core.Path.{_≡_};
+ghost use mathlib.Core.List.{List};
 ghost use mathlib.Core.Bool.{true};
 ghost use Prim.Native.Nat.{_≤_};
 ghost use lib.ListN.{length};
 ghost use Rattle.dpa.specs.Frame.{pdataMax};
 ghost use Rattle.dpa.specs.Reply.{replySeen, replyInBuffer};
 ghost use Rattle.dpa.specs.Settings.{settingsOk, maxLamps};
-ghost use Rattle.lights.specs.Bits.{bitmapSize, bits, count, maskOf};
 ghost use Rattle.lights.specs.Lamp.{LevelsInRange};
-ghost use Rattle.lights.specs.Lights.{commandOf, changeLamps, enumerateLamps, lightsRequest};
+ghost use Rattle.lights.specs.Lights.{commandOf, wellFormed, changesLamps, changeLamps, enumerateLamps, lightsRequest};
 
 // PCMD of each request.
 pub const SET: u8 = 0x00;
@@ -29,43 +30,28 @@ pub const LOWER: u8 = 0x02;
 
 pub const ENUMERATE: u8 = 0x3E;
 
-// ErrN, the number of data bytes at the front of the lent buffer, and the lamps after the request.
-pub struct LampsReply {
-    pub error: u8,
-    pub length: usize,
-    pub lamps: [Lamp; LAMPS],
-}
-
-// The bitmap as a number: bit k selects lamp k.
-fn mask_of(src: &[u8]) -> u32
-    requires { ⌜ bitmapSize ≤ length (now src) ⌝ }
-    ensures { λ r. ⌜ r ≡ maskOf (now (src .entry)) ⌝ }
+// Whether PData of set, raise and lower is the bitmap and a valid power entry for each selected lamp.
+fn well_formed(pdata: &[u8]) -> bool
+    ensures { λ r. ⌜ r ≡ wellFormed (now (pdata .entry)) ⌝ }
 {
-    let low = word_of(src[0], src[1]);
-    let high = word_of(src[2], src[3]);
-    (wide_word(low) + 65536 * wide_word(high)) as u32
-}
-
-// The number of lamps that the bitmap selects.
-fn selected_count(mask: u32) -> usize
-    ensures { λ r. ⌜ (r ≡ count (bits maxLamps mask)) × (r ≤ maxLamps) ⌝ }
-{
-    u32::count_ones(mask) as usize
-}
-
-// A reply with an error leaves the lamps and has no data.
-fn error_reply(error: u8, lamps: [Lamp; LAMPS]) -> LampsReply
-    ensures { λ r. ⌜ r ≡ record { error = error; length = 0; lamps = lamps } ⌝ }
-{
-    LampsReply {
-        error,
-        length: 0,
-        lamps,
+    if pdata.len() < BITMAP_SIZE {
+        return false;
     }
+    power_entries_ok(pdata, selected_count(mask_of(pdata)))
+}
+
+// Whether a request changes lamps.
+pub fn changes_lamps(pcmd: u8, pdata: &[u8]) -> bool
+    ensures { λ r. ⌜ r ≡ changesLamps pcmd (now (pdata .entry)) ⌝ }
+{
+    if LOWER < pcmd {
+        return false;
+    }
+    well_formed(pdata)
 }
 
 // The command of a PCMD up to LOWER.
-fn command_of(pcmd: u8) -> Command
+pub fn command_of(pcmd: u8) -> Command
     ensures { λ r. ⌜ r ≡ commandOf pcmd ⌝ }
 {
     match pcmd {
@@ -75,65 +61,62 @@ fn command_of(pcmd: u8) -> Command
     }
 }
 
-// Set, raise or lower. Each selected lamp has a power entry in PData and a level in the response.
-fn change_lamps(
-    settings: Settings,
-    lamps: [Lamp; LAMPS],
-    command: Command,
-    pdata: &[u8],
-    out: &mut [u8],
-) -> LampsReply
-    requires { ⌜ (settingsOk settings ≡ true) × LevelsInRange lamps × (maxLamps ≤ length (now out)) ⌝ }
-    ensures { λ r. ⌜ replySeen (r .lamps) (r .error) (r .length) (now (out .exit)) ≡ replyInBuffer (changeLamps settings command (now (pdata .entry)) lamps) (now (out .entry)) ⌝ }
+// A reply with an error has no data.
+fn error_reply(error: u8) -> Reply
+    ensures { λ r. ⌜ r ≡ record { error = error; length = 0 } ⌝ }
 {
-    if pdata.len() < BITMAP_SIZE {
-        return error_reply(error::DATA, lamps);
+    Reply { error, length: 0 }
+}
+
+// The answer to set, raise and lower is the same for each command: the levels before the change.
+fn answer_levels(settings: Settings, lamps: [Lamp; LAMPS], pdata: &[u8], out: &mut [u8]) -> Reply
+    requires { ⌜ (settingsOk settings ≡ true) × LevelsInRange lamps × (maxLamps ≤ length (now out)) ⌝ }
+    ensures { λ r. ⌜ ((c : Command) → replySeen (changeLamps settings c (now (pdata .entry)) lamps .after) (r .error) (r .length) (now (out .exit))
+        ≡ replyInBuffer (changeLamps settings c (now (pdata .entry)) lamps) (now (out .entry))) ⌝ }
+{
+    if !well_formed(pdata) {
+        return error_reply(error::DATA);
     }
-    let mask = mask_of(pdata);
-    let length = selected_count(mask);
-    if !power_entries_ok(pdata, length) {
-        return error_reply(error::DATA, lamps);
-    }
-    let after = apply(settings, command, mask, pdata, lamps, out);
-    LampsReply {
+    let length = write_levels(settings, pdata, lamps, out);
+    Reply {
         error: error::NONE,
         length,
-        lamps: after,
     }
 }
 
-// Returns the lamp count.
-fn enumerate(settings: Settings, lamps: [Lamp; LAMPS], pdata: &[u8], out: &mut [u8]) -> LampsReply
+// The answer to enumerate is the lamp count, whatever the lamps are.
+fn enumerate(settings: Settings, pdata: &[u8], out: &mut [u8]) -> Reply
     requires { ⌜ maxLamps ≤ length (now out) ⌝ }
-    ensures { λ r. ⌜ replySeen (r .lamps) (r .error) (r .length) (now (out .exit)) ≡ replyInBuffer (enumerateLamps settings (now (pdata .entry)) lamps) (now (out .entry)) ⌝ }
+    ensures { λ r. ⌜ ((ls : List Lamp) → replySeen (enumerateLamps settings (now (pdata .entry)) ls .after) (r .error) (r .length) (now (out .exit))
+        ≡ replyInBuffer (enumerateLamps settings (now (pdata .entry)) ls) (now (out .entry))) ⌝ }
 {
     if pdata.len() != 0 {
-        return error_reply(error::DATA_LEN, lamps);
+        return error_reply(error::DATA_LEN);
     }
     out[0] = settings.lamp_count;
-    LampsReply {
+    Reply {
         error: error::NONE,
         length: 1,
-        lamps,
     }
 }
 
-// Executes a request to the lights. The response data is written to the front of out.
+// Answers a request: the response data is written to the front of out. The lamps are left to the caller.
 pub fn request(
     settings: Settings,
     lamps: [Lamp; LAMPS],
     pcmd: u8,
     pdata: &[u8],
     out: &mut [u8],
-) -> LampsReply
+) -> Reply
     requires { ⌜ (settingsOk settings ≡ true) × LevelsInRange lamps × (pdataMax ≤ length (now out)) ⌝ }
-    ensures { λ r. ⌜ replySeen (r .lamps) (r .error) (r .length) (now (out .exit)) ≡ replyInBuffer (lightsRequest settings pcmd (now (pdata .entry)) lamps) (now (out .entry)) ⌝ }
+    ensures { λ r. ⌜ replySeen (lightsRequest settings pcmd (now (pdata .entry)) lamps .after) (r .error) (r .length) (now (out .exit))
+        ≡ replyInBuffer (lightsRequest settings pcmd (now (pdata .entry)) lamps) (now (out .entry)) ⌝ }
 {
     if pcmd == ENUMERATE {
-        return enumerate(settings, lamps, pdata, out);
+        return enumerate(settings, pdata, out);
     }
     if LOWER < pcmd {
-        return error_reply(error::PCMD, lamps);
+        return error_reply(error::PCMD);
     }
-    change_lamps(settings, lamps, command_of(pcmd), pdata, out)
+    answer_levels(settings, lamps, pdata, out)
 }

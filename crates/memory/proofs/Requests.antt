@@ -135,6 +135,20 @@ module _ (m : Memory) (p mem : List ℕ) where
         (λ r. by-cond P (eqb (writeError m p) 0) _ _ (λ z. writes (eqb-true _ _ z)) (λ z. errors _))
         (λ r. errors 2))
 
+    -- the PCMD of a write
+    pub request-write : pcmd ≡ writeCommand m → memoryRequest m pcmd p mem ≡ writeRequest m p mem
+    unfolding memoryRequest
+    request-write e = rw (e, commands-differ m, eq-eqb (writeCommand m) (writeCommand m) refl)
+
+    -- any other request leaves the memory
+    pub request-keeps : (pcmd ≡ writeCommand m → ⊥) → memoryRequest m pcmd p mem .after ≡ mem
+    unfolding memoryRequest readRequest
+    request-keeps n =
+        let same : Reply (List ℕ) → Type 0 = λ (x : Reply (List ℕ)). x .after ≡ mem in
+        by-cond same (eqb pcmd (readCommand m)) _ _
+        (λ _. by-cond same (eqb (readError m p) 0) _ _ (λ _. refl) (λ _. refl))
+        (λ _. by-cond same (eqb pcmd (writeCommand m)) _ _ (λ q. absurd (n (eqb-true _ _ q))) (λ _. refl))
+
     -- a request with an error leaves the memory and returns no data
     pub request-harmless : Harmless mem (memoryRequest m pcmd p mem)
     request-harmless = request-cases (λ (x : Reply (List ℕ)). Harmless mem x) (λ z h. absurd (h refl)) (λ z h. absurd (h refl)) (λ e h. (refl, refl))

@@ -119,3 +119,14 @@ pub fn request(memory: Memory, mem: &mut [u8], pcmd: u8, pdata: &[u8], out: &mut
         length: 0,
     }
 }
+
+// Executes a request that gets no answer: of a memory's requests only a write changes it.
+pub fn change(memory: Memory, mem: &mut [u8], pcmd: u8, pdata: &[u8])
+    requires { ⌜ length (now mem) ≡ sizeOf memory ⌝ }
+    ensures { λ r. ⌜ now (mem .exit) ≡ memoryRequest memory pcmd (now (pdata .entry)) (now (mem .entry)) .after ⌝ }
+{
+    if pcmd != write_command(memory) {
+        return;
+    }
+    write(memory, mem, pdata);
+}

@@ -1,3 +1,4 @@
 pub mod Maps
 pub mod Nodes
 pub mod FrcAnswers
+pub mod LampTests

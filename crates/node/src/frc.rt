@@ -5,6 +5,7 @@ use dpa::number::wide;
 use dpa::pnum;
 use dpa::refusal;
 use lights::lamp::actual_level;
+use lights::lamp::step_inverse;
 ghost use mathlib.Core.Path.{_≡_};
 ghost use mathlib.Core.Bool.{true};
 ghost use Prim.Native.Nat.{_<_};
@@ -77,7 +78,8 @@ fn is_on(node: Node, index: u8, stuck: u32) -> bool
     ensures { λ r. ⌜ r ≡ isOn node index stuck ⌝ }
 {
     let lamp = node.lamps[wide(index)];
-    if actual_level(node.settings, lamp.level) != 0 {
+    let inverse = step_inverse(node.settings);
+    if actual_level(node.settings, inverse, lamp.level) != 0 {
         return true;
     }
     bit_set(stuck, index as u32)

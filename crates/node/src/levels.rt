@@ -6,6 +6,7 @@ use dpa::settings::Settings;
 use lights::lamp::LAMPS;
 use lights::lamp::Lamp;
 use lights::lamp::actual_level;
+use lights::lamp::step_inverse;
 ghost use mathlib.Core.Path.{_≡_};
 ghost use mathlib.Core.Bool.{true};
 ghost use Rattle.dpa.specs.Settings.{settingsOk};
@@ -22,11 +23,12 @@ fn each_level(settings: Settings, lamps: [Lamp; LAMPS]) -> [u8; LAMPS]
     requires { ⌜ (settingsOk settings ≡ true) × LevelsInRange lamps ⌝ }
     ensures { λ r. ⌜ r ≡ actualLevels settings lamps ⌝ }
 {
+    let inverse = step_inverse(settings);
     let mut levels = [0u8; LAMPS];
     let mut i: usize = 0;
     while i < LAMPS {
         let lamp = lamps[i];
-        levels[i] = actual_level(settings, lamp.level);
+        levels[i] = actual_level(settings, inverse, lamp.level);
         i = i + 1;
     }
     levels

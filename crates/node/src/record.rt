@@ -12,7 +12,7 @@ ghost use Prim.Native.Nat.{_≤_};
 ghost use lib.ListN.{getD};
 ghost use Rattle.dpa.specs.Lists.{allBelow};
 ghost use Rattle.dpa.specs.Settings.{maxLamps};
-ghost use Rattle.lights.specs.Lamp.{off, lampFits};
+ghost use Rattle.lights.specs.Lamp.{off, lampOk};
 ghost use Rattle.node.specs.Node.{readOnlyOf, nodeFromParts, lampsOk, nodeOk};
 
 #[repr(C)]
@@ -53,14 +53,14 @@ pub fn node_from_parts(fixed: ReadOnly, lamps: [Lamp; LAMPS], ram: [u8; RAM_SIZE
     }
 }
 
-// Returns whether every implemented lamp follows the lamp rule. The loop has no early exit, so that it can be vectorized.
-fn implemented_ok(count: usize, lamps: [Lamp; LAMPS]) -> bool
-    requires { ⌜ count ≤ maxLamps ⌝ }
-    ensures { λ r. ⌜ r ≡ allBelow count (λ k. lampFits count k (getD lamps k off)) ⌝ }
+// Returns whether every lamp follows the rule of an implemented one, as a lamp of zeros does. The loop has no early exit and always
+// the same length, so that it can be vectorized.
+fn each_ok(lamps: [Lamp; LAMPS]) -> bool
+    ensures { λ r. ⌜ r ≡ allBelow maxLamps (λ k. lampOk (getD lamps k off)) ⌝ }
 {
     let mut ok = true;
     let mut i: usize = 0;
-    while i < count {
+    while i < LAMPS {
         let lamp = lamps[i];
         ok = ok & lamp_ok(lamp);
         i = i + 1;
@@ -73,7 +73,7 @@ fn lamps_ok(count: usize, lamps: [Lamp; LAMPS]) -> bool
     requires { ⌜ count ≤ maxLamps ⌝ }
     ensures { λ r. ⌜ r ≡ lampsOk count lamps ⌝ }
 {
-    let mut ok = implemented_ok(count, lamps);
+    let mut ok = each_ok(lamps);
     let mut i = count;
     while i < LAMPS {
         let lamp = lamps[i];

@@ -8,7 +8,7 @@ use Rattle.handler.proofs.answer.answer_handled.Tie as tie
 
 returns : tie.Need-returns
 returns c =
-    let d = c .before .before .before .args .done in
+    let d = c .before .before .args .done in
     c .request-answer .ensures ∙ ap (requestAnswer 0 (d .length) (d .report) true) (c .before .node-from-parts .ensures)
 
 pub answer-handled-spec : {M : Type 1} → statement M

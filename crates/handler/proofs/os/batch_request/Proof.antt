@@ -10,12 +10,12 @@ abbrev call : tie.After-slice-known6 → tie.After-list-request
 call c = c .before .before .before .before .before .before
 
 returns : tie.Need-returns
-returns c = λ o. outcome-as (c .without-data .ensures) ∙ in-buffer o (batch-empty _ _ (c .before .if1 .taken))
+returns c = λ ls o. outcome-as (c .without-data .ensures) ∙ in-buffer o (batch-empty _ _ (c .before .if1 .taken))
 
 returns-2 : tie.Need-returns-2
-returns-2 c = λ o.
+returns-2 c = λ ls o.
     let check = call c .before .before .before .before in
-    call c .list-request .ensures o
+    call c .list-request .ensures ls o
     ∙ in-buffer o (batch-list _ _ (check .before .if1 .left) (check .check-list .ensures))
 
 pub batch-request-spec : {M : Type 1} → statement M

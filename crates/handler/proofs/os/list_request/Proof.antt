@@ -1,31 +1,34 @@
 -- `list_request`: one law of `listRequest` for each return.
 use borrow.Author.Needs.{needs}
 use mathlib.Core.Path.{ap, sym, _∙_}
-use mathlib.Core.List.{[]}
-use Rattle.dpa.specs.Reply.{reply}
+use mathlib.Core.Bool.{true}
 use Rattle.batch.proofs.Faults.{broken-not-sound}
-use Rattle.handler.specs.Request.{State, replyOnly}
-use Rattle.handler.specs.Seen.{outcomeInBuffer}
+use Rattle.handler.specs.Request.{noReport}
+use Rattle.handler.specs.Seen.{Memories, stateFromParts}
 use Rattle.handler.proofs.Outcomes.{list-broken, list-runs, outcome-as, outcome-broken, in-buffer}
+use Rattle.handler.proofs.Parts.{items-memories}
 use Rattle.handler.proofs.os.list_request.Statement.{statement}
 use Rattle.handler.proofs.os.list_request.Tie as tie
 
--- the call of `run_list`, from the last return
-abbrev run-call : tie.After-without-data → tie.After-run-list
+-- the call of `run_memories`, from the last return
+abbrev run-call : tie.After-without-data → tie.After-run-memories
 run-call c = c .before .before .before .before .before .before .before
 
 returns : tie.Need-returns
-returns c = λ o.
-    let check = c .before .before .before .before .before .before .before .before .args .check in
-    outcome-broken _ o check (c .before .list-error .ensures) (c .list-report .ensures)
+returns c = λ ls o.
+    let a = c .before .before .before .before .before .before .before .before .args in
+    outcome-broken (stateFromParts (a .fixed) ls (a .ram .now) (a .eeprom .now) (a .external .now)) o (a .check) (c .before .list-error .ensures) (c .list-report .ensures)
     ∙ in-buffer o (list-broken _ _ _ (λ z. broken-not-sound (sym (c .before .before .enum-told2 .given .1) ∙ z)))
 
 returns-2 : tie.Need-returns-2
-returns-2 c = λ o.
+returns-2 c = λ ls o.
     let run = run-call c in
+    let told = run .before .before .before .before in
+    let a = told .before .before .before .before .before .before .args in
     outcome-as (c .without-data .ensures)
-    ∙ ap (λ (x : State). outcomeInBuffer (replyOnly (reply x 0 [])) o) (run .run-list .ensures)
-    ∙ in-buffer o (list-runs _ _ _ (run .before .before .before .before .enum-told .given .1))
+    ∙ ap (λ (ms : Memories). record { answered = true; after = ms; error = 0; length = 0; report = noReport; out = o })
+    (run .run-memories .ensures ∙ sym (items-memories (a .list .now) (stateFromParts (a .fixed) ls (a .ram .now) (a .eeprom .now) (a .external .now))))
+    ∙ in-buffer o (list-runs _ _ _ (told .enum-told .given .1))
 
 pub list-request-spec : {M : Type 1} → statement M
 list-request-spec =

@@ -13,22 +13,22 @@ abbrev selective-call : tie.After-slice-known11 → tie.After-selective-request
 selective-call c = c .before .before .before .before .before .before
 
 returns : tie.Need-returns
-returns c =
+returns c = λ ls.
     let run = batch-call c in
-    run .batch-request .ensures _ ∙ in-buffer _ (os-batch _ _ _ (run .before .before .before .before .if1 .taken))
+    run .batch-request .ensures ls _ ∙ in-buffer _ (os-batch _ _ _ (run .before .before .before .before .if1 .taken))
 
 returns-2 : tie.Need-returns-2
-returns-2 c =
+returns-2 c = λ ls.
     let check = c .before .before in
     outcome-check _ _ _ (check .code-check .ensures) ∙ in-buffer _ (os-check _ _ _ (check .before .before .before .if2 .taken))
 
 returns-3 : tie.Need-returns-3
-returns-3 c =
+returns-3 c = λ ls.
     let run = selective-call c in
-    run .selective-request .ensures _ ∙ in-buffer _ (os-selective _ _ _ (run .before .before .before .before .if3 .taken))
+    run .selective-request .ensures ls _ ∙ in-buffer _ (os-selective _ _ _ (run .before .before .before .before .if3 .taken))
 
 returns-4 : tie.Need-returns-4
-returns-4 c =
+returns-4 c = λ ls.
     let test = c .before in
     outcome-as (c .without-data .ensures) ∙ in-buffer _ (os-unknown _ _ _ (test .before .before .if1 .left) (test .before .if2 .left) (test .if3 .left))
 

@@ -25,19 +25,19 @@ long : (c : tie.After-known-told) → selectivePdataMin ≤ length (start c .arg
 long c = selected-long _ _ (sym (c .before .before .before .select .ensures) ∙ c .before .check .given .1)
 
 returns : tie.Need-returns
-returns c = λ o.
+returns c = λ ls o.
     outcome-as (c .without-data .ensures)
     ∙ in-buffer o (selective-as _ _ (sym (c .before .before .before .select .ensures) ∙ c .before .enum-told .given .1))
 
 returns-2 : tie.Need-returns-2
-returns-2 c = λ o.
+returns-2 c = λ ls o.
     outcome-as (c .unanswered .ensures)
     ∙ in-buffer o (selective-as _ _ (sym (c .before .before .before .select .ensures) ∙ c .before .enum-told2 .given .1))
 
 returns-3 : tie.Need-returns-3
-returns-3 c = λ o.
+returns-3 c = λ ls o.
     let known = call c .before .before .before .before .before in
-    call c .list-request .ensures o
+    call c .list-request .ensures ls o
     ∙ list-same _ _ o (slice-to-end nodeSetSize (start known .args .pdata .now))
     ∙ in-buffer o (selective-as _ _ (sym (known .before .before .before .select .ensures) ∙ known .before .check .given .1))
 

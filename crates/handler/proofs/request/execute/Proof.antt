@@ -5,6 +5,7 @@ use mathlib.Core.Path.{_≡_, sym, _∙_}
 use mathlib.Core.Bool.{true}
 use Rattle.handler.specs.Request.{hwpidMatches, peripheralRequest}
 use Rattle.handler.proofs.Outcomes.{execute-mismatch, execute-os, execute-peripheral, outcome-as, outcome-reply-only, in-buffer}
+use Rattle.handler.proofs.Parts.{sound-sized}
 use Rattle.handler.proofs.request.execute.Statement.{statement}
 use Rattle.handler.proofs.request.execute.Tie as tie
 
@@ -30,11 +31,16 @@ returns c =
     outcome-as (c .without-data .ensures)
     ∙ in-buffer _ (execute-mismatch _ _ (sym (c .before .before .hwpid-matches .ensures) ∙ not-true _ (c .before .if1 .taken)))
 
+os-request-requires : tie.Need-os-request-requires
+os-request-requires c κs =
+    let s = start (c .before .before .before .before .before .before) in
+    (sound-sized _ (s .pre .0), s .pre .1)
+
 returns-2 : tie.Need-returns-2
 returns-2 c =
     let call = os-call c in
     let test = call .before .before .before .before .before in
-    call .os-request .ensures ∙ in-buffer _ (execute-os _ _ (hwpid-ok (test .before .before)) (test .if2 .taken))
+    call .os-request .ensures _ ∙ in-buffer _ (execute-os _ _ (hwpid-ok (test .before .before)) (test .if2 .taken))
 
 returns-3 : tie.Need-returns-3
 returns-3 c =
@@ -47,6 +53,6 @@ returns-3 c =
 
 pub execute-spec : {M : Type 1} → statement M
 execute-spec =
-    tie.close (tie.spec (λ c κs. search needs) (λ c κs. search needs) returns (λ c κs. search needs) (λ c. search needs)
+    tie.close (tie.spec (λ c κs. search needs) (λ c κs. search needs) returns os-request-requires (λ c. search needs)
     (λ c. search needs) (λ c. search needs) (λ c. search needs) returns-2 (λ c κs. search needs) (λ c κs. search needs)
     (λ c. search needs) (λ c. search needs) (λ c. search needs) (λ c. search needs) returns-3)

@@ -1,20 +1,21 @@
 -- `handle_broadcast`: the outcome of `execute`, without a response.
 use borrow.Author.Needs.{needs}
 use mathlib.Core.Path.{ap, _∙_}
-use mathlib.Core.Bool.{true}
+use mathlib.Core.Bool.{_&&_}
+use lib.Dec.{eqb}
 use Rattle.handler.specs.Seen.{SeenOutcome}
-use Rattle.handler.proofs.Calls.{handled-as}
+use Rattle.handler.proofs.Calls.{handled-same}
 use Rattle.handler.proofs.request.handle_broadcast.Statement.{statement}
 use Rattle.handler.proofs.request.handle_broadcast.Tie as tie
 
 -- the call of `execute`, from the return
-abbrev call : tie.After-without-response → tie.After-execute
+abbrev call : tie.After-handled-as → tie.After-execute
 call c = c .before .before .before .before .before .before .before .before
 
 returns : tie.Need-returns
 returns c = λ o.
-    handled-as (c .without-response .ensures)
-    ∙ ap (λ (l : SeenOutcome). record { after = l .after; refusal = 0; length = 0; report = l .report; addressed = true; response = o }) (call c .execute .ensures)
+    handled-same (c .handled-as .ensures)
+    ∙ ap (λ (l : SeenOutcome). record { success = l .answered && eqb (l .error) 0; after = l .after; length = 0; report = l .report; response = o }) (call c .execute .ensures)
 
 pub handle-broadcast-spec : {M : Type 1} → statement M
 handle-broadcast-spec =

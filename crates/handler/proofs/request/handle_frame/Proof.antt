@@ -1,127 +1,120 @@
 -- `handle_frame`: one law of `handleFrame` for each return. The code works on the parts of the node.
 use borrow.Author.Needs.{needs}
+use borrow.Author.Tests.{not-true, not-false}
 use mathlib.Core.Path.{_≡_, ap, sym, subst, _∙_}
-use mathlib.Core.List.{[]}
-use Rattle.dpa.specs.declared.frame.Frame.{Frame}
+use mathlib.Core.Bool.{Bool, cond, _||_}
 use Prim.Native.Nat.{_-_}
+use lib.Dec.{eqb}
 use lib.ListN.{length, take, drop}
-use Rattle.dpa.specs.Frame.{headerSize, headerOf}
+use Rattle.dpa.specs.declared.frame.Frame.{Frame}
+use Rattle.dpa.specs.Frame.{headerSize, broadcastNadr, headerOf}
 use Rattle.batch.specs.Batch.{Item}
 use Rattle.node.specs.declared.record.ReadOnly.{ReadOnly}
 use Rattle.node.proofs.Nodes.{node-ram}
 use Rattle.handler.specs.declared.reply.Report.{Report}
-use Rattle.handler.specs.Request.{State, SoundState, headerItem, frameItem, execute, CallResult, unansweredResult, unicastResult}
-use Rattle.handler.specs.Seen.{stateFromParts}
-use Rattle.handler.proofs.Calls.{frame-item-read, frame-broadcast, frame-unicast, frame-other, unicast-report, call-result-as}
+use Rattle.handler.specs.Request.{State, SoundState, Outcome, headerItem, frameItem, execute}
+use Rattle.handler.specs.Seen.{stateFromParts, SeenHandled, addressedResult, lampsAfterSuccess, succeeded}
+use Rattle.handler.proofs.Calls.{frame-item-read, frame-addressed, frame-other, addressed-report, addressed-call, call-result-as}
+use Rattle.handler.proofs.Parts.{request-settings, request-lamps, success-known}
 use Rattle.handler.proofs.Sizes.{frame-place}
 use Rattle.handler.proofs.request.handle_frame.Statement.{statement}
 use Rattle.handler.proofs.request.handle_frame.Tie as tie
+
+-- the start, from after the node was split
+abbrev start : tie.After-read-only → tie.Start
+start c = c .before .before .before .before .before .before .before .before .before
 
 -- the state at the start, with the read-only part of the node
 abbrev inParts : tie.Start → ReadOnly → State
 inParts c k = stateFromParts k (c .args .node .lamps) (c .args .node .ram) (c .args .eeprom .now) (c .args .external .now)
 
--- the start, from after the node was split
-abbrev start : tie.After-read-only → tie.Start
-start c = c .before .before .before .before .before .before .before
+-- where the address was tested, from where the node was split, and where the header was read
+abbrev tested : tie.After-read-only → tie.Else1
+tested c = c .before .before
 
--- where the node was split, by the tests of the address: a broadcast, this node, another node
-abbrev parts-all : tie.Then1 → tie.After-read-only
-parts-all c = c .before .before .before .before
+abbrev header : tie.After-read-only → Frame
+header c = tested c .before .before .read .result
 
-abbrev parts-own : tie.Then2 → tie.After-read-only
-parts-own c = c .before .before .before .before .before .before .before
+-- the node was split, from the call of `handle_addressed` and from what follows it
+abbrev split : tie.After-handle-addressed → tie.After-read-only
+split c = c .before .before .before .before .before .before .before
 
-abbrev parts-other : tie.Else2 → tie.After-read-only
-parts-other c = c .before .before .before .before .before .before .before
+abbrev call : tie.After-slice-known6 → tie.After-handle-addressed
+call c = c .before .before .before .before .before .before .before
 
--- where the header was read, from where the node was split
-abbrev header : tie.After-read-only → tie.After-read
-header c = c .before .before
+-- the request as the code reads it, and its outcome
+abbrev asked : tie.After-read-only → Item
+asked c =
+    let f = start c .args .frame .now in
+    headerItem (header c) (take (length f - headerSize) (drop headerSize f))
 
--- the two calls, from their returns
-abbrev broadcast : tie.After-answer-handled → tie.After-handle-broadcast
-broadcast c = c .before .before .before .before .before .before
+abbrev done : tie.After-read-only → Outcome
+done c = execute (asked c) (inParts (start c) (c .read-only .result))
 
-abbrev unicast : tie.After-answer-handled2 → tie.After-handle-unicast
-unicast c = c .before .before .before .before .before .before .before .before
-
--- the address that was read is the frame's
-nadr-is : (c : tie.After-read) → c .read .result .nadr ≡ headerOf (c .before .before .before .before .before .args .frame .now) .nadr
-nadr-is c = ap (λ (h : Frame). h .nadr) (c .read .ensures)
+-- the test of the address, on the frame
+address-test : (c : tie.After-addressed) →
+    let a = c .before .before .before .before .before .before .args in
+    (eqb (headerOf (a .frame .now) .nadr) broadcastNadr || eqb (headerOf (a .frame .now) .nadr) (a .node .settings .address)) ≡ c .addressed .result
+address-test c =
+    let a = c .before .before .before .before .before .before .args in
+    ap (λ (h : Frame). eqb (h .nadr) broadcastNadr || eqb (h .nadr) (a .node .settings .address)) (sym (c .before .read .ensures)) ∙ sym (c .addressed .ensures)
 
 -- the parts are a sound state
 parts-sound : (c : tie.After-read-only) → SoundState (inParts (start c) (c .read-only .result))
 parts-sound c = subst (λ (k : ReadOnly). SoundState (inParts (start c) k)) (sym (c .read-only .ensures)) (start c .pre .0)
 
-handle-broadcast-requires : tie.Need-handle-broadcast-requires
-handle-broadcast-requires c κs = parts-sound (parts-all (c .before .before .before))
+returns : tie.Need-returns
+returns c =
+    call-result-as (c .answer-unhandled .ensures)
+    ∙ sym (frame-other _ _ _ (address-test (c .before .before) ∙ not-true _ (c .before .if1 .taken)))
+
+slice-aggregate-handle-addressed : tie.Need-slice-aggregate-handle-addressed
+slice-aggregate-handle-addressed c = sym (node-ram _ (start (c .before .before .before) .pre .0 .node-ok))
+
+handle-addressed-requires : tie.Need-handle-addressed-requires
+handle-addressed-requires c κs =
+    let parts = c .before .before .before .before .before .before in
+    (parts-sound parts, start parts .pre .3)
+
+-- whether the request succeeded
+success-is : (c : tie.After-handle-addressed) → c .handle-addressed .result .success ≡ succeeded (done (split c))
+success-is c = ap (λ (l : SeenHandled). l .success) (c .handle-addressed .ensures)
+
+lamps-after-requires : tie.Need-lamps-after-requires
+lamps-after-requires c κs =
+    let parts = split (call c) in
+    λ e. success-known (asked parts) (inParts (start parts) (parts .read-only .result)) (sym (success-is (call c)) ∙ e)
 
 answer-handled-requires : tie.Need-answer-handled-requires
 answer-handled-requires c κs =
-    let call = c .before .before .before .before .before in
-    let parts = parts-all (call .before .before .before .before) in
-    let s = start parts in
-    frame-place (s .args .frame .now) (s .pre .2) (header parts .read .result) (inParts s (parts .read-only .result))
-    (ap (λ (a : CallResult). a .report .place) (call .handle-broadcast .ensures []))
-
-answer-handled-requires-2 : tie.Need-answer-handled-requires-2
-answer-handled-requires-2 c κs =
-    let call = c .before .before .before .before .before .before .before in
-    let parts = parts-own (call .before .before .before .before .before) in
+    let handled = call (c .before) in
+    let parts = split handled in
     let s = start parts in
     let k = parts .read-only .result in
-    let f = s .args .frame .now in
-    let i = headerItem (header parts .read .result) (take (length f - headerSize) (drop headerSize f)) in
-    frame-place f (s .pre .2) (header parts .read .result) (inParts s k)
-    (ap (λ (a : CallResult). a .report .place) (call .handle-unicast .ensures)
-    ∙ ap (λ (r : Report). r .place) (unicast-report (k .settings) i (execute i (inParts s k)) (s .args .response .now)))
-
-returns : tie.Need-returns
-returns c =
-    let call = broadcast c in
-    let test = call .before .before .before .before in
-    let parts = parts-all test in
-    let s = start parts in
-    let f = s .args .frame .now in
-    let o = s .args .response .now in
-    call-result-as (c .answer-handled .ensures)
-    ∙ call .handle-broadcast .ensures o
-    ∙ ap (λ (i : Item). unansweredResult (execute i (inParts s (parts .read-only .result))) o) (frame-item-read f (header parts .read .ensures))
-    ∙ ap (λ (k : ReadOnly). unansweredResult (execute (frameItem f) (inParts s k)) o) (parts .read-only .ensures)
-    ∙ sym (frame-broadcast _ _ _ (sym (nadr-is (header parts)) ∙ test .if1 .taken))
-
-slice-aggregate-handle-unicast : tie.Need-slice-aggregate-handle-unicast
-slice-aggregate-handle-unicast c = sym (node-ram _ (start (parts-own (c .before)) .pre .0 .node-ok))
-
-handle-unicast-requires : tie.Need-handle-unicast-requires
-handle-unicast-requires c κs =
-    let parts = parts-own (c .before .before .before .before) in
-    (parts-sound parts, start parts .pre .3)
+    frame-place (s .args .frame .now) (s .pre .2) (header parts) (inParts s k)
+    (ap (λ (l : SeenHandled). l .report .place) (handled .handle-addressed .ensures)
+    ∙ ap (λ (r : Report). r .place) (addressed-report (k .settings) (header parts) (asked parts) (done parts) (s .args .response .now)))
 
 returns-2 : tie.Need-returns-2
 returns-2 c =
-    let call = unicast c in
-    let test = call .before .before .before .before .before in
-    let parts = parts-own test in
+    let lamps = c .before in
+    let handled = call (lamps .before) in
+    let parts = split handled in
     let s = start parts in
+    let k = parts .read-only .result in
     let f = s .args .frame .now in
     let o = s .args .response .now in
-    call-result-as (c .answer-handled2 .ensures)
-    ∙ call .handle-unicast .ensures
-    ∙ ap (λ (i : Item). unicastResult (parts .read-only .result .settings) i (execute i (inParts s (parts .read-only .result))) o) (frame-item-read f (header parts .read .ensures))
-    ∙ ap (λ (k : ReadOnly). unicastResult (k .settings) (frameItem f) (execute (frameItem f) (inParts s k)) o) (parts .read-only .ensures)
-    ∙ sym (frame-unicast _ _ _ (λ z. test .before .before .before .if1 .left (nadr-is (header parts) ∙ z)) (sym (nadr-is (header parts)) ∙ test .if2 .taken))
-
-returns-3 : tie.Need-returns-3
-returns-3 c =
-    let h = header (parts-other (c .before)) in
-    call-result-as (c .answer-unhandled .ensures)
-    ∙ sym (frame-other _ _ _ (λ z. c .before .before .before .before .if1 .left (nadr-is h ∙ z)) (λ z. c .before .if2 .left (nadr-is h ∙ z)))
+    let i = asked parts in
+    call-result-as (c .answer-handled .ensures)
+    ∙ addressed-call k (header parts) i (done parts) o (handled .handle-addressed .ensures) (sym (request-settings i (inParts s k)))
+    (lamps .lamps-after .ensures ∙ ap (λ (b : Bool). cond b (lampsAfterSuccess (k .settings) i (s .args .node .lamps)) (s .args .node .lamps)) (success-is handled) ∙ sym (request-lamps i (inParts s k)))
+    ∙ ap (λ (j : Item). addressedResult (k .settings) (header parts) j (execute j (inParts s k)) o) (frame-item-read f (tested parts .before .before .read .ensures))
+    ∙ ap (λ (h : Frame). addressedResult (k .settings) h (frameItem f) (execute (frameItem f) (inParts s k)) o) (tested parts .before .before .read .ensures)
+    ∙ ap (λ (r : ReadOnly). addressedResult (r .settings) (headerOf f) (frameItem f) (execute (frameItem f) (inParts s r)) o) (parts .read-only .ensures)
+    ∙ sym (frame-addressed _ _ _ (address-test (tested parts .before) ∙ not-false _ (tested parts .if1 .left)))
 
 pub handle-frame-spec : {M : Type 1} → statement M
 handle-frame-spec =
-    tie.close (tie.spec (λ c κs. search needs) (λ c. search needs) (λ c. search needs) (λ c. search needs)
-    (λ c κs. search needs) (λ c. search needs) handle-broadcast-requires answer-handled-requires (λ c. search needs)
-    (λ c. search needs) returns slice-aggregate-handle-unicast handle-unicast-requires answer-handled-requires-2
-    (λ c. search needs) (λ c. search needs) (λ c. search needs) returns-2 (λ c κs. search needs) returns-3)
+    tie.close (tie.spec (λ c κs. search needs) (λ c κs. search needs) (λ c κs. search needs) returns (λ c. search needs) (λ c. search needs) (λ c. search needs)
+    (λ c κs. search needs) slice-aggregate-handle-addressed handle-addressed-requires lamps-after-requires answer-handled-requires
+    (λ c. search needs) (λ c. search needs) (λ c. search needs) returns-2)

@@ -11,13 +11,13 @@ use Rattle.lights.proofs.request.enumerate.Statement.{statement}
 use Rattle.lights.proofs.request.enumerate.Tie as tie
 
 returns : tie.Need-returns
-returns c =
+returns c ls =
     let a = c .before .before .before .before .args in
-    reply-error _ _ 5 (a .lamps) (now (a .out)) (c .error-reply .ensures) (enumerate-with-data (a .settings) (now (a .pdata)) (a .lamps) (c .before .if1 .taken))
+    reply-error _ _ 5 ls (now (a .out)) (c .error-reply .ensures) (enumerate-with-data (a .settings) (now (a .pdata)) ls (c .before .if1 .taken))
 
 returns-2 : tie.Need-returns-2
 unfolding enumerateLamps
-returns-2 c =
+returns-2 c ls =
     let a = c .before .before .before .args in
     rw (eq-eqb (length (now (a .pdata))) 0 (c .if1 .left), set-first (now (a .out)) (a .settings .«lamp_count») (omega arith))
 

@@ -13,17 +13,20 @@ use Rattle.node.proofs.levels.each_level.Statement.{statement}
 use Rattle.node.proofs.levels.each_level.Tie as tie
 
 abbrev Inv-loop : tie.InvT-loop
-Inv-loop settings lamps levels₀ i₀ levels i =
+Inv-loop settings lamps inverse levels₀ i₀ levels i =
     (i ≤ maxLamps) × (levels ≡ map (λ (l : Lamp). actualLevel settings (l .level)) (take i lamps) ++ drop i levels₀)
 
 abbrev μ-loop : tie.MeasureT-loop
-μ-loop settings lamps levels₀ i₀ levels i = maxLamps - i
+μ-loop settings lamps inverse levels₀ i₀ levels i = maxLamps - i
 
 loop-holds : tie.Need-loop-holds Inv-loop μ-loop
 loop-holds c = (omega arith, refl)
 
 actual-level-requires : tie.Need-actual-level-requires Inv-loop μ-loop
-actual-level-requires c κs = let p = c .before .before .before .pre in (p .0, p .1 (c .before .before .loop .i))
+actual-level-requires c κs =
+    let inverse = c .before .before .before in
+    let p = inverse .before .pre in
+    (p .0, p .1 (c .before .before .loop .i), inverse .step-inverse .ensures)
 
 loop-again : tie.Need-loop-again Inv-loop μ-loop
 loop-again c =
@@ -36,5 +39,5 @@ returns c = map-done _ _ _ _ (c .before .loop .i) (c .before .loop .inv .1) (ome
 
 pub each-level-spec : {M : Type 1} → statement M
 each-level-spec =
-    tie.close (tie.spec Inv-loop μ-loop loop-holds (λ c. omega arith) (λ c. omega arith) actual-level-requires
-    (λ c. omega arith) (λ c. omega arith) (λ c. omega arith) loop-again returns)
+    tie.close (tie.spec Inv-loop μ-loop (λ c κs. c .pre .0) loop-holds (λ c. omega arith) (λ c. omega arith)
+    actual-level-requires (λ c. omega arith) (λ c. omega arith) (λ c. omega arith) loop-again returns)

@@ -1,4 +1,4 @@
--- `run_list`: a loop over the entries; `PartlyRun` is its invariant.
+-- `run_memories`: a loop over the entries; `PartlyRun` is its invariant.
 use borrow.Author.Needs.{needs}
 use borrow.Author.Tests.{not-false}
 use native.Mathlib.Omega.{arith}
@@ -8,18 +8,18 @@ use Prim.Native.Nat.{ℕ, _-_, _+_, _≤_}
 use lib.ListN.{length, take, drop}
 use Rattle.batch.specs.declared.entry.NextEntry.the-variants.{Entry}
 use Rattle.batch.specs.Batch.{entryHeadSize, nextEntry}
-use Rattle.handler.specs.Seen.{stateFromParts}
+use Rattle.handler.specs.Seen.{memories}
 use Rattle.handler.proofs.Batches.{PartlyRun, run-starts, run-ends, entry-in-list, entry-runs, fault-ends}
-use Rattle.handler.proofs.entries.run_list.Statement.{statement}
-use Rattle.handler.proofs.entries.run_list.Tie as tie
+use Rattle.handler.proofs.entries.run_memories.Statement.{statement}
+use Rattle.handler.proofs.entries.run_memories.Tie as tie
 
 abbrev Inv-loop : tie.InvT-loop
-Inv-loop fixed lamps₀ list ram₀ eeprom₀ external₀ at₀ lamps ram eeprom external at =
-    PartlyRun list (stateFromParts fixed lamps₀ ram₀ eeprom₀ external₀) at (stateFromParts fixed lamps ram eeprom external)
+Inv-loop settings list ram₀ eeprom₀ external₀ at₀ ram eeprom external at =
+    PartlyRun settings list (memories ram₀ eeprom₀ external₀) at (memories ram eeprom external)
     × (length ram ≡ length ram₀) × (length eeprom ≡ length eeprom₀) × (length external ≡ length external₀)
 
 abbrev μ-loop : tie.MeasureT-loop
-μ-loop fixed lamps₀ list ram₀ eeprom₀ external₀ at₀ lamps ram eeprom external at = length list - at
+μ-loop settings list ram₀ eeprom₀ external₀ at₀ ram eeprom external at = length list - at
 
 -- the loop, from where an entry or a fault was read
 abbrev at-loop : tie.After-next-entry Inv-loop μ-loop → tie.At-loop Inv-loop μ-loop
@@ -54,33 +54,33 @@ read c = c .before .before .before .before .before
 
 -- it lies in the list
 sized : (c : tie.After-known-told Inv-loop μ-loop) → (entryHeadSize ≤ len c) × (position c + len c ≤ length (list c))
-sized c = entry-in-list _ _ _ _ (iteration c .loop .inv .0) (first-entry-is c)
+sized c = entry-in-list _ _ _ _ _ (iteration c .loop .inv .0) (first-entry-is c)
 
 loop-holds : tie.Need-loop-holds Inv-loop μ-loop
-loop-holds c = (run-starts _ _ (c .before .before .before .before .pre), refl, refl, refl)
+loop-holds c = (run-starts _ _ _ (c .before .before .before .before .pre), refl, refl, refl)
 
 returns : tie.Need-returns Inv-loop μ-loop
 returns c =
-    fault-ends _ _ _ _ (at-loop (c .before .before) .loop .inv .0) (sym (c .before .before .next-entry .ensures) ∙ c .enum-told .given .1)
+    fault-ends _ _ _ _ _ (at-loop (c .before .before) .loop .inv .0) (sym (c .before .before .next-entry .ensures) ∙ c .enum-told .given .1)
 
 run-entry-requires : tie.Need-run-entry-requires Inv-loop μ-loop
-run-entry-requires c κs = iteration (c .before .before .before .before) .loop .inv .0 .sound
+run-entry-requires c κs = iteration (c .before .before .before .before) .loop .inv .0 .sized
 
 loop-again : tie.Need-loop-again Inv-loop μ-loop
 loop-again c =
     let call = run-call c in
     let i = iteration (read call) .loop .inv in (
-      entry-runs _ _ _ _ (i .0) (first-entry-is (read call)) (call .run-entry .ensures),
-      call .run-entry .kept .1 .1 .1 .1 .1 .1 .0 ∙ i .1,
-      call .run-entry .kept .1 .1 .1 .1 .1 .1 .1 .0 ∙ i .2,
-      call .run-entry .kept .1 .1 .1 .1 .1 .1 .1 .1 .0 ∙ i .3,
+      entry-runs _ _ _ _ _ (i .0) (first-entry-is (read call)) (call .run-entry .ensures),
+      call .run-entry .kept .1 .1 .1 .1 .1 .0 ∙ i .1,
+      call .run-entry .kept .1 .1 .1 .1 .1 .1 .0 ∙ i .2,
+      call .run-entry .kept .1 .1 .1 .1 .1 .1 .1 .0 ∙ i .3,
     )
 
 returns-2 : tie.Need-returns-2 Inv-loop μ-loop
-returns-2 c = run-ends _ _ _ _ (c .before .before .before .loop .inv .0) (sym (c .before .at-end .ensures) ∙ not-false _ (c .if1 .left))
+returns-2 c = run-ends _ _ _ _ _ (c .before .before .before .loop .inv .0) (sym (c .before .at-end .ensures) ∙ not-false _ (c .if1 .left))
 
-pub run-list-spec : {M : Type 1} → statement M
-run-list-spec =
+pub run-memories-spec : {M : Type 1} → statement M
+run-memories-spec =
     tie.close (tie.spec Inv-loop μ-loop loop-holds (λ c. omega (arith, c .loop .inv .0 .position-max))
     (λ c. omega (arith, c .loop .inv .0 .position-max)) (λ c. search needs) (λ c κs. search needs)
     (λ c. omega (arith, c .before .before .before .loop .inv .0 .position-max))

@@ -1,0 +1,60 @@
+-- `lamps::change_lamps`: a loop over the changes; `PartlyChanged` is its invariant.
+use borrow.Author.Needs.{needs}
+use borrow.Author.Tests.{not-true, not-false}
+use native.Mathlib.Omega.{arith}
+use mathlib.Core.Logic.{⊎-elim}
+use mathlib.Core.Path.{_≡_}
+use mathlib.Core.Bool.{true}
+use Prim.Native.Nat.{_-_, _<_}
+use lib.ListN.{length}
+use Rattle.dpa.specs.Settings.{maxLamps}
+use Rattle.handler.proofs.LampChanges.{PartlyChanged, changes-start, changes-end, changes-implemented, changes-unimplemented}
+use Rattle.handler.proofs.lamps.change_lamps.Statement.{statement}
+use Rattle.handler.proofs.lamps.change_lamps.Tie as tie
+
+abbrev Inv-loop : tie.InvT-loop
+Inv-loop settings bytes implemented after₀ walk₀ after walk = PartlyChanged settings bytes walk₀ after₀ walk after
+
+abbrev μ-loop : tie.MeasureT-loop
+μ-loop settings bytes implemented after₀ walk₀ after walk = length bytes - walk .at
+
+lamps-length : (c : tie.Start Inv-loop μ-loop) → length (c .args .lamps) ≡ maxLamps
+lamps-length c = search needs
+
+loop-holds : tie.Need-loop-holds Inv-loop μ-loop
+loop-holds c = changes-start _ _ _ _ (lamps-length (c .before .before)) (c .before .before .pre)
+
+returns : tie.Need-returns Inv-loop μ-loop
+returns c = changes-end (c .before .before .before .loop .inv) _ (c .before .before .next-change .ensures) (not-true _ (c .if1 .taken))
+
+-- there is a next change
+found : (c : tie.Else1 Inv-loop μ-loop) → c .before .before .next-change .result .found ≡ true
+found c = not-false _ (c .if1 .left)
+
+-- its lamp exists
+inside : (c : tie.Else1 Inv-loop μ-loop) → c .before .before .next-change .result .lamp < maxLamps
+inside c = c .before .before .next-change .ensures .some (found c) .lamp-max
+
+loop-less : tie.Need-loop-less Inv-loop μ-loop
+loop-less c =
+    let t = c .before .before in
+    let x = t .before .before .next-change .ensures .some (found t) in
+    omega (arith, x .further, x .ok .at-max, x .ok .next-max)
+
+-- the ways through the loop body: a lamp that is implemented, and one that is not
+loop-again : tie.Need-loop-again Inv-loop μ-loop
+loop-again c =
+    let t = c .before .before in
+    let n = t .before .before .before .before .wide in
+    let i = t .before .before .before .loop .inv in
+    let x = t .before .before .next-change .ensures in
+    ⊎-elim
+    (λ u. rw (u .3) (changes-implemented i _ x (found t) _ (n .ensures .0) _ (u .0 .taken) (u .2 .ensures)))
+    (λ u. rw (u .1) (changes-unimplemented i _ x (found t) _ (n .ensures .0) (u .0 .left)))
+    (c .before .if2 .came)
+
+pub change-lamps-spec : {M : Type 1} → statement M
+change-lamps-spec =
+    tie.close (tie.spec Inv-loop μ-loop (λ c κs. search needs) loop-holds (λ c κs. c .loop .inv .ok) returns
+    (λ c. omega (arith, inside (c .before))) (λ c. inside (c .before)) (λ c κs. search needs)
+    (λ c. omega (arith, inside (c .before .before .before))) (λ c. inside (c .before .before .before)) loop-less loop-again)

@@ -1,0 +1,45 @@
+// The levels that set, raise and lower return, in one loop over the bitmap from its lowest bit.
+use crate::bitmap::mask_of;
+use crate::lamp::LAMPS;
+use crate::lamp::Lamp;
+use crate::lamp::actual_level;
+use crate::lamp::step_inverse;
+use dpa::number::wide;
+use dpa::settings::Settings;
+ghost use mathlib.Core.Path.{_≡_};
+ghost use mathlib.Core.Bool.{true};
+ghost use Prim.Native.Nat.{_≤_};
+ghost use lib.ListN.{length};
+ghost use Rattle.dpa.specs.Lists.{overwriteFront};
+ghost use Rattle.dpa.specs.Settings.{settingsOk, maxLamps};
+ghost use Rattle.lights.specs.Bits.{bitmapSize, bitmap};
+ghost use Rattle.lights.specs.Lamp.{LevelsInRange};
+ghost use Rattle.lights.specs.Lights.{levelsBefore};
+
+// Writes the actual levels of the selected lamps to the front of out, 0 for an unimplemented one, and returns how many.
+pub fn write_levels(settings: Settings, pdata: &[u8], lamps: [Lamp; LAMPS], out: &mut [u8]) -> usize
+    requires { ⌜ (settingsOk settings ≡ true) × LevelsInRange lamps × (maxLamps ≤ length (now out)) × (bitmapSize ≤ length (now pdata)) ⌝ }
+    ensures { λ r. ⌜ (r ≡ length (levelsBefore settings (settings .«lamp_count») (bitmap (now (pdata .entry))) lamps))
+        × (now (out .exit) ≡ overwriteFront (levelsBefore settings (settings .«lamp_count») (bitmap (now (pdata .entry))) lamps) (now (out .entry))) ⌝ }
+{
+    let implemented = wide(settings.lamp_count);
+    let inverse = step_inverse(settings);
+    // The bits of lamp i and of the lamps above it.
+    let mut remaining = mask_of(pdata);
+    let mut written: usize = 0;
+    let mut i: usize = 0;
+    while remaining != 0 {
+        if remaining % 2 == 1 {
+            if i < implemented {
+                let lamp = lamps[i];
+                out[written] = actual_level(settings, inverse, lamp.level);
+            } else {
+                out[written] = 0;
+            }
+            written = written + 1;
+        }
+        remaining = remaining / 2;
+        i = i + 1;
+    }
+    written
+}
