@@ -1,6 +1,7 @@
 //! The reference's rules implemented for speed and without allocation, as the
 //! benchmark's baseline. `sessions.rs` compares it with the plain reference.
 use super::ffi::{CompileAnswer, Lamp, Node, NodeAnswer, NodeSet, RequestAnswer};
+use std::slice::{from_raw_parts, from_raw_parts_mut};
 
 fn sound(node: &Node) -> bool {
     let s = &node.settings;
@@ -65,8 +66,31 @@ fn refusal(node: &Node, frame: &[u8], eeprom: &[u8], external: &[u8], response: 
     }
 }
 
+/// # Safety
+/// Each pointer and length is a slice; those that are written overlap no other.
 #[inline(never)]
-pub fn handle_request(
+pub unsafe extern "C" fn handle_request_c(
+    node: Node,
+    frame: *const u8,
+    frame_length: usize,
+    eeprom: *mut u8,
+    eeprom_length: usize,
+    external: *mut u8,
+    external_length: usize,
+    response: *mut u8,
+    response_length: usize,
+) -> RequestAnswer {
+    handle_request(
+        node,
+        from_raw_parts(frame, frame_length),
+        from_raw_parts_mut(eeprom, eeprom_length),
+        from_raw_parts_mut(external, external_length),
+        from_raw_parts_mut(response, response_length),
+    )
+}
+
+#[inline(always)]
+fn handle_request(
     mut node: Node,
     frame: &[u8],
     eeprom: &mut [u8],
@@ -517,8 +541,19 @@ fn refused(refusal: u8, step: u8) -> CompileAnswer {
     CompileAnswer { refusal, step, length: 0 }
 }
 
+/// # Safety
+/// Each pointer and length is a slice; the output does not overlap the book.
 #[inline(never)]
-pub fn compile(book: &[u8], scene: usize, address: u16, hwpid: u16, out: &mut [u8]) -> CompileAnswer {
+pub unsafe extern "C" fn compile(
+    book: *const u8,
+    book_length: usize,
+    scene: usize,
+    address: u16,
+    hwpid: u16,
+    out: *mut u8,
+    out_length: usize,
+) -> CompileAnswer {
+    let (book, out) = (from_raw_parts(book, book_length), from_raw_parts_mut(out, out_length));
     if address.wrapping_sub(1) > 238 && address != 255 {
         return refused(1, 0);
     }
@@ -526,8 +561,19 @@ pub fn compile(book: &[u8], scene: usize, address: u16, hwpid: u16, out: &mut [u
     compile_with::<6, 50, 56>(&[a[0], a[1], 2, 5, h[0], h[1]], book, scene, out)
 }
 
+/// # Safety
+/// As for `compile`.
 #[inline(never)]
-pub fn compile_selected(book: &[u8], scene: usize, nodes: NodeSet, hwpid: u16, out: &mut [u8]) -> CompileAnswer {
+pub unsafe extern "C" fn compile_selected(
+    book: *const u8,
+    book_length: usize,
+    scene: usize,
+    nodes: NodeSet,
+    hwpid: u16,
+    out: *mut u8,
+    out_length: usize,
+) -> CompileAnswer {
+    let (book, out) = (from_raw_parts(book, book_length), from_raw_parts_mut(out, out_length));
     if nodes.bits[0] & 1 != 0 || nodes.bits == [0; 30] {
         return refused(1, 0);
     }

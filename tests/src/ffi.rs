@@ -124,6 +124,25 @@ pub struct CompileAnswer {
     pub length: usize,
 }
 
+/// The type of `grelfint_handle_request`.
+pub type HandleRequest = unsafe extern "C" fn(
+    Node,
+    *const u8,
+    usize,
+    *mut u8,
+    usize,
+    *mut u8,
+    usize,
+    *mut u8,
+    usize,
+) -> RequestAnswer;
+
+/// The type of `grelfint_compile`.
+pub type Compile = unsafe extern "C" fn(*const u8, usize, usize, u16, u16, *mut u8, usize) -> CompileAnswer;
+
+/// The type of `grelfint_compile_selected`.
+pub type CompileSelected = unsafe extern "C" fn(*const u8, usize, usize, NodeSet, u16, *mut u8, usize) -> CompileAnswer;
+
 mod raw {
     use super::*;
     extern "C" {
@@ -215,6 +234,10 @@ mod raw {
     }
 }
 
+pub const HANDLE_REQUEST: HandleRequest = raw::grelfint_handle_request;
+pub const COMPILE: Compile = raw::grelfint_compile;
+pub const COMPILE_SELECTED: CompileSelected = raw::grelfint_compile_selected;
+
 // SAFETY, for each wrapper: every slice outlives the call, mutable ones have
 // no alias, and the lengths passed are those of the slices.
 
@@ -230,7 +253,9 @@ pub fn tick_in_place(node: &mut Node) -> u8 {
     unsafe { raw::grelfint_tick_in_place(node) }
 }
 
-pub fn handle_request(
+#[inline(always)]
+pub fn handle_request_by(
+    function: HandleRequest,
     node: Node,
     frame: &[u8],
     eeprom: &mut [u8],
@@ -238,7 +263,7 @@ pub fn handle_request(
     response: &mut [u8],
 ) -> RequestAnswer {
     unsafe {
-        raw::grelfint_handle_request(
+        function(
             node,
             frame.as_ptr(),
             frame.len(),
@@ -250,6 +275,16 @@ pub fn handle_request(
             response.len(),
         )
     }
+}
+
+pub fn handle_request(
+    node: Node,
+    frame: &[u8],
+    eeprom: &mut [u8],
+    external: &mut [u8],
+    response: &mut [u8],
+) -> RequestAnswer {
+    handle_request_by(HANDLE_REQUEST, node, frame, eeprom, external, response)
 }
 
 pub fn view_status(eeprom: &[u8], external: &[u8], pnum: u8, start: usize, length: usize) -> u8 {
@@ -293,18 +328,33 @@ pub fn earliest_send(
     unsafe { raw::grelfint_earliest_send(hops, request_length, delay, response_hops, response_length, lp, broadcast) }
 }
 
+#[inline(always)]
+pub fn compile_by(function: Compile, book: &[u8], scene: usize, address: u16, hwpid: u16, out: &mut [u8]) -> CompileAnswer {
+    unsafe { function(book.as_ptr(), book.len(), scene, address, hwpid, out.as_mut_ptr(), out.len()) }
+}
+
 pub fn compile(book: &[u8], scene: usize, address: u16, hwpid: u16, out: &mut [u8]) -> CompileAnswer {
-    unsafe { raw::grelfint_compile(book.as_ptr(), book.len(), scene, address, hwpid, out.as_mut_ptr(), out.len()) }
+    compile_by(COMPILE, book, scene, address, hwpid, out)
 }
 
 pub fn compile_default(book: &[u8], scene: usize, address: u16, out: &mut [u8]) -> CompileAnswer {
     unsafe { raw::grelfint_compile_default(book.as_ptr(), book.len(), scene, address, out.as_mut_ptr(), out.len()) }
 }
 
+#[inline(always)]
+pub fn compile_selected_by(
+    function: CompileSelected,
+    book: &[u8],
+    scene: usize,
+    nodes: NodeSet,
+    hwpid: u16,
+    out: &mut [u8],
+) -> CompileAnswer {
+    unsafe { function(book.as_ptr(), book.len(), scene, nodes, hwpid, out.as_mut_ptr(), out.len()) }
+}
+
 pub fn compile_selected(book: &[u8], scene: usize, nodes: NodeSet, hwpid: u16, out: &mut [u8]) -> CompileAnswer {
-    unsafe {
-        raw::grelfint_compile_selected(book.as_ptr(), book.len(), scene, nodes, hwpid, out.as_mut_ptr(), out.len())
-    }
+    compile_selected_by(COMPILE_SELECTED, book, scene, nodes, hwpid, out)
 }
 
 pub fn compile_selected_default(book: &[u8], scene: usize, nodes: NodeSet, out: &mut [u8]) -> CompileAnswer {

@@ -54,10 +54,16 @@ pub const FAST: Side = Side {
         *node = answer.node;
         answer.refusal
     },
-    handle_request: fast::handle_request,
-    compile: fast::compile,
-    compile_default: |book, scene, address, out| fast::compile(book, scene, address, 0xFFFF, out),
-    compile_selected: fast::compile_selected,
-    compile_selected_default: |book, scene, nodes, out| fast::compile_selected(book, scene, nodes, 0xFFFF, out),
+    handle_request: |node, frame, eeprom, external, response| {
+        handle_request_by(fast::handle_request_c, node, frame, eeprom, external, response)
+    },
+    compile: |book, scene, address, hwpid, out| compile_by(fast::compile, book, scene, address, hwpid, out),
+    compile_default: |book, scene, address, out| compile_by(fast::compile, book, scene, address, 0xFFFF, out),
+    compile_selected: |book, scene, nodes, hwpid, out| {
+        compile_selected_by(fast::compile_selected, book, scene, nodes, hwpid, out)
+    },
+    compile_selected_default: |book, scene, nodes, out| {
+        compile_selected_by(fast::compile_selected, book, scene, nodes, 0xFFFF, out)
+    },
     ..REFERENCE
 };

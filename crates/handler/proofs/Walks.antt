@@ -2,7 +2,7 @@
 use mathlib.Core.Path.{_≡_, refl, sym, ap, subst, _∙_}
 use mathlib.Core.List.{List, [], _∷_}
 use mathlib.Core.Bool.{Bool, true, false, cond}
-use Prim.Native.Nat.{ℕ, zero, suc, _+_, _-_, _/_, _%_, _≤_, _<_}
+use Prim.Native.Nat.{ℕ, zero, suc, _+_, _-_, _≤_, _<_}
 use native.Mathlib.Omega.{arith}
 use lib.ListN.{length, take, drop, length-take, length-drop, drop-of-length-le}
 use lib.Seq.{take-nil, drop-drop}
@@ -15,12 +15,13 @@ use Rattle.dpa.proofs.Bool.{by-cond}
 use Rattle.dpa.proofs.Bytes.{bytes-take, bytes-drop}
 use Rattle.lights.specs.declared.lamp.Lamp.{Lamp}
 use Rattle.lights.specs.declared.power.PowerEntry.the-variants.{Valid}
-use Rattle.lights.specs.Bits.{bitmapSize}
+use Rattle.lights.specs.Bits.{bitmapSize, lowestLamp, withoutLowest}
 use Rattle.lights.specs.Lights.{change, firstPowerEntry, isValid, lightsRequest, changesLamps}
 use Rattle.lights.specs.Remaining.{remainingLamps, Remaining, lampChanged}
+use Rattle.lights.proofs.Bits.{lowest-inside}
 use Rattle.lights.proofs.PowerEntries.{first-size}
 use Rattle.lights.proofs.WellFormed.{bitmap-there, changes-well-formed}
-use Rattle.lights.proofs.RemainingLamps.{remaining-start, lamps-start, remaining-none, lamps-end, lamp-inside, remaining-skip, lamps-skip, first-remaining-valid, remaining-next, lamps-next}
+use Rattle.lights.proofs.RemainingLamps.{remaining-start, lamps-start, remaining-none, lamps-end, first-remaining-valid, remaining-next, lamps-next}
 use Rattle.lights.proofs.Requests.{unchanged}
 use Rattle.batch.specs.declared.entry.NextEntry.the-variants.{Entry, Fault}
 use Rattle.batch.specs.Batch.{entryHeadSize, nextEntry, Item, item}
@@ -39,16 +40,16 @@ drop-take (suc n) zero l = let z : 0 - suc n ≡ 0 = omega arith in rw z
 drop-take (suc n) (suc m) [] = sym (take-nil (suc m - suc n))
 drop-take (suc n) (suc m) (x ∷ l) = let z : suc m - suc n ≡ m - n = omega arith in rw z (drop-take n m l)
 
--- the change of the selected lamp of a walk, by a power entry of this size
+-- the change of the lowest lamp of a walk, by a power entry of this size
 abbrev pub changeAt : Walk → ℕ → ℕ → ℕ → Change
 changeAt w power seconds size =
     record {
       found = true;
-      lamp = w .lamp;
+      lamp = lowestLamp (w .remaining);
       command = w .command;
       power = power;
       seconds = seconds;
-      rest = record { next = w .next; command = w .command; remaining = w .remaining / 2; lamp = w .lamp + 1; at = w .at + size };
+      rest = record { next = w .next; command = w .command; remaining = withoutLowest (w .remaining); at = w .at + size };
     }
 
 module _ (bytes : List ℕ) where
@@ -56,7 +57,7 @@ module _ (bytes : List ℕ) where
   pub list-walk-ok : (next : ℕ) → next ≤ length bytes → WalkOk bytes (listWalk next)
   list-walk-ok next h =
       let e : drop next (take next bytes) ≡ [] = drop-of-length-le (take next bytes) {i = next} (simp length-take (omega arith)) in
-      record { next-max = h; at-max = omega arith; remains = subst (Remaining 0 0) (sym e) remaining-none }
+      record { next-max = h; at-max = omega arith; remains = subst (Remaining 0) (sym e) remaining-none }
 
   -- a request that changes lamps, at its start
   module _ (pcmd start end : ℕ) (h : end ≤ length bytes) (small : Bytes bytes)
@@ -80,7 +81,7 @@ module _ (bytes : List ℕ) where
     -- its walk can go on
     pub request-walk-ok : WalkOk bytes (requestWalk pcmd bytes start end)
     request-walk-ok =
-        record { next-max = h; at-max = bitmap-room; remains = subst (Remaining 0 _) entries-bytes (remaining-start pcmd pdata changes pdata-small) }
+        record { next-max = h; at-max = bitmap-room; remains = subst (Remaining _) entries-bytes (remaining-start pcmd pdata changes pdata-small) }
 
     -- its walk gives the lamps after it, then after the entries behind it
     pub request-walk-lamps : (s : Settings) (ls : List Lamp)
@@ -88,24 +89,20 @@ module _ (bytes : List ℕ) where
     unfolding walkLamps
     request-walk-lamps s ls =
         let w = requestWalk pcmd bytes start end in
-        ap (λ (xs : List ℕ). listLamps s (drop end bytes) (remainingLamps (w .command) (s .«lamp_count») 0 (w .remaining) xs ls)) (sym entries-bytes)
+        ap (λ (xs : List ℕ). listLamps s (drop end bytes) (remainingLamps (w .command) (s .«lamp_count») (w .remaining) xs ls)) (sym entries-bytes)
         ∙ ap (listLamps s (drop end bytes)) (lamps-start pcmd pdata changes pdata-small s ls)
 
-  -- ---- at a selected lamp
+  -- ---- at a request of which a lamp remains
 
-  module _ (w : Walk) (good : WalkOk bytes w) (z : w .remaining % 2 ≡ 1) where
-    -- the lamp exists
-    pub selected-inside : w .lamp < maxLamps
-    selected-inside = lamp-inside (good .remains) (λ e. omega arith)
-
+  module _ (w : Walk) (good : WalkOk bytes w) (some : w .remaining ≡ 0 → ⊥) where
     -- its power entry is valid
-    pub selected-valid : isValid (firstPowerEntry (remainingBytes bytes w)) ≡ true
-    selected-valid = first-remaining-valid (good .remains) z
+    pub lowest-valid : isValid (firstPowerEntry (remainingBytes bytes w)) ≡ true
+    lowest-valid = first-remaining-valid (good .remains) some
 
     -- the power entry has a byte and ends inside the request
-    pub selected-room : (power seconds size : ℕ) → firstPowerEntry (remainingBytes bytes w) ≡ Valid (change power seconds) size
+    pub lowest-room : (power seconds size : ℕ) → firstPowerEntry (remainingBytes bytes w) ≡ Valid (change power seconds) size
         → (0 < size) × (w .at + size ≤ w .next)
-    selected-room power seconds size q =
+    lowest-room power seconds size q =
         let f = first-size (remainingBytes bytes w) (change power seconds) size q in
         let n : length (remainingBytes bytes w) ≤ w .next - w .at = simp (length-drop, length-take) (omega arith) in
         (f .0, omega (arith, good .at-max))
@@ -115,8 +112,8 @@ module _ (bytes : List ℕ) where
     pub walk-list : (w : Walk) (ls : List Lamp) → w .remaining ≡ 0 → walkLamps s bytes w ls ≡ listLamps s (drop (w .next) bytes) ls
     unfolding walkLamps
     walk-list w ls z =
-        ap (λ (m : ℕ). listLamps s (drop (w .next) bytes) (remainingLamps (w .command) (s .«lamp_count») (w .lamp) m (remainingBytes bytes w) ls)) z
-        ∙ ap (listLamps s (drop (w .next) bytes)) (lamps-end (w .command) (s .«lamp_count») (w .lamp) (remainingBytes bytes w) ls)
+        ap (λ (m : ℕ). listLamps s (drop (w .next) bytes) (remainingLamps (w .command) (s .«lamp_count») m (remainingBytes bytes w) ls)) z
+        ∙ ap (listLamps s (drop (w .next) bytes)) (lamps-end (w .command) (s .«lamp_count») (remainingBytes bytes w) ls)
 
     -- after the last byte nothing is left
     pub walk-ended : (ls : List Lamp) → walkLamps s bytes (listWalk (length bytes)) ls ≡ ls
@@ -201,37 +198,26 @@ module _ (bytes : List ℕ) where
           → (ls : List Lamp) → walkLamps s bytes w ls ≡ ls
       walk-last z e ls = walk-list w ls z ∙ sym (items-fault-at (entryLamps s) bytes (w .next) ls e)
 
-      -- over a lamp that is not selected
-      pub onward-skip : (w .remaining ≡ 0 → ⊥) → w .remaining % 2 ≡ 0
-          → Onward s bytes w (record { next = w .next; command = w .command; remaining = w .remaining / 2; lamp = w .lamp + 1; at = w .at })
-      unfolding walkLamps
-      onward-skip some z =
-          record {
-            ok = record { next-max = good .next-max; at-max = good .at-max; remains = remaining-skip (good .remains) some z };
-            further = omega arith;
-            same = λ ls l. ap (listLamps s (drop (w .next) bytes)) (sym (lamps-skip (good .remains) some z (w .command) (s .«lamp_count») ls l));
-          }
-
-      -- over a selected lamp
-      module _ (z : w .remaining % 2 ≡ 1) (power seconds size : ℕ) (q : firstPowerEntry (remainingBytes bytes w) ≡ Valid (change power seconds) size) where
+      -- over the lowest lamp
+      module _ (some : w .remaining ≡ 0 → ⊥) (power seconds size : ℕ) (q : firstPowerEntry (remainingBytes bytes w) ≡ Valid (change power seconds) size) where
         -- the change of the lamp, and the walk after it
-        selected-change : Changes s bytes w (changeAt w power seconds size)
+        lowest-change : Changes s bytes w (changeAt w power seconds size)
         unfolding walkLamps
-        selected-change =
+        lowest-change =
             let e : drop size (remainingBytes bytes w) ≡ drop (w .at + size) (take (w .next) bytes) = drop-drop size (w .at) (take (w .next) bytes) in
             let c = w .command in
             let n = s .«lamp_count» in
             record {
-              lamp-max = selected-inside w good z;
+              lamp-max = lowest-inside maxLamps (w .remaining) some (good .remains .mask-max);
               ok = record {
                 next-max = good .next-max;
-                at-max = selected-room w good z power seconds size q .1;
-                remains = subst (Remaining (w .lamp + 1) (w .remaining / 2)) e (remaining-next (good .remains) z (change power seconds) size q);
+                at-max = lowest-room w good some power seconds size q .1;
+                remains = subst (Remaining (withoutLowest (w .remaining))) e (remaining-next (good .remains) some (change power seconds) size q);
               };
-              further = omega (arith, selected-room w good z power seconds size q .0);
+              further = omega (arith, lowest-room w good some power seconds size q .0);
               lamps = λ ls l.
-                  ap (λ (xs : List ℕ). listLamps s (drop (w .next) bytes) (remainingLamps c n (w .lamp + 1) (w .remaining / 2) xs (lampChanged c n (w .lamp) power seconds ls))) (sym e)
-                  ∙ ap (listLamps s (drop (w .next) bytes)) (sym (lamps-next (good .remains) z (change power seconds) size q c n ls l));
+                  ap (λ (xs : List ℕ). listLamps s (drop (w .next) bytes) (remainingLamps c n (withoutLowest (w .remaining)) xs (lampChanged c n (lowestLamp (w .remaining)) power seconds ls))) (sym e)
+                  ∙ ap (listLamps s (drop (w .next) bytes)) (sym (lamps-next (good .remains) some (change power seconds) size q c n ls l));
             }
 
     -- ---- the next change
@@ -245,12 +231,12 @@ module _ (bytes : List ℕ) where
             none = λ _ ls l. sym (h .onward .same ls l) ∙ h .last z ls;
           }
 
-      -- the change of the selected lamp of a walk further on
-      pub change-some : (r : Walk) → Onward s bytes w r → (z : r .remaining % 2 ≡ 1) (power seconds size : ℕ)
+      -- the change of the lowest lamp of a walk further on
+      pub change-some : (r : Walk) → Onward s bytes w r → (some : r .remaining ≡ 0 → ⊥) (power seconds size : ℕ)
           (q : firstPowerEntry (remainingBytes bytes r) ≡ Valid (change power seconds) size)
           → NextChange s bytes w (changeAt r power seconds size)
-      change-some r h z power seconds size q =
-          let x = selected-change r (h .ok) z power seconds size q in
+      change-some r h some power seconds size q =
+          let x = lowest-change r (h .ok) some power seconds size q in
           record {
             some = λ _. record { lamp-max = x .lamp-max; ok = x .ok; further = omega (arith, h .further, x .further); lamps = λ ls l. x .lamps ls l ∙ h .same ls l };
             none = λ f. let i : _≡_ {A = ℕ} 0 1 = ap (λ (b : Bool). cond b 0 1) f in absurd (omega arith);

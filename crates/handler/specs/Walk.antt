@@ -1,5 +1,5 @@
 -- The walk over the changes of lamps: what the rest of a walk does to the lamps, and what the steps of the code leave.
-use Prim.Native.Nat.{ℕ, _+_, _-_, _%_, _≤_, _<_}
+use Prim.Native.Nat.{ℕ, _+_, _-_, _≤_, _<_}
 use mathlib.Core.Path.{_≡_}
 use mathlib.Core.List.{List}
 use mathlib.Core.Bool.{true, false}
@@ -30,22 +30,22 @@ remainingBytes bytes w = drop (w .at) (take (w .next) bytes)
 unfoldable pub walkLamps : Settings → List ℕ → Walk → List Lamp → List Lamp
 walkLamps s bytes w ls =
     listLamps s (drop (w .next) bytes)
-    (remainingLamps (w .command) (s .«lamp_count») (w .lamp) (w .remaining) (remainingBytes bytes w) ls)
+    (remainingLamps (w .command) (s .«lamp_count») (w .remaining) (remainingBytes bytes w) ls)
 
 -- a walk that can go on
 pub record WalkOk (bytes : List ℕ) (w : Walk) : Type 0 where
   pub next-max : w .next ≤ length bytes
   pub at-max : w .at ≤ w .next
-  pub remains : Remaining (w .lamp) (w .remaining) (remainingBytes bytes w)
+  pub remains : Remaining (w .remaining) (remainingBytes bytes w)
 
 -- before the entry at `next`, nothing remains
 abbrev pub listWalk : ℕ → Walk
-listWalk next = record { next = next; command = Set; remaining = 0; lamp = 0; at = next }
+listWalk next = record { next = next; command = Set; remaining = 0; at = next }
 
 -- before the first lamp of a request that changes lamps; its PData is from start to end
 abbrev pub requestWalk : ℕ → List ℕ → ℕ → ℕ → Walk
 requestWalk pcmd bytes start end =
-    record { next = end; command = commandOf pcmd; remaining = maskOf (slice bytes start (end - start)); lamp = 0; at = start + bitmapSize }
+    record { next = end; command = commandOf pcmd; remaining = maskOf (slice bytes start (end - start)); at = start + bitmapSize }
 
 -- ---- steps of a walk
 
@@ -65,11 +65,6 @@ pub record EntryWalk (s : Settings) (i : Item) (bytes : List ℕ) (start end : �
 pub record CurrentWalk (s : Settings) (bytes : List ℕ) (w r : Walk) : Type 0 where
   pub onward : Onward s bytes w r
   pub last : r .remaining ≡ 0 → (ls : List Lamp) → walkLamps s bytes r ls ≡ ls
-
--- a walk at a lamp that is selected
-pub record SelectedWalk (w r : Walk) : Type 0 where
-  pub selected : r .remaining % 2 ≡ 1
-  pub onward : (s : Settings) (bytes : List ℕ) → WalkOk bytes w → Onward s bytes w r
 
 -- the lamps after a change
 abbrev pub lampsChanged : Settings → Change → List Lamp → List Lamp

@@ -13,7 +13,9 @@ use dpa::pnum;
 use dpa::settings::Settings;
 use lights::apply::Command;
 use lights::apply::lamp_after;
+use lights::bitmap::lowest_lamp;
 use lights::bitmap::mask_of;
+use lights::bitmap::without_lowest;
 use lights::lamp::LAMPS;
 use lights::lamp::Lamp;
 use lights::power::BITMAP_SIZE;
@@ -23,15 +25,14 @@ use lights::request::changes_lamps;
 use lights::request::command_of;
 ghost use mathlib.Core.Path.{_≡_};
 ghost use mathlib.Core.Bool.{true, cond};
-ghost use Prim.Native.Nat.{_+_, _-_, _^_, _≤_, _<_};
+ghost use Prim.Native.Nat.{_+_, _-_, _≤_};
 ghost use lib.ListN.{length};
 ghost use Rattle.dpa.specs.Lists.{slice};
-ghost use Rattle.dpa.specs.Settings.{maxLamps};
 ghost use Rattle.lights.specs.Bits.{bitmapSize};
 ghost use Rattle.batch.specs.Batch.{item};
 ghost use Rattle.handler.specs.Request.{headerItem};
 ghost use Rattle.handler.specs.Seen.{lampsAfterSuccess, LampsKnown};
-ghost use Rattle.handler.specs.Walk.{walkLamps, WalkOk, listWalk, requestWalk, EntryWalk, CurrentWalk, SelectedWalk, NextChange, StartKnown, StartWalk};
+ghost use Rattle.handler.specs.Walk.{walkLamps, WalkOk, listWalk, requestWalk, EntryWalk, CurrentWalk, NextChange, StartKnown, StartWalk};
 
 // Where a walk over the changes of lamps stands.
 pub struct Walk {
@@ -39,9 +40,8 @@ pub struct Walk {
     pub next: usize,
     // The command of the current request.
     pub command: Command,
-    // The bits of lamp `lamp` and of the lamps above it.
+    // The mask of its lamps that are still to be changed.
     pub remaining: u32,
-    pub lamp: usize,
     // The place of the next power entry.
     pub at: usize,
 }
@@ -64,7 +64,6 @@ fn list_walk(next: usize) -> Walk
         next,
         command: Command::Set,
         remaining: 0,
-        lamp: 0,
         at: next,
     }
 }
@@ -78,7 +77,6 @@ fn request_walk(pcmd: u8, bytes: &[u8], start: usize, end: usize) -> Walk
         next: end,
         command: command_of(pcmd),
         remaining: mask_of(&bytes[start..end]),
-        lamp: 0,
         at: start + BITMAP_SIZE,
     }
 }
@@ -138,26 +136,14 @@ fn current_walk(settings: Settings, bytes: &[u8], walk: Walk) -> Walk
     current
 }
 
-// The walk at the next selected lamp.
-fn skip(walk: Walk) -> Walk
-    requires { ⌜ (walk .remaining ≡ 0 → ⊥) × (walk .remaining < 2 ^ (maxLamps - walk .lamp)) ⌝ }
-    ensures { λ r. ⌜ SelectedWalk walk r ⌝ }
-{
-    let mut current = walk;
-    while current.remaining % 2 == 0 {
-        current.remaining = current.remaining / 2;
-        current.lamp = current.lamp + 1;
-    }
-    current
-}
-
 // The next change of a walk.
 fn next_change(settings: Settings, bytes: &[u8], walk: Walk) -> Change
     requires { ⌜ WalkOk (now bytes) walk ⌝ }
     ensures { λ r. ⌜ NextChange settings (now (bytes .entry)) walk r ⌝ }
 {
     let current = current_walk(settings, bytes, walk);
-    if current.remaining == 0 {
+    let mask = current.remaining;
+    if mask == 0 {
         return Change {
             found: false,
             lamp: 0,
@@ -167,17 +153,15 @@ fn next_change(settings: Settings, bytes: &[u8], walk: Walk) -> Change
             rest: current,
         };
     }
-    let mut rest = skip(current);
-    let lamp = rest.lamp;
-    let command = rest.command;
-    let end = rest.next;
-    let entry = valid_power_entry_at(&bytes[..end], rest.at);
-    rest.remaining = rest.remaining / 2;
-    rest.lamp = lamp + 1;
-    rest.at = rest.at + entry.size;
+    let command = current.command;
+    let end = current.next;
+    let entry = valid_power_entry_at(&bytes[..end], current.at);
+    let mut rest = current;
+    rest.remaining = without_lowest(mask);
+    rest.at = current.at + entry.size;
     Change {
         found: true,
-        lamp,
+        lamp: lowest_lamp(mask),
         command,
         power: entry.power,
         seconds: entry.seconds,

@@ -1,15 +1,15 @@
 -- Laws of bits and of the bitmap.
 use mathlib.Core.Path.{_≡_, refl, sym, ap, ap₂, _∙_, subst}
 use mathlib.Core.List.{List, [], _∷_, _++_}
-use Prim.Native.Nat.{ℕ, zero, suc, _+_, _-_, _*_, _/_, _%_, _^_, _≤_, _<_, zero-le}
-use native.Mathlib.Nat.{suc-add}
+use Prim.Native.Nat.{ℕ, zero, suc, _+_, _-_, _*_, _/_, _%_, _^_, _≤_, _<_, min, zero-le}
+use native.Mathlib.Nat.{suc-add, pow-suc}
 use native.Mathlib.Numerals.{add-one}
 use native.Mathlib.Omega.{arith}
 use lib.ListN.{length, getD}
 use lib.Arith.{lt-one}
 use lib.Pow.{shr-lt}
-use lib.Bits.{block-half, block-odd}
-use lib.Count.{ones, ones-step}
+use lib.Bits.{block-half, block-odd, bitAnd, and-step, and-self}
+use lib.Count.{ones, ones-step, trailingZeros, under}
 use lib.Dec.{ltb}
 use borrow.Author.Tests.{ltb-true, ltb-false}
 use Rattle.dpa.specs.Settings.{maxLamps}
@@ -82,22 +82,52 @@ bits-mask xs small =
     (ap (bits 24) f ∙ bits-cat 8 16 (b2 + 256 * b3) b1 (small 1)
     ∙ ap (λ (l : List ℕ). bits 8 b1 ++ l) (ap (bits 16) g ∙ bits-cat 8 8 b3 b2 (small 2)))
 
--- the bits from lamp i on: the lowest, then those from the next lamp on
-pub bits-more : (i m : ℕ) → i < maxLamps → bits (maxLamps - i) m ≡ m % 2 ∷ bits (maxLamps - (i + 1)) (m / 2)
+-- the lowest bit, and the others
+pub bits-cons : (k m b q : ℕ) → m % 2 ≡ b → m / 2 ≡ q → bits (suc k) m ≡ b ∷ bits k q
 unfolding bits
-bits-more i m h =
-    let j : maxLamps - i ≡ suc (maxLamps - (i + 1)) = omega arith in
-    rw j
+bits-cons k m b q low high = ap₂ (λ (x y : ℕ). x ∷ bits k y) low high
 
--- if a bit remains, lamp i exists
-pub bits-inside : (i m : ℕ) → m < 2 ^ (maxLamps - i) → (m ≡ 0 → ⊥) → i < maxLamps
-bits-inside i m h some =
-    by-test (ltb i maxLamps) (ltb-true i maxLamps)
-    (λ t. let j : maxLamps - i ≡ 0 = omega (arith, ltb-false i maxLamps t) in
-    absurd (some (lt-one (subst (λ (x : ℕ). m < 2 ^ x) j h))))
+-- ---- the lowest 1-bit
 
--- halving the mask drops the lowest bit
-pub bits-half : (i m : ℕ) → i < maxLamps → m < 2 ^ (maxLamps - i) → m / 2 < 2 ^ (maxLamps - (i + 1))
-bits-half i m l h =
-    let j : maxLamps - i ≡ suc (maxLamps - (i + 1)) = omega arith in
-    half-lt (maxLamps - (i + 1)) m (subst (λ (x : ℕ). m < 2 ^ x) j h)
+-- P k m i r is about a number m of k bits, whose lowest 1-bit is bit i, and which is r without it
+pub by-lowest : (P : ℕ → ℕ → ℕ → ℕ → Type 0)
+    → ((k m : ℕ) → m % 2 ≡ 1 → P (suc k) m 0 (m - 1))
+    → ((k m i r : ℕ) → (m ≡ 0 → ⊥) → m % 2 ≡ 0 → P k (m / 2) i r → P (suc k) m (suc i) (r * 2))
+    → (k m : ℕ) → (m ≡ 0 → ⊥) → m < 2 ^ k → P k m (trailingZeros k m) (m - 2 ^ trailingZeros k m)
+unfolding trailingZeros
+by-lowest P odd even zero m some h = absurd (some (lt-one h))
+by-lowest P odd even (suc k) m some h =
+    go (trailingZeros k (m / 2)) (m % 2) refl (λ (e : m % 2 ≡ 0). by-lowest P odd even k (m / 2) (λ z. some (omega arith)) (half-lt k m h))
+  where
+    go : (t b : ℕ) → m % 2 ≡ b → (m % 2 ≡ 0 → P k (m / 2) t (m / 2 - 2 ^ t)) → P (suc k) m (under b t) (m - 2 ^ under b t)
+    go t zero e rest =
+        let double : (m / 2 - 2 ^ t) * 2 ≡ m - 2 ^ suc t = omega (arith, pow-suc 2 t) in
+        subst (P (suc k) m (suc t)) double (even k m t (m / 2 - 2 ^ t) some e (rest e))
+    go t (suc b) e rest = odd k m (omega arith)
+
+module _ (k m : ℕ) (some : m ≡ 0 → ⊥) (h : m < 2 ^ k) where
+  -- it is one of the bits
+  pub lowest-inside : trailingZeros k m < k
+  lowest-inside = by-lowest (λ (k m i r : ℕ). i < k) (λ k m z. omega arith) (λ k m i r x z p. omega arith) k m some h
+
+  -- without it the number is smaller
+  pub lowest-less : m - 2 ^ trailingZeros k m < m
+  lowest-less = by-lowest (λ (k m i r : ℕ). r < m) (λ k m z. omega arith) (λ k m i r x z p. omega arith) k m some h
+
+  -- and has one 1-bit less
+  pub lowest-counts : count (bits k m) ≡ suc (count (bits k (m - 2 ^ trailingZeros k m)))
+  lowest-counts =
+      by-lowest (λ (k m i r : ℕ). count (bits k m) ≡ suc (count (bits k r)))
+      (λ k m z. rw (bits-cons k m 1 (m / 2) z refl, bits-cons k (m - 1) 0 (m / 2) (omega arith) (omega arith)))
+      (λ k m i r x z p. rw (bits-cons k m 0 (m / 2) z refl, bits-cons k (r * 2) 0 r (omega arith) (omega arith)) p) k m some h
+
+  -- `m & (m - 1)` removes it
+  pub lowest-removed : bitAnd m (m - 1) ≡ m - 2 ^ trailingZeros k m
+  lowest-removed =
+      by-lowest (λ (k m i r : ℕ). bitAnd m (m - 1) ≡ r)
+      (λ k m z. halves m (m / 2) (m / 2) (omega arith) (omega arith) (and-self (m / 2)) ∙ omega arith)
+      (λ k m i r x z p. halves m (m / 2 - 1) r (omega arith) (omega arith) p) k m some h
+    where
+      halves : (m q r : ℕ) → (m - 1) / 2 ≡ q → min (m % 2) ((m - 1) % 2) ≡ 0 → bitAnd (m / 2) q ≡ r → bitAnd m (m - 1) ≡ r * 2
+      halves m q r e z p =
+          and-step m (m - 1) ∙ ap₂ (λ (x y : ℕ). x * 2 + y) (ap (bitAnd (m / 2)) e ∙ p) z ∙ omega arith

@@ -159,10 +159,6 @@ module _ (s : Settings) (h : settingsOk s ≡ true) where
         let x : level + (s .step - 1) ≤ 199 = omega (arith, step-max) in
         omega (arith, mul-le-mul x (inverse-max s))
 
-    -- and the quotient a byte
-    pub quotient-max : (level + (s .step - 1)) * stepInverse s / 65536 ≤ 199
-    quotient-max = rw inverse-divides (omega (arith, div-le-self (level + (s .step - 1)) (s .step), step-max))
-
   -- the actual level of a lamp that is off is 0
   pub actual-off : actualLevel s 0 ≡ 0
   actual-off = let l = actual-least 0 0 (zero-mod (s .step)) (omega arith) in omega arith

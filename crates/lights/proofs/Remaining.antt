@@ -1,110 +1,103 @@
--- What remains to be done from lamp i on, in the loop over the bitmap: one law for each path through its body.
-use mathlib.Core.Path.{_≡_, refl, ap}
+-- The lowest selected lamp takes the first power entry and has the first level; the other lamps are those of the mask without it.
+use mathlib.Core.Path.{_≡_, refl, sym, ap, _∙_}
 use mathlib.Core.Bool.{cond}
-use mathlib.Core.List.{List, [], _∷_, _++_}
-use Prim.Native.Nat.{ℕ, zero, suc, _+_, _-_, _/_, _%_, _≤_, _<_}
+use mathlib.Core.List.{List, [], _∷_}
+use Prim.Native.Nat.{ℕ, zero, suc, _-_, _*_, _/_, _%_, _^_, _<_}
 use native.Mathlib.Omega.{arith}
-use native.Mathlib.Numerals.{add-one}
-use lib.ListN.{length, getD, take, drop, set, take-append-drop}
-use lib.Seq.{drop-cons, take-suc, take-suc-set, append-snoc, drop-set-lt}
+use lib.ListN.{length, getD}
+use lib.Count.{trailingZeros}
 use lib.Dec.{ltb}
-use borrow.Author.Tests.{lt-ltb, le-ltb}
-use Rattle.dpa.specs.Settings.{maxLamps}
+use borrow.Author.Tests.{lt-ltb, le-ltb, ltb-true, ltb-false}
 use Rattle.dpa.specs.declared.settings.Settings.{Settings}
+use Rattle.dpa.proofs.Bool.{by-test}
 use Rattle.lights.specs.Bits.{bits}
 use Rattle.lights.specs.Lamp.{off, actualLevel}
 use Rattle.lights.specs.Lights.{lampAfter, lampsAfter, levelsBefore}
-use Rattle.lights.specs.Remaining.{lampsFrom}
-use Rattle.lights.proofs.Bits.{bits-more}
+use Rattle.lights.specs.Remaining.{lampChanged}
+use Rattle.lights.proofs.Bits.{bits-cons, by-lowest}
 use Rattle.lights.specs.declared.apply.Command.{Command}
 use Rattle.lights.specs.declared.lamp.Lamp.{Lamp}
 use Rattle.lights.specs.declared.power.LampChange.{LampChange}
 
-module _ (c : Command) (n : ℕ) where
-  -- a lamp that is not selected
-  pub lamps-from-skip : (i m : ℕ) (es : List LampChange) (ls : List Lamp) → i < maxLamps → length ls ≡ maxLamps → m % 2 ≡ 0 → lampsFrom c n i m es ls ≡ lampsFrom c n (i + 1) (m / 2) es ls
-  unfolding lampsAfter
-  lamps-from-skip i m es ls h l z =
-      let w : i < length ls = omega arith in
-      let s : (n - i) - 1 ≡ n - suc i = omega arith in
-      rw (bits-more i m h, z, drop-cons ls i off, s, add-one, take-suc ls i off, append-snoc)
+-- lamp i + 1 of n is lamp i of the n - 1 after the first
+ltb-later : (i n : ℕ) → ltb (suc i) n ≡ ltb i (n - 1)
+ltb-later i n =
+    by-test (ltb i (n - 1)) (λ t. let h = ltb-true i (n - 1) t in lt-ltb (suc i) n (omega arith) ∙ sym t)
+    (λ f. let h = ltb-false i (n - 1) f in le-ltb (suc i) n (omega arith) ∙ sym f)
 
-  -- a selected, unimplemented lamp
-  pub lamps-from-unimplemented : (i m : ℕ) (e : LampChange) (es : List LampChange) (ls : List Lamp) → i < maxLamps → length ls ≡ maxLamps → m % 2 ≡ 1 → n ≤ i
-      → lampsFrom c n i m (e ∷ es) ls ≡ lampsFrom c n (i + 1) (m / 2) es ls
-  unfolding lampsAfter
-  lamps-from-unimplemented i m e es ls h l z q =
-      let w : i < length ls = omega arith in
-      let s : (n - i) - 1 ≡ n - suc i = omega arith in
-      let t : n - i ≤ 0 = omega arith in
-      rw (bits-more i m h, z, drop-cons ls i off, s, le-ltb 0 (n - i) t, add-one i, take-suc ls i off, append-snoc)
+module _ (c : Command) where
+  -- a lamp after the first
+  changed-later : (n i power seconds : ℕ) (x : Lamp) (ls : List Lamp)
+      → lampChanged c n (suc i) power seconds (x ∷ ls) ≡ x ∷ lampChanged c (n - 1) i power seconds ls
+  unfolding lampChanged
+  changed-later n i power seconds x ls = rw (ltb-later i n) (by-test (ltb i (n - 1)) (λ t. rw t) (λ f. rw f))
 
-  -- a selected, implemented lamp
-  pub lamps-from-changed : (i m : ℕ) (e : LampChange) (es : List LampChange) (ls : List Lamp) (r : Lamp) → i < maxLamps → length ls ≡ maxLamps → m % 2 ≡ 1 → i < n
-      → r ≡ lampAfter c (getD ls i off) (e .power) (e .seconds)
-      → lampsFrom c n i m (e ∷ es) ls ≡ lampsFrom c n (i + 1) (m / 2) es (set ls i r)
-  unfolding lampsAfter
-  lamps-from-changed i m e es ls r h l z q x =
-      let w : i < length ls = omega arith in
-      let s : (n - i) - 1 ≡ n - suc i = omega arith in
-      let t : 0 < n - i = omega arith in
-      let u : i < suc i = omega arith in
-      rw (bits-more i m h, z, drop-cons ls i off, s, lt-ltb 0 (n - i) t, ← x, add-one i, take-suc-set, drop-set-lt, append-snoc)
+  lamps-odd : (k m n : ℕ) (e : LampChange) (es : List LampChange) (ls : List Lamp) → m % 2 ≡ 1 → length ls ≡ suc k
+      → lampsAfter c n (bits (suc k) m) (e ∷ es) ls ≡ lampsAfter c n (bits (suc k) (m - 1)) es (lampChanged c n 0 (e .power) (e .seconds) ls)
+  unfolding lampsAfter lampChanged
+  lamps-odd k m n e es [] z l = absurd (omega arith)
+  lamps-odd k m n e es (x ∷ ls) z l =
+      rw (bits-cons k m 1 (m / 2) z refl, bits-cons k (m - 1) 0 (m / 2) (omega arith) (omega arith)) (by-test (ltb 0 n) (λ t. rw t) (λ f. rw f))
 
-  lamps-none : (k j : ℕ) (es : List LampChange) (ls : List Lamp) → lampsAfter c j (bits k 0) es ls ≡ ls
+  lamps-even : (k m i r n : ℕ) (e : LampChange) (es : List LampChange) (ls : List Lamp) → m % 2 ≡ 0 → length ls ≡ suc k
+      → ((xs : List Lamp) → length xs ≡ k
+        → lampsAfter c (n - 1) (bits k (m / 2)) (e ∷ es) xs ≡ lampsAfter c (n - 1) (bits k r) es (lampChanged c (n - 1) i (e .power) (e .seconds) xs))
+      → lampsAfter c n (bits (suc k) m) (e ∷ es) ls ≡ lampsAfter c n (bits (suc k) (r * 2)) es (lampChanged c n (suc i) (e .power) (e .seconds) ls)
+  unfolding lampsAfter
+  lamps-even k m i r n e es [] z l p = absurd (omega arith)
+  lamps-even k m i r n e es (x ∷ ls) z l p =
+      rw (bits-cons k m 0 (m / 2) z refl, bits-cons k (r * 2) 0 r (omega arith) (omega arith), changed-later n i (e .power) (e .seconds) x ls)
+      (ap (λ (xs : List Lamp). x ∷ xs) (p ls (omega arith)))
+
+  -- the lowest lamp is changed, then the others
+  pub lamps-lowest : (k m : ℕ) → (m ≡ 0 → ⊥) → m < 2 ^ k → (n : ℕ) (e : LampChange) (es : List LampChange) (ls : List Lamp) → length ls ≡ k
+      → lampsAfter c n (bits k m) (e ∷ es) ls
+      ≡ lampsAfter c n (bits k (m - 2 ^ trailingZeros k m)) es (lampChanged c n (trailingZeros k m) (e .power) (e .seconds) ls)
+  lamps-lowest =
+      by-lowest
+      (λ (k m i r : ℕ). (n : ℕ) (e : LampChange) (es : List LampChange) (ls : List Lamp) → length ls ≡ k
+        → lampsAfter c n (bits k m) (e ∷ es) ls ≡ lampsAfter c n (bits k r) es (lampChanged c n i (e .power) (e .seconds) ls))
+      (λ k m z n e es ls l. lamps-odd k m n e es ls z l)
+      (λ k m i r some z p n e es ls l. lamps-even k m i r n e es ls z l (p (n - 1) e es))
+
+  -- no lamp remains
+  pub lamps-none : (k n : ℕ) (es : List LampChange) (ls : List Lamp) → lampsAfter c n (bits k 0) es ls ≡ ls
   unfolding lampsAfter bits
-  lamps-none zero j es ls = refl
-  lamps-none (suc k) j es [] = refl
-  lamps-none (suc k) j es (l ∷ ls) = ap (λ (xs : List Lamp). l ∷ xs) (lamps-none k (j - 1) es ls)
+  lamps-none zero n es ls = refl
+  lamps-none (suc k) n es [] = refl
+  lamps-none (suc k) n es (l ∷ ls) = ap (λ (xs : List Lamp). l ∷ xs) (lamps-none k (n - 1) es ls)
 
-  -- no selected lamp remains
-  pub lamps-from-end : (i : ℕ) (es : List LampChange) (ls : List Lamp) → lampsFrom c n i 0 es ls ≡ ls
-  lamps-from-end i es ls = rw (lamps-none (maxLamps - i) (n - i) es (drop i ls)) (take-append-drop i ls)
+module _ (s : Settings) where
+  -- the level of lamp i, 0 if it is not one of the first n
+  abbrev pub levelAt : ℕ → List Lamp → ℕ → ℕ
+  levelAt n ls i = cond (ltb i n) (actualLevel s (getD ls i off .level)) 0
 
-module _ (s : Settings) (n : ℕ) (ls : List Lamp) where
-  -- the levels of the selected lamps from i on
-  abbrev pub levelsFrom : ℕ → ℕ → List ℕ
-  levelsFrom i m = levelsBefore s (n - i) (bits (maxLamps - i) m) (drop i ls)
-
-  levels-skip : (k : ℕ) (bs : List ℕ) (x : Lamp) (xs : List Lamp) → levelsBefore s k (0 ∷ bs) (x ∷ xs) ≡ levelsBefore s (k - 1) bs xs
+  levels-odd : (k m n : ℕ) (ls : List Lamp) → m % 2 ≡ 1 → length ls ≡ suc k
+      → levelsBefore s n (bits (suc k) m) ls ≡ levelAt n ls 0 ∷ levelsBefore s n (bits (suc k) (m - 1)) ls
   unfolding levelsBefore
-  levels-skip k bs x xs = refl
+  levels-odd k m n [] z l = absurd (omega arith)
+  levels-odd k m n (x ∷ ls) z l = rw (bits-cons k m 1 (m / 2) z refl, bits-cons k (m - 1) 0 (m / 2) (omega arith) (omega arith))
 
-  -- a lamp that is not selected has no level
-  pub levels-from-skip : (i m : ℕ) → i < maxLamps → length ls ≡ maxLamps → m % 2 ≡ 0 → levelsFrom i m ≡ levelsFrom (i + 1) (m / 2)
-  levels-from-skip i m h l z =
-      let w : i < length ls = omega arith in
-      let t : (n - i) - 1 ≡ n - suc i = omega arith in
-      rw (bits-more i m h, z, drop-cons ls i off, levels-skip, t, add-one i)
-
-  -- a selected lamp's level is written at k
-  pub levels-from-more : (i m k : ℕ) (out : List ℕ) (r : ℕ) → i < maxLamps → length ls ≡ maxLamps → k < length out → m % 2 ≡ 1
-      → r ≡ cond (ltb 0 (n - i)) (actualLevel s (getD ls i off .level)) 0
-      → take k out ++ levelsFrom i m ≡ take (k + 1) (set out k r) ++ levelsFrom (i + 1) (m / 2)
+  levels-even : (k m i r n : ℕ) (ls : List Lamp) → m % 2 ≡ 0 → length ls ≡ suc k
+      → ((xs : List Lamp) → length xs ≡ k → levelsBefore s (n - 1) (bits k (m / 2)) xs ≡ levelAt (n - 1) xs i ∷ levelsBefore s (n - 1) (bits k r) xs)
+      → levelsBefore s n (bits (suc k) m) ls ≡ levelAt n ls (suc i) ∷ levelsBefore s n (bits (suc k) (r * 2)) ls
   unfolding levelsBefore
-  levels-from-more i m k out r h l x z e =
-      let w : i < length ls = omega arith in
-      let t : (n - i) - 1 ≡ n - suc i = omega arith in
-      rw (bits-more i m h, z, drop-cons ls i off, t, ← e, add-one k, add-one i, take-suc-set, append-snoc)
+  levels-even k m i r n [] z l p = absurd (omega arith)
+  levels-even k m i r n (x ∷ ls) z l p =
+      rw (bits-cons k m 0 (m / 2) z refl, bits-cons k (r * 2) 0 r (omega arith) (omega arith), ltb-later i n) (p ls (omega arith))
 
-  levels-none : (k j : ℕ) (xs : List Lamp) → levelsBefore s j (bits k 0) xs ≡ []
+  -- the level of the lowest lamp, then those of the others
+  pub levels-lowest : (k m : ℕ) → (m ≡ 0 → ⊥) → m < 2 ^ k → (n : ℕ) (ls : List Lamp) → length ls ≡ k
+      → levelsBefore s n (bits k m) ls ≡ levelAt n ls (trailingZeros k m) ∷ levelsBefore s n (bits k (m - 2 ^ trailingZeros k m)) ls
+  levels-lowest =
+      by-lowest
+      (λ (k m i r : ℕ). (n : ℕ) (ls : List Lamp) → length ls ≡ k → levelsBefore s n (bits k m) ls ≡ levelAt n ls i ∷ levelsBefore s n (bits k r) ls)
+      (λ k m z n ls l. levels-odd k m n ls z l)
+      (λ k m i r some z p n ls l. levels-even k m i r n ls z l (p (n - 1)))
+
+  -- no lamp remains
+  pub levels-none : (k n : ℕ) (xs : List Lamp) → levelsBefore s n (bits k 0) xs ≡ []
   unfolding levelsBefore bits
-  levels-none zero j xs = refl
-  levels-none (suc k) j [] = refl
-  levels-none (suc k) j (x ∷ xs) = levels-none k (j - 1) xs
-
-  -- no selected lamp remains
-  pub levels-from-end : (i : ℕ) → levelsFrom i 0 ≡ []
-  levels-from-end i = levels-none (maxLamps - i) (n - i) (drop i ls)
-
--- an implemented lamp has its actual level
-pub level-implemented : (n i v w : ℕ) → i < n → v ≡ w → v ≡ cond (ltb 0 (n - i)) w 0
-level-implemented n i v w h e =
-    let t : 0 < n - i = omega arith in
-    rw (lt-ltb 0 (n - i) t) e
-
--- an unimplemented lamp has level 0
-pub level-unimplemented : (n i w : ℕ) → n ≤ i → 0 ≡ cond (ltb 0 (n - i)) w 0
-level-unimplemented n i w h =
-    let t : n - i ≤ 0 = omega arith in
-    rw (le-ltb 0 (n - i) t)
+  levels-none zero n xs = refl
+  levels-none (suc k) n [] = refl
+  levels-none (suc k) n (x ∷ xs) = levels-none k (n - 1) xs

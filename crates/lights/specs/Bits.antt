@@ -1,9 +1,11 @@
 -- Document 01, "Lights 71": the bitmap of a request. Bit 0 of byte 0 is lamp 0.
-use Prim.Native.Nat.{ℕ, zero, suc, _+_, _*_, _/_, _%_, _^_}
+use Prim.Native.Nat.{ℕ, zero, suc, _+_, _-_, _*_, _/_, _%_, _^_}
 use mathlib.Core.List.{List, [], _∷_, _++_}
 use mathlib.Core.Bool.{Bool, true, false, cond}
 use lib.ListN.{getD}
+use lib.Count.{trailingZeros}
 use Rattle.dpa.specs.Number.{wordAt}
+use Rattle.dpa.specs.Settings.{maxLamps}
 
 -- the size of the bitmap at the front of PData, in bytes
 abbrev pub bitmapSize : ℕ
@@ -27,6 +29,13 @@ bitmap xs = bits 8 (getD xs 0 0) ++ (bits 8 (getD xs 1 0) ++ (bits 8 (getD xs 2 
 -- the same four bytes as one number (proofs/Bits: `bits-mask`)
 abbrev pub maskOf : List ℕ → ℕ
 maskOf xs = wordAt xs 0 + 65536 * wordAt xs 2
+
+-- the lowest lamp that a mask selects, and the mask without it (proofs/Bits: `by-lowest`)
+abbrev pub lowestLamp : ℕ → ℕ
+lowestLamp m = trailingZeros maxLamps m
+
+abbrev pub withoutLowest : ℕ → ℕ
+withoutLowest m = m - 2 ^ lowestLamp m
 
 -- ---- the same lamp by lamp, for the laws
 

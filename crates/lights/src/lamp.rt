@@ -56,10 +56,9 @@ pub fn actual_level(settings: Settings, inverse: u32, level: u8) -> u8
     requires { ⌜ (settingsOk settings ≡ true) × (level ≤ maxLevel) × (inverse ≡ stepInverse settings) ⌝ }
     ensures { λ r. ⌜ r ≡ actualLevel settings level ⌝ }
 {
-    let step = settings.step;
-    let raised = level + (step - 1);
-    let quotient = (raised as u32) * inverse / INVERSE_SCALE;
-    (quotient as u8) * step
+    let step = settings.step as u32;
+    let quotient = (level as u32 + (step - 1)) * inverse / INVERSE_SCALE;
+    (quotient * step) as u8
 }
 
 // The lamp one second later.

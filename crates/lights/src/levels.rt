@@ -1,5 +1,7 @@
-// The levels that set, raise and lower return, in one loop over the bitmap from its lowest bit.
+// The levels that set, raise and lower return, in one loop over the selected lamps from the lowest on.
+use crate::bitmap::lowest_lamp;
 use crate::bitmap::mask_of;
+use crate::bitmap::without_lowest;
 use crate::lamp::LAMPS;
 use crate::lamp::Lamp;
 use crate::lamp::actual_level;
@@ -24,22 +26,18 @@ pub fn write_levels(settings: Settings, pdata: &[u8], lamps: [Lamp; LAMPS], out:
 {
     let implemented = wide(settings.lamp_count);
     let inverse = step_inverse(settings);
-    // The bits of lamp i and of the lamps above it.
     let mut remaining = mask_of(pdata);
     let mut written: usize = 0;
-    let mut i: usize = 0;
     while remaining != 0 {
-        if remaining % 2 == 1 {
-            if i < implemented {
-                let lamp = lamps[i];
-                out[written] = actual_level(settings, inverse, lamp.level);
-            } else {
-                out[written] = 0;
-            }
-            written = written + 1;
+        let i = lowest_lamp(remaining);
+        if i < implemented {
+            let lamp = lamps[i];
+            out[written] = actual_level(settings, inverse, lamp.level);
+        } else {
+            out[written] = 0;
         }
-        remaining = remaining / 2;
-        i = i + 1;
+        written = written + 1;
+        remaining = without_lowest(remaining);
     }
     written
 }

@@ -1,12 +1,12 @@
 //! Benchmark, not part of the gate: `cargo run --release --offline`.
 //! Measures the library against a fast implementation of the same rules
 //! (src/fast.rs), alternating within one run. The result is the median over all
-//! rounds of the ratio library / fast. Then measures ways to compute a checksum
+//! bursts of the ratio library / fast. Then measures ways to compute a checksum
 //! against the loop that adds byte by byte with carries, in the same manner.
-//! `BENCH_ROUNDS` sets the number of rounds.
+//! `BENCH_ROUNDS` sets the number of bursts.
 use grelfint_tests::board::{code_check_pdata, frame_of, Board, Lengths};
 use grelfint_tests::fast;
-use grelfint_tests::ffi::{CompileAnswer, Node, NodeSet};
+use grelfint_tests::ffi::{handle_request_by, CompileAnswer, HandleRequest, Node, NodeSet, HANDLE_REQUEST};
 use grelfint_tests::reference::{CodeType, EXTERNAL_SIZE};
 use grelfint_tests::sides::{Side, FAST, LIBRARY};
 use std::hint::black_box;
@@ -33,12 +33,11 @@ fn time(calls: u32, mut call: impl FnMut()) -> f64 {
     began.elapsed().as_nanos() as f64 / calls as f64
 }
 
-fn time_request(b: &mut Board, frame: &[u8], calls: u32) -> f64 {
-    let take = b.side.handle_request;
+fn time_request(b: &mut Board, function: HandleRequest, frame: &[u8], calls: u32) -> f64 {
     let node = b.node;
     time(calls, || {
-        let a = take(black_box(node), black_box(frame), &mut b.eeprom, &mut b.external, &mut b.response);
-        black_box(&a);
+        let (node, frame) = (*black_box(&node), black_box(frame));
+        black_box(&handle_request_by(function, node, frame, &mut b.eeprom, &mut b.external, &mut b.response));
     })
 }
 
@@ -66,41 +65,43 @@ fn time_tick_in_place(side: Side, node: Node, calls: u32) -> f64 {
     })
 }
 
-fn median(mut v: Vec<f64>) -> f64 {
-    v.sort_by(|a, b| a.partial_cmp(b).unwrap());
-    v[v.len() / 2]
+/// The time that one burst in ten stays below.
+fn low_quantile(mut times: Vec<f64>) -> f64 {
+    times.sort_by(f64::total_cmp);
+    times[times.len() / 10]
 }
 
-/// The median of each round's ratio.
-fn ratio(of: &[f64], to: &[f64]) -> f64 {
-    median(of.iter().zip(to).map(|(a, b)| a / b).collect())
+/// Calls `f` with the stack some multiple of 80 bytes lower.
+#[inline(never)]
+fn lower(steps: usize, f: &mut dyn FnMut() -> f64) -> f64 {
+    let space = black_box([0u8; 40]);
+    let t = if steps == 0 { f() } else { lower(steps - 1, f) };
+    black_box(&space);
+    t
 }
 
-/// Nanoseconds per call of each of `N` programs in each round; each round starts with another one.
-/// `run(program, calls)` gives one such time.
-fn time_rounds<const N: usize>(rounds: usize, mut run: impl FnMut(usize, u32) -> f64) -> [Vec<f64>; N] {
+/// Nanoseconds per call of each of `N` programs: a low quantile over short bursts of calls, by turns. Other work on the machine
+/// makes bursts slower, never faster, and it is seldom there for most of them. `run(program, calls)` times one burst.
+fn time_bursts<const N: usize>(bursts: usize, mut run: impl FnMut(usize, u32) -> f64) -> [f64; N] {
     let calls: [u32; N] = std::array::from_fn(|program| {
-        // enough calls for about 10 ms
-        let once = run(program, 50).max(1.0);
-        let calls = (10_000_000.0 / once).clamp(20.0, 1_000_000.0) as u32;
-        run(program, calls / 4 + 1);
-        calls
+        run(program, 1000);
+        (20_000.0 / run(program, 1000)).clamp(1.0, 1000.0) as u32
     });
-    let mut times = [(); N].map(|_| Vec::new());
-    for round in 0..rounds {
-        for program in (round..round + N).map(|i| i % N) {
-            times[program].push(run(program, calls[program]));
+    let deep = std::env::var("DEEP").is_ok();
+    let mut times = [(); N].map(|_| Vec::with_capacity(bursts));
+    for burst in 0..bursts {
+        for program in (burst..burst + N).map(|i| i % N) {
+            let depth = if deep { burst % 64 } else { 0 };
+            times[program].push(lower(depth, &mut || run(program, calls[program])));
         }
     }
-    times
+    times.map(low_quantile)
 }
 
 /// `run(side, calls)`: 0 is the library, 1 the fast side.
-fn compare(name: &str, rounds: usize, run: impl FnMut(usize, u32) -> f64) {
-    let [library, fast] = time_rounds(rounds, run);
-    let ratio = ratio(&library, &fast);
-    let [library, fast] = [library, fast].map(median);
-    println!("{name:<34} library {library:>10.1} ns   fast {fast:>10.1} ns   ratio {ratio:>6.2}");
+fn compare(name: &str, bursts: usize, run: impl FnMut(usize, u32) -> f64) {
+    let [library, fast] = time_bursts(bursts, run);
+    println!("{name:<34} library {library:>10.1} ns   fast {fast:>10.1} ns   ratio {:>6.2}", library / fast);
 }
 
 fn lamp_frame(pcmd: u8, lamps: u32, timed: usize) -> Vec<u8> {
@@ -119,13 +120,12 @@ fn lamp_frame(pcmd: u8, lamps: u32, timed: usize) -> Vec<u8> {
 }
 
 /// Five lamp entries of eleven bytes and the closing zero: 56 bytes of PData.
-fn full_batch() -> Vec<u8> {
+fn batch(entries: u8) -> Vec<u8> {
     let mut frame = vec![1, 0, 2, 5, 0xFF, 0xFF];
-    for i in 0..5u8 {
+    for i in 0..entries {
         frame.extend_from_slice(&[11, 0x71, i % 3, 0x71, 0x24, 1 << i, 0, 0, 0, 0x80 | 20, 0x8A]);
     }
     frame.push(0);
-    assert_eq!(frame.len(), 62);
     frame
 }
 
@@ -165,7 +165,7 @@ fn code_check(external: &[u8]) -> Vec<u8> {
     frame_of(1, 2, 0x0A, 0xFFFF, &code_check_pdata(CodeType::Handler.flag(), 0, EXTERNAL_SIZE, sum))
 }
 
-fn compare_request(name: &str, rounds: usize, frame: &[u8]) {
+fn compare_request(name: &str, bursts: usize, frame: &[u8]) {
     let mut boards = [board(LIBRARY), board(FAST)];
     let [l, f] = [0, 1].map(|i| {
         let node = boards[i].node;
@@ -173,15 +173,16 @@ fn compare_request(name: &str, rounds: usize, frame: &[u8]) {
     });
     let seen = &boards[0].response;
     assert!(l == f && l.refusal == 0 && *seen == boards[1].response && seen[6] == 0, "{name}: sides differ");
-    compare(name, rounds, |side, calls| time_request(&mut boards[side], frame, calls));
+    const FUNCTIONS: [HandleRequest; 2] = [HANDLE_REQUEST, fast::handle_request_c];
+    compare(name, bursts, |side, calls| time_request(&mut boards[side], FUNCTIONS[side], frame, calls));
 }
 
-fn compare_compile(name: &str, rounds: usize, book: &[u8], compile: impl Compile) {
+fn compare_compile(name: &str, bursts: usize, book: &[u8], compile: impl Compile) {
     let sides = [LIBRARY, FAST];
     let mut outs = [vec![0; 4096], vec![0; 4096]];
     let [l, f] = [0, 1].map(|i| compile(sides[i], book, &mut outs[i]));
     assert!(l == f && l.refusal == 0 && outs[0] == outs[1], "{name}: sides differ");
-    compare(name, rounds, |side, calls| time_compile(&compile, sides[side], book, &mut outs[side], calls));
+    compare(name, bursts, |side, calls| time_compile(&compile, sides[side], book, &mut outs[side], calls));
 }
 
 // ---- checksums from start value 1 ----
@@ -234,7 +235,7 @@ fn fast_side(bytes: &[u8]) -> u16 {
 }
 
 /// Each way to compute the checksum of the same 16,384 bytes, against the first.
-fn compare_checksums(rounds: usize) {
+fn compare_checksums(bursts: usize) {
     const CHECKSUMS: [(&str, fn(&[u8]) -> u16); 4] = [
         ("byte by byte, with carries", byte_by_byte),
         ("plain sums of 64-byte blocks", plain_blocks),
@@ -248,44 +249,47 @@ fn compare_checksums(rounds: usize) {
     }
     library.request(library.node, &frame, Lengths::USUAL);
     assert_eq!(library.response[8], 1, "the library's checksum");
-    let [times @ .., in_library] = time_rounds::<5>(rounds, |program, calls| match CHECKSUMS.get(program) {
+    let times = time_bursts::<5>(bursts, |program, calls| match CHECKSUMS.get(program) {
         Some((_, checksum)) => time(calls, || {
             black_box(checksum(black_box(&library.external)));
         }),
-        None => time_request(&mut library, &frame, calls),
+        None => time_request(&mut library, HANDLE_REQUEST, &frame, calls),
     });
-    println!("\nchecksum of the same 16,384 bytes; ratio = time / time byte by byte, median of {rounds} rounds");
-    let names = CHECKSUMS.map(|(name, _)| name);
-    let rows = names.into_iter().zip(times.iter()).chain([("library, a whole code check", &in_library)]);
-    for (name, time) in rows {
-        println!("{name:<34} {:>10.1} ns   ratio {:>6.2}", median(time.clone()), ratio(time, &times[0]));
+    println!("\nchecksum of the same 16,384 bytes; ratio = time / time byte by byte");
+    let names = CHECKSUMS.map(|(name, _)| name).into_iter().chain(["library, a whole code check"]);
+    for (name, time) in names.zip(times) {
+        println!("{name:<34} {time:>10.1} ns   ratio {:>6.2}", time / times[0]);
     }
 }
 
 fn main() {
-    let rounds = std::env::var("BENCH_ROUNDS").ok().and_then(|v| v.parse().ok()).unwrap_or(15);
-    println!("median of {rounds} rounds, library and fast side alternating; ratio = library / fast");
+    let bursts = std::env::var("BENCH_ROUNDS").ok().and_then(|v| v.parse().ok()).unwrap_or(3000);
+    println!("median of {bursts} bursts, library and fast side alternating; ratio = library / fast");
     println!("each side has separate buffers: EEPROM 192, external memory 16,384, response 64, output 4,096 bytes;");
     println!("each call gets the same node with 32 lit lamps by value; for the tick in place, both sides copy it into");
     println!("one record before each call, and the fast side stores the result of its by-value tick there");
-    compare_request("set of 9 lamps", rounds, &lamp_frame(0, 9, 4));
-    compare_request("raise of 9 lamps", rounds, &lamp_frame(1, 9, 4));
-    compare_request("set of 32 lamps", rounds, &lamp_frame(0, 32, 16));
-    compare_request("raise of 32 lamps", rounds, &lamp_frame(1, 32, 16));
-    compare_request("full batch, five lamp entries", rounds, &full_batch());
-    compare_request("full selective batch, two entries", rounds, &full_selective_batch());
-    compare_request("code check over 16,384 bytes", rounds, &code_check(&board(LIBRARY).external));
-    compare_compile("compiling a scene of 64 steps", rounds, &scene_of_64(), |side, book, out| {
+    for lamps in [1, 8, 32] {
+        compare_request(&format!("set of {lamps} lamps"), bursts, &lamp_frame(0, lamps, lamps as usize / 2));
+    }
+    for lamps in [1, 8, 32] {
+        compare_request(&format!("raise of {lamps} lamps"), bursts, &lamp_frame(1, lamps, lamps as usize / 2));
+    }
+    for entries in [1, 5] {
+        compare_request(&format!("batch of {entries} lamp entries"), bursts, &batch(entries));
+    }
+    compare_request("full selective batch, two entries", bursts, &full_selective_batch());
+    compare_request("code check over 16,384 bytes", bursts, &code_check(&board(LIBRARY).external));
+    compare_compile("compiling a scene of 64 steps", bursts, &scene_of_64(), |side, book, out| {
         (side.compile)(book, 0, 1, 0x2471, out)
     });
     let nodes = thirty_nodes();
-    compare_compile("the same for thirty chosen nodes", rounds, &scene_of_64(), |side, book, out| {
+    compare_compile("the same for thirty chosen nodes", bursts, &scene_of_64(), |side, book, out| {
         (side.compile_selected)(book, 0, nodes, 0x2471, out)
     });
     let node = board(LIBRARY).node;
     assert_eq!((LIBRARY.tick)(node), (FAST.tick)(node));
     let sides = [LIBRARY, FAST];
-    compare("tick", rounds, |side, calls| time_tick(sides[side], node, calls));
-    compare("tick in place", rounds, |side, calls| time_tick_in_place(sides[side], node, calls));
-    compare_checksums(rounds);
+    compare("tick", bursts, |side, calls| time_tick(sides[side], node, calls));
+    compare("tick in place", bursts, |side, calls| time_tick_in_place(sides[side], node, calls));
+    compare_checksums(bursts);
 }

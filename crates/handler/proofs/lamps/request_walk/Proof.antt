@@ -9,7 +9,7 @@ returns c =
     let a = c .before .before .before .before .args in
     let command = c .before .before .command-of .ensures in
     let mask = c .mask-of .ensures in
-    λ i. record { next = a .end; command = command i; remaining = mask i; lamp = 0; at = a .start + 4 }
+    λ i. record { next = a .end; command = command i; remaining = mask i; at = a .start + 4 }
 
 pub request-walk-spec : {M : Type 1} → statement M
 request-walk-spec =
