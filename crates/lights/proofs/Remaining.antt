@@ -41,7 +41,7 @@ module _ (c : Command) where
 
   lamps-even : (k m i r n : ℕ) (e : LampChange) (es : List LampChange) (ls : List Lamp) → m % 2 ≡ 0 → length ls ≡ suc k
       → ((xs : List Lamp) → length xs ≡ k
-        → lampsAfter c (n - 1) (bits k (m / 2)) (e ∷ es) xs ≡ lampsAfter c (n - 1) (bits k r) es (lampChanged c (n - 1) i (e .power) (e .seconds) xs))
+      → lampsAfter c (n - 1) (bits k (m / 2)) (e ∷ es) xs ≡ lampsAfter c (n - 1) (bits k r) es (lampChanged c (n - 1) i (e .power) (e .seconds) xs))
       → lampsAfter c n (bits (suc k) m) (e ∷ es) ls ≡ lampsAfter c n (bits (suc k) (r * 2)) es (lampChanged c n (suc i) (e .power) (e .seconds) ls)
   unfolding lampsAfter
   lamps-even k m i r n e es [] z l p = absurd (omega arith)
@@ -56,7 +56,7 @@ module _ (c : Command) where
   lamps-lowest =
       by-lowest
       (λ (k m i r : ℕ). (n : ℕ) (e : LampChange) (es : List LampChange) (ls : List Lamp) → length ls ≡ k
-        → lampsAfter c n (bits k m) (e ∷ es) ls ≡ lampsAfter c n (bits k r) es (lampChanged c n i (e .power) (e .seconds) ls))
+      → lampsAfter c n (bits k m) (e ∷ es) ls ≡ lampsAfter c n (bits k r) es (lampChanged c n i (e .power) (e .seconds) ls))
       (λ k m z n e es ls l. lamps-odd k m n e es ls z l)
       (λ k m i r some z p n e es ls l. lamps-even k m i r n e es ls z l (p (n - 1) e es))
 

@@ -2,10 +2,10 @@
 use crate::lamp::MAX_LEVEL;
 ghost use mathlib.Core.Path.{_≡_};
 ghost use mathlib.Core.Bool.{true};
-ghost use Prim.Native.Nat.{_≤_};
+ghost use Prim.Native.Nat.{_≤_, _<_};
 ghost use lib.ListN.{length, drop};
 ghost use Rattle.lights.specs.Bits.{bitmapSize};
-ghost use Rattle.lights.specs.Lights.{powerOk, timeOk, secondsOf, change, firstPowerEntry, isValid, powerEntries, areValid};
+ghost use Rattle.lights.specs.Lights.{bit7, powerOk, timeOk, secondsOf, change, firstPowerEntry, isValid, powerEntries, areValid};
 ghost use Rattle.lights.specs.declared.power.PowerEntry.the-variants.{Valid};
 
 // The size of the bitmap at the front of PData; the power entries follow it.
@@ -36,13 +36,13 @@ pub struct ValidPowerEntry {
     pub size: usize,
 }
 
+// Whether the low seven bits of a power byte are a level or keep. Plus one, keep becomes 0 and the levels follow it, so that one
+// comparison is enough.
 fn power_ok(power: u8) -> bool
+    requires { ⌜ power < bit7 ⌝ }
     ensures { λ r. ⌜ r ≡ powerOk power ⌝ }
 {
-    if power <= MAX_LEVEL {
-        return true;
-    }
-    power == KEEP
+    (power + 1) % BIT_7 <= MAX_LEVEL + 1
 }
 
 pub fn time_ok(time: u8) -> bool
