@@ -1,11 +1,12 @@
 //! Shared by the tests: the C interface; the plain reference, written from the
 //! papers (document 01 with changes 1/12 to 4/12 of document 02) and the
-//! decisions on open points; a fast implementation of the same rules for the
-//! benchmark; a common interface to these three; a board to run them on; random
-//! inputs; and counts of what they did.
+//! decisions on open points; a fast implementation of the same rules, and one of
+//! requests in place, for the benchmark; a common interface to these four; a
+//! board to run them on; random inputs; and counts of what they did.
 pub mod board;
 pub mod fast;
 pub mod ffi;
+pub mod in_place;
 pub mod random;
 pub mod reference;
 pub mod rng;

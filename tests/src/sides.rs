@@ -1,7 +1,8 @@
 //! One type for the calls of include/grelfint.h, filled by the library, the
-//! plain reference and the fast implementation, so that a test is written once.
+//! plain reference, and the fast and the in-place implementation, so that a test
+//! is written once.
 use crate::ffi::*;
-use crate::{fast, ffi, reference};
+use crate::{fast, ffi, in_place, reference};
 
 #[derive(Clone, Copy)]
 pub struct Side {
@@ -67,3 +68,6 @@ pub const FAST: Side = Side {
     },
     ..REFERENCE
 };
+
+/// Requests only; all other calls are the reference's.
+pub const IN_PLACE: Side = Side { name: "in place", handle_request: in_place::handle_request, ..REFERENCE };

@@ -10,9 +10,12 @@ use grelfint_tests::random::{self, BATCH_LIST, EXCESS, GUARD, SELECTIVE_LIST};
 use grelfint_tests::reference::{self as r, CodeType, EEPROM_SIZE, EXTERNAL_SIZE, NODE_SET};
 use grelfint_tests::rng::{number, seed, Rng};
 use grelfint_tests::seen::{AtLimit, BrokenList, Compiled, Profile, Requests, Seen, SelectiveBatch, SetKind, Taker};
-use grelfint_tests::sides::{Side, FAST, LIBRARY, REFERENCE};
+use grelfint_tests::sides::{Side, FAST, IN_PLACE, LIBRARY, REFERENCE};
 use std::hint::black_box;
 use std::ops::Range;
+
+/// The sides whose requests are compared with the reference's.
+const TESTED: [Side; 3] = [LIBRARY, FAST, IN_PLACE];
 
 /// Placed before and after a record that a call writes.
 const GUARD_NODE: Node = Node {
@@ -913,12 +916,12 @@ fn every_pnum_and_pcmd() {
     }
 }
 
-/// Lists of both kinds of batch that break in each way: the library and the fast implementation find the fault where the
-/// generator put it, if the node is selected.
+/// Lists of both kinds of batch that break in each way: every side finds the fault where the generator put it, if the node
+/// is selected.
 #[test]
 fn broken_lists() {
     let boards = 200;
-    for side in [LIBRARY, FAST] {
+    for side in TESTED {
         let mut s = Session::new("broken_lists", side);
         s.run(boards, 1, Session::broken_lists);
         println!("broken_lists: {:?}", s.seen);
@@ -931,7 +934,7 @@ fn broken_lists() {
 #[test]
 fn every_length_byte() {
     let entry = [5, 0x71, 0x3E, 0xFF, 0xFF];
-    for side in [LIBRARY, FAST] {
+    for side in TESTED {
         let mut s = Session::new("every_length_byte", side);
         let own = s.plain.node.settings.address;
         let selecting = NodeSet::of([own]).bits;
@@ -946,7 +949,7 @@ fn every_length_byte() {
 /// What a selected node does is what it does for a batch; a node that is not selected does nothing.
 #[test]
 fn selective_batches() {
-    for side in [LIBRARY, FAST] {
+    for side in TESTED {
         let mut s = Session::new("selective_batches", side);
         s.run(200, 50, |s| {
             s.same_as_batch();
@@ -960,7 +963,7 @@ fn selective_batches() {
 /// A node is selected by the bit of its address, whatever the 239 others are.
 #[test]
 fn every_address_and_bit() {
-    for side in [LIBRARY, FAST] {
+    for side in TESTED {
         let mut s = Session::new("every_address_and_bit", side);
         for address in 1..240 {
             for bit in 0..240 {
@@ -975,7 +978,7 @@ fn every_address_and_bit() {
 
 /// Tests images of each type of code in random bytes.
 fn in_random_bytes(test: &'static str, images: impl Fn(&mut Session, CodeType)) {
-    for side in [LIBRARY, FAST] {
+    for side in TESTED {
         let mut s = Session::new(test, side);
         s.write_external(|g, external| g.fill(external));
         for code in CodeType::EVERY {
@@ -1016,7 +1019,7 @@ fn every_start_of_an_image() {
 /// Random images, many with sums of 255. A wrong checksum or a changed byte is noticed exactly when the sums differ.
 #[test]
 fn random_images() {
-    for side in [LIBRARY, FAST] {
+    for side in TESTED {
         let mut s = Session::new("random_images", side);
         s.run(100, 20, Session::random_image);
         println!("random_images: {:?}", s.seen);
@@ -1027,7 +1030,7 @@ fn random_images() {
 /// Images of the greatest length, from bytes that give the largest and the smallest plain sums, and from others.
 #[test]
 fn extreme_images() {
-    for side in [LIBRARY, FAST] {
+    for side in TESTED {
         let mut s = Session::new("extreme_images", side);
         for bytes in [[0; 2], [0xFF; 2], [0, 0xFF], [0xFF, 0], [0xFE; 2], [0xFF, 0xFE], [1; 2], [0x80; 2], [0x7F, 0x80]]
         {
@@ -1054,7 +1057,7 @@ fn matches(board: &mut Board, code: CodeType, length: usize, sum: u16) -> bool {
 /// Of all 65,536 checksums exactly one matches, for images with and without sums of 255.
 #[test]
 fn every_checksum() {
-    for side in [LIBRARY, FAST] {
+    for side in TESTED {
         let mut b = Board::started(side, 3, 1);
         for code in CodeType::EVERY {
             for (units, sum) in [(1, 0x12FF), (1, 0xFF34), (1, 0xFFFF), (1, 0x5678), (7, 0xFFFF), (7, 0x0101)] {
@@ -1071,7 +1074,7 @@ fn every_checksum() {
 #[test]
 fn every_pair_of_sums_after_a_unit() {
     let mut g = Rng::new(seed("every_pair_of_sums_after_a_unit"));
-    for side in [LIBRARY, FAST] {
+    for side in TESTED {
         let mut b = Board::started(side, 3, 1);
         for code in CodeType::EVERY {
             let (unit, length) = (code.unit(), 2 * code.unit());
@@ -1197,7 +1200,7 @@ fn random_scenes() {
 /// they were.
 #[test]
 fn one_scene_for_chosen_nodes() {
-    for side in [LIBRARY, FAST] {
+    for side in TESTED {
         let mut s = Session::new("one_scene_for_chosen_nodes", side);
         s.run(1, 3000, Session::chosen_nodes);
         println!("one_scene_for_chosen_nodes: {:?}", s.seen);
@@ -1281,15 +1284,28 @@ fn every_byte_of_a_step() {
     }
 }
 
-/// The benchmark's baseline follows the same rules. Its compiler is compared in
-/// `Session::scene`.
-#[test]
-fn fast_agrees() {
-    let mut s = Session::new("fast_agrees", FAST);
+/// An implementation that the benchmark times beside the library follows the same rules: requests, some to a node that
+/// breaks the node rule, and ticks.
+fn agrees(test: &'static str, side: Side) {
+    let mut s = Session::new(test, side);
     s.run(450, 300, |s| {
-        s.random_request(s.plain.node, false);
+        let own = s.plain.node;
+        let node = if s.g.chance(1, 30) { random::broken(&mut s.g, own) } else { own };
+        s.random_request(node, false);
         let after = s.tick(s.plain.node);
         s.set_node(after);
     });
+    s.seen.refusals.assert_each(0..=4, 1000);
     s.seen.assert_every_kind_of_request();
+}
+
+/// The fast compiler is compared in `Session::compile`.
+#[test]
+fn fast_agrees() {
+    agrees("fast_agrees", FAST);
+}
+
+#[test]
+fn in_place_agrees() {
+    agrees("in_place_agrees", IN_PLACE);
 }

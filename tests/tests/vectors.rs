@@ -1,15 +1,15 @@
 //! Examples from the documents, run on the library through its C interface, on
-//! the plain reference and on the fast implementation: document 01's worked
-//! examples (those marked P are also proved, but cheap to run), broken lists and
-//! bad steps (02, change 1/12), keep with a time (02, change 2/12), selective
-//! batches and scenes for chosen nodes (02, change 3/12), checksums of code
-//! images (02, change 4/12), the light standard's step table and examples (001),
-//! the confirmation's timing (003), and the guide's batch and confirmation
-//! examples (000).
+//! the plain reference, and on the fast and the in-place implementation:
+//! document 01's worked examples (those marked P are also proved, but cheap to
+//! run), broken lists and bad steps (02, change 1/12), keep with a time (02,
+//! change 2/12), selective batches and scenes for chosen nodes (02, change
+//! 3/12), checksums of code images (02, change 4/12), the light standard's step
+//! table and examples (001), the confirmation's timing (003), and the guide's
+//! batch and confirmation examples (000).
 use grelfint_tests::board::{book_of, code_check_pdata, frame_of, selective_pdata, set_checksum, Board, Lengths};
 use grelfint_tests::ffi::{CompileAnswer, FrcAnswer, Lamp, Node, NodeSet, RequestAnswer};
 use grelfint_tests::reference::{self, CodeType, EXTERNAL_SIZE};
-use grelfint_tests::sides::{Side, FAST, LIBRARY, REFERENCE};
+use grelfint_tests::sides::{Side, FAST, IN_PLACE, LIBRARY, REFERENCE};
 use std::slice::from_ref;
 
 /// Makes each example a test of every side.
@@ -23,6 +23,9 @@ macro_rules! on_every_side {
         }
         mod on_fast {
             $(#[test] fn $example() { super::$example(super::FAST) })*
+        }
+        mod on_in_place {
+            $(#[test] fn $example() { super::$example(super::IN_PLACE) })*
         }
     };
 }
