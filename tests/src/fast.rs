@@ -1,5 +1,7 @@
 //! The reference's rules implemented for speed and without allocation, as the
-//! benchmark's baseline. `sessions.rs` compares it with the plain reference.
+//! benchmark's baseline, behind the C boundary of include/grelfint.h: nodes and
+//! answers by value, slices as pointers and lengths. `sessions.rs` compares it
+//! with the plain reference.
 use super::ffi::{CompileAnswer, Lamp, Node, NodeAnswer, NodeSet, RequestAnswer};
 use std::slice::{from_raw_parts, from_raw_parts_mut};
 
@@ -69,7 +71,7 @@ fn refusal(node: &Node, frame: &[u8], eeprom: &[u8], external: &[u8], response: 
 /// # Safety
 /// Each pointer and length is a slice; those that are written overlap no other.
 #[inline(never)]
-pub unsafe extern "C" fn handle_request_c(
+pub unsafe extern "C" fn handle_request(
     node: Node,
     frame: *const u8,
     frame_length: usize,
@@ -80,7 +82,7 @@ pub unsafe extern "C" fn handle_request_c(
     response: *mut u8,
     response_length: usize,
 ) -> RequestAnswer {
-    handle_request(
+    request(
         node,
         from_raw_parts(frame, frame_length),
         from_raw_parts_mut(eeprom, eeprom_length),
@@ -90,13 +92,7 @@ pub unsafe extern "C" fn handle_request_c(
 }
 
 #[inline(always)]
-fn handle_request(
-    mut node: Node,
-    frame: &[u8],
-    eeprom: &mut [u8],
-    external: &mut [u8],
-    response: &mut [u8],
-) -> RequestAnswer {
+fn request(mut node: Node, frame: &[u8], eeprom: &mut [u8], external: &mut [u8], response: &mut [u8]) -> RequestAnswer {
     let refusal = refusal(&node, frame, eeprom, external, response);
     if refusal != 0 {
         return RequestAnswer { refusal, ..RequestAnswer::zeros(node) };

@@ -125,17 +125,8 @@ pub struct CompileAnswer {
 }
 
 /// The type of `grelfint_handle_request`.
-pub type HandleRequest = unsafe extern "C" fn(
-    Node,
-    *const u8,
-    usize,
-    *mut u8,
-    usize,
-    *mut u8,
-    usize,
-    *mut u8,
-    usize,
-) -> RequestAnswer;
+pub type HandleRequest =
+    unsafe extern "C" fn(Node, *const u8, usize, *mut u8, usize, *mut u8, usize, *mut u8, usize) -> RequestAnswer;
 
 /// The type of `grelfint_compile`.
 pub type Compile = unsafe extern "C" fn(*const u8, usize, usize, u16, u16, *mut u8, usize) -> CompileAnswer;
@@ -329,7 +320,14 @@ pub fn earliest_send(
 }
 
 #[inline(always)]
-pub fn compile_by(function: Compile, book: &[u8], scene: usize, address: u16, hwpid: u16, out: &mut [u8]) -> CompileAnswer {
+pub fn compile_by(
+    function: Compile,
+    book: &[u8],
+    scene: usize,
+    address: u16,
+    hwpid: u16,
+    out: &mut [u8],
+) -> CompileAnswer {
     unsafe { function(book.as_ptr(), book.len(), scene, address, hwpid, out.as_mut_ptr(), out.len()) }
 }
 

@@ -56,7 +56,7 @@ pub const FAST: Side = Side {
         answer.refusal
     },
     handle_request: |node, frame, eeprom, external, response| {
-        handle_request_by(fast::handle_request_c, node, frame, eeprom, external, response)
+        handle_request_by(fast::handle_request, node, frame, eeprom, external, response)
     },
     compile: |book, scene, address, hwpid, out| compile_by(fast::compile, book, scene, address, hwpid, out),
     compile_default: |book, scene, address, out| compile_by(fast::compile, book, scene, address, 0xFFFF, out),

@@ -1,16 +1,19 @@
 //! Benchmark, not part of the gate: `cargo run --release --offline`.
-//! Measures the library against a fast implementation of the same rules
-//! (src/fast.rs), alternating within one run. The result is the median over all
-//! bursts of the ratio library / fast. Then measures ways to compute a checksum
-//! against the loop that adds byte by byte with carries, in the same manner.
-//! `BENCH_ROUNDS` sets the number of bursts.
+//! Measures the library against an implementation of the same rules in Rust for
+//! speed (src/fast.rs), which has the same C boundary, and requests also against
+//! one in C that changes the node in place (c/in_place.c). Then measures ways to
+//! compute a checksum against the loop that adds byte by byte with carries.
+//! `BENCH_BURSTS` sets the number of bursts for each figure.
 use grelfint_tests::board::{code_check_pdata, frame_of, Board, Lengths};
-use grelfint_tests::fast;
 use grelfint_tests::ffi::{handle_request_by, CompileAnswer, HandleRequest, Node, NodeSet, HANDLE_REQUEST};
 use grelfint_tests::reference::{CodeType, EXTERNAL_SIZE};
-use grelfint_tests::sides::{Side, FAST, LIBRARY};
+use grelfint_tests::sides::{Side, FAST, IN_PLACE, LIBRARY};
+use grelfint_tests::{fast, in_place};
 use std::hint::black_box;
 use std::time::Instant;
+
+/// Nanoseconds of a burst. The calls of one take this long together, so that few bursts are interrupted.
+const BURST: f64 = 20_000.0;
 
 fn board(side: Side) -> Board {
     let mut b = Board::started(side, 32, 10);
@@ -33,11 +36,24 @@ fn time(calls: u32, mut call: impl FnMut()) -> f64 {
     began.elapsed().as_nanos() as f64 / calls as f64
 }
 
+/// Nanoseconds per request by value.
 fn time_request(b: &mut Board, function: HandleRequest, frame: &[u8], calls: u32) -> f64 {
     let node = b.node;
     time(calls, || {
         let (node, frame) = (*black_box(&node), black_box(frame));
         black_box(&handle_request_by(function, node, frame, &mut b.eeprom, &mut b.external, &mut b.response));
+    })
+}
+
+/// Nanoseconds per request in place. The node is first copied into the record, so that each request starts from it.
+fn time_in_place(b: &mut Board, frame: &[u8], calls: u32) -> f64 {
+    let node = b.node;
+    let mut lent = node;
+    time(calls, || {
+        lent = *black_box(&node);
+        let frame = black_box(frame);
+        let lent = black_box(&mut lent);
+        black_box(&in_place::request(lent, frame, &mut b.eeprom, &mut b.external, &mut b.response));
     })
 }
 
@@ -53,63 +69,65 @@ fn time_compile(compile: &impl Compile, side: Side, book: &[u8], out: &mut [u8],
 
 fn time_tick(side: Side, node: Node, calls: u32) -> f64 {
     time(calls, || {
-        black_box(&(side.tick)(black_box(node)));
+        black_box(&(side.tick)(*black_box(&node)));
     })
 }
 
 fn time_tick_in_place(side: Side, node: Node, calls: u32) -> f64 {
     let mut lent = node;
     time(calls, || {
-        lent = black_box(node);
+        lent = *black_box(&node);
         black_box((side.tick_in_place)(black_box(&mut lent)));
     })
 }
 
-/// The time that one burst in ten stays below.
+/// One burst in ten takes less.
 fn low_quantile(mut times: Vec<f64>) -> f64 {
     times.sort_by(f64::total_cmp);
     times[times.len() / 10]
 }
 
-/// Calls `f` with the stack some multiple of 80 bytes lower.
-#[inline(never)]
-fn lower(steps: usize, f: &mut dyn FnMut() -> f64) -> f64 {
-    let space = black_box([0u8; 40]);
-    let t = if steps == 0 { f() } else { lower(steps - 1, f) };
-    black_box(&space);
-    t
-}
-
-/// Nanoseconds per call of each of `N` programs: a low quantile over short bursts of calls, by turns. Other work on the machine
-/// makes bursts slower, never faster, and it is seldom there for most of them. `run(program, calls)` times one burst.
+/// Nanoseconds per call of each of `N` programs: a low quantile over short bursts, by turns. Other work on the machine
+/// makes some bursts slower and none faster. `run(program, calls)` times one burst.
 fn time_bursts<const N: usize>(bursts: usize, mut run: impl FnMut(usize, u32) -> f64) -> [f64; N] {
     let calls: [u32; N] = std::array::from_fn(|program| {
         run(program, 1000);
-        (20_000.0 / run(program, 1000)).clamp(1.0, 1000.0) as u32
+        (BURST / run(program, 1000)).clamp(1.0, 1000.0) as u32
     });
-    let deep = std::env::var("DEEP").is_ok();
     let mut times = [(); N].map(|_| Vec::with_capacity(bursts));
     for burst in 0..bursts {
         for program in (burst..burst + N).map(|i| i % N) {
-            let depth = if deep { burst % 64 } else { 0 };
-            times[program].push(lower(depth, &mut || run(program, calls[program])));
+            times[program].push(run(program, calls[program]));
         }
     }
     times.map(low_quantile)
 }
 
-/// `run(side, calls)`: 0 is the library, 1 the fast side.
-fn compare(name: &str, bursts: usize, run: impl FnMut(usize, u32) -> f64) {
-    let [library, fast] = time_bursts(bursts, run);
-    println!("{name:<34} library {library:>10.1} ns   fast {fast:>10.1} ns   ratio {:>6.2}", library / fast);
+/// Measures the library, the fast side and any further ones, and prints a row.
+fn compare<const N: usize>(name: &str, bursts: usize, run: impl FnMut(usize, u32) -> f64) {
+    let times = time_bursts::<N>(bursts, run);
+    let columns = times.map(|time| format!("{time:>10.1}")).concat();
+    let ratios: String = times[1..].iter().map(|time| format!("{:>10.2}", times[0] / time)).collect();
+    println!("{name:<34}{columns:<30}{ratios}");
 }
 
-fn lamp_frame(pcmd: u8, lamps: u32, timed: usize) -> Vec<u8> {
+fn print_heading(bursts: usize) {
+    println!("ns per call, the quantile 1/10 of {bursts} bursts of about {:.0} us, by turns", BURST / 1000.0);
+    println!("each side has separate buffers: EEPROM 192, external memory 16,384, response 64, output 4,096 bytes;");
+    println!(
+        "each call gets the same node with 32 lit lamps, by value; in C and for the tick in place it is copied into"
+    );
+    println!("a record before the call, and the fast side stores the result of its by-value tick there\n");
+    println!("{:<34}{:>10}{:>10}{:>10}{:>10}{:>10}", "", "library", "Rust", "C", "to Rust", "to C");
+}
+
+/// A request for the first lamps; the lower half of them gets a time.
+fn lamp_frame(pcmd: u8, lamps: u32) -> Vec<u8> {
     let mask = if lamps == 32 { u32::MAX } else { (1 << lamps) - 1 };
     let mut frame = vec![1, 0, 0x71, pcmd, 0xFF, 0xFF];
     frame.extend_from_slice(&mask.to_le_bytes());
     for i in 0..lamps as usize {
-        if i < timed {
+        if i < lamps as usize / 2 {
             frame.extend_from_slice(&[0x80 | 40, 0x85]);
         } else {
             frame.push(30);
@@ -119,7 +137,7 @@ fn lamp_frame(pcmd: u8, lamps: u32, timed: usize) -> Vec<u8> {
     frame
 }
 
-/// Five lamp entries of eleven bytes and the closing zero: 56 bytes of PData.
+/// Lamp entries of eleven bytes and the closing zero; five of them are 56 bytes of PData.
 fn batch(entries: u8) -> Vec<u8> {
     let mut frame = vec![1, 0, 2, 5, 0xFF, 0xFF];
     for i in 0..entries {
@@ -166,15 +184,19 @@ fn code_check(external: &[u8]) -> Vec<u8> {
 }
 
 fn compare_request(name: &str, bursts: usize, frame: &[u8]) {
-    let mut boards = [board(LIBRARY), board(FAST)];
-    let [l, f] = [0, 1].map(|i| {
-        let node = boards[i].node;
-        boards[i].request(node, frame, Lengths::USUAL)
+    let mut boards = [LIBRARY, FAST, IN_PLACE].map(board);
+    let answers = boards.each_mut().map(|b| b.request(b.node, frame, Lengths::USUAL));
+    let [library, others @ ..] = &boards;
+    assert!(answers.iter().all(|a| *a == answers[0]) && answers[0].refusal == 0, "{name}: answers differ");
+    assert!(
+        others.iter().all(|b| b.response == library.response) && library.response[6] == 0,
+        "{name}: responses differ"
+    );
+    compare::<3>(name, bursts, |side, calls| match side {
+        0 => time_request(&mut boards[0], HANDLE_REQUEST, frame, calls),
+        1 => time_request(&mut boards[1], fast::handle_request, frame, calls),
+        _ => time_in_place(&mut boards[2], frame, calls),
     });
-    let seen = &boards[0].response;
-    assert!(l == f && l.refusal == 0 && *seen == boards[1].response && seen[6] == 0, "{name}: sides differ");
-    const FUNCTIONS: [HandleRequest; 2] = [HANDLE_REQUEST, fast::handle_request_c];
-    compare(name, bursts, |side, calls| time_request(&mut boards[side], FUNCTIONS[side], frame, calls));
 }
 
 fn compare_compile(name: &str, bursts: usize, book: &[u8], compile: impl Compile) {
@@ -182,7 +204,38 @@ fn compare_compile(name: &str, bursts: usize, book: &[u8], compile: impl Compile
     let mut outs = [vec![0; 4096], vec![0; 4096]];
     let [l, f] = [0, 1].map(|i| compile(sides[i], book, &mut outs[i]));
     assert!(l == f && l.refusal == 0 && outs[0] == outs[1], "{name}: sides differ");
-    compare(name, bursts, |side, calls| time_compile(&compile, sides[side], book, &mut outs[side], calls));
+    compare::<2>(name, bursts, |side, calls| time_compile(&compile, sides[side], book, &mut outs[side], calls));
+}
+
+fn compare_requests(bursts: usize) {
+    for (name, pcmd) in [("set", 0), ("raise", 1)] {
+        for lamps in [1, 8, 32] {
+            compare_request(&format!("{name}, lamps: {lamps}"), bursts, &lamp_frame(pcmd, lamps));
+        }
+    }
+    for entries in [1, 5] {
+        compare_request(&format!("batch, lamp entries: {entries}"), bursts, &batch(entries));
+    }
+    compare_request("selective batch, lamp entries: 2", bursts, &full_selective_batch());
+    compare_request("code check over 16,384 bytes", bursts, &code_check(&board(LIBRARY).external));
+}
+
+fn compare_compilers(bursts: usize) {
+    compare_compile("compiling a scene of 64 steps", bursts, &scene_of_64(), |side, book, out| {
+        (side.compile)(book, 0, 1, 0x2471, out)
+    });
+    let nodes = thirty_nodes();
+    compare_compile("the same for thirty chosen nodes", bursts, &scene_of_64(), |side, book, out| {
+        (side.compile_selected)(book, 0, nodes, 0x2471, out)
+    });
+}
+
+fn compare_ticks(bursts: usize) {
+    let node = board(LIBRARY).node;
+    assert_eq!((LIBRARY.tick)(node), (FAST.tick)(node));
+    let sides = [LIBRARY, FAST];
+    compare::<2>("tick", bursts, |side, calls| time_tick(sides[side], node, calls));
+    compare::<2>("tick in place", bursts, |side, calls| time_tick_in_place(sides[side], node, calls));
 }
 
 // ---- checksums from start value 1 ----
@@ -263,33 +316,10 @@ fn compare_checksums(bursts: usize) {
 }
 
 fn main() {
-    let bursts = std::env::var("BENCH_ROUNDS").ok().and_then(|v| v.parse().ok()).unwrap_or(3000);
-    println!("median of {bursts} bursts, library and fast side alternating; ratio = library / fast");
-    println!("each side has separate buffers: EEPROM 192, external memory 16,384, response 64, output 4,096 bytes;");
-    println!("each call gets the same node with 32 lit lamps by value; for the tick in place, both sides copy it into");
-    println!("one record before each call, and the fast side stores the result of its by-value tick there");
-    for lamps in [1, 8, 32] {
-        compare_request(&format!("set of {lamps} lamps"), bursts, &lamp_frame(0, lamps, lamps as usize / 2));
-    }
-    for lamps in [1, 8, 32] {
-        compare_request(&format!("raise of {lamps} lamps"), bursts, &lamp_frame(1, lamps, lamps as usize / 2));
-    }
-    for entries in [1, 5] {
-        compare_request(&format!("batch of {entries} lamp entries"), bursts, &batch(entries));
-    }
-    compare_request("full selective batch, two entries", bursts, &full_selective_batch());
-    compare_request("code check over 16,384 bytes", bursts, &code_check(&board(LIBRARY).external));
-    compare_compile("compiling a scene of 64 steps", bursts, &scene_of_64(), |side, book, out| {
-        (side.compile)(book, 0, 1, 0x2471, out)
-    });
-    let nodes = thirty_nodes();
-    compare_compile("the same for thirty chosen nodes", bursts, &scene_of_64(), |side, book, out| {
-        (side.compile_selected)(book, 0, nodes, 0x2471, out)
-    });
-    let node = board(LIBRARY).node;
-    assert_eq!((LIBRARY.tick)(node), (FAST.tick)(node));
-    let sides = [LIBRARY, FAST];
-    compare("tick", bursts, |side, calls| time_tick(sides[side], node, calls));
-    compare("tick in place", bursts, |side, calls| time_tick_in_place(sides[side], node, calls));
+    let bursts = std::env::var("BENCH_BURSTS").ok().and_then(|v| v.parse().ok()).unwrap_or(3000);
+    print_heading(bursts);
+    compare_requests(bursts);
+    compare_compilers(bursts);
+    compare_ticks(bursts);
     compare_checksums(bursts);
 }
