@@ -1,7 +1,9 @@
 //! Links ../target/staticlib/libgrelfint.a; `-bundle` keeps it out of this
 //! package's rlib, so that `cargo build --lib` works without it. Compiles
-//! c/in_place.c with gcc and links it too. Functions of both start at multiples
-//! of 64 bytes: otherwise their speed depends on where the linker puts them.
+//! c/in_place.c with gcc and links it too. For the benchmark
+//! (.cargo/config.toml sets `ALIGN_FUNCTIONS`) the functions of both start at
+//! multiples of 64 bytes: otherwise their speed depends on where the linker puts
+//! them. Tests link the library as it is.
 use std::env;
 use std::path::{Path, PathBuf};
 use std::process::Command;
@@ -9,10 +11,11 @@ use std::process::Command;
 fn main() {
     let here = folder("CARGO_MANIFEST_DIR");
     let out = folder("OUT_DIR");
-    println!("cargo:rustc-link-search=native={}", out.display());
-    link_library(&here.join("../target/staticlib/libgrelfint.a"), &out.join("libgrelfint.a"));
-    link_in_place(&here, &out);
+    let align = env::var_os("ALIGN_FUNCTIONS").is_some();
+    link_library(&here.join("../target/staticlib"), align.then_some(&out));
+    link_in_place(&here, &out, align);
     println!("cargo:rerun-if-changed=build.rs");
+    println!("cargo:rerun-if-env-changed=ALIGN_FUNCTIONS");
 }
 
 /// A folder from a variable that cargo sets.
@@ -20,21 +23,27 @@ fn folder(variable: &str) -> PathBuf {
     env::var_os(variable).expect("cargo sets it").into()
 }
 
-fn link_library(archive: &Path, aligned: &Path) {
-    if archive.exists() {
-        run(Command::new("objcopy").args(["--set-section-alignment", ".text.*=64"]).arg(archive).arg(aligned));
+/// Links the archive in this folder, or a copy of it with aligned functions.
+fn link_library(folder: &Path, aligned: Option<&PathBuf>) {
+    let archive = folder.join("libgrelfint.a");
+    if let Some(out) = aligned {
+        let copy = out.join("libgrelfint.a");
+        run(Command::new("objcopy").args(["--set-section-alignment", ".text.*=64"]).arg(&archive).arg(copy));
     }
+    println!("cargo:rustc-link-search=native={}", aligned.map_or(folder, PathBuf::as_path).display());
     println!("cargo:rustc-link-lib=static:-bundle=grelfint");
     println!("cargo:rerun-if-changed={}", archive.display());
 }
 
-fn link_in_place(here: &Path, out: &Path) {
+fn link_in_place(here: &Path, out: &Path, align: bool) {
     let [source, header, include] = ["c/in_place.c", "c/in_place.h", "../include"].map(|path| here.join(path));
     let object = out.join("in_place.o");
     let archive = out.join("libin_place.a");
-    let flags = ["-std=c11", "-O2", "-falign-functions=64", "-Wall", "-Wextra", "-Werror", "-c", "-I"];
-    run(Command::new("gcc").args(flags).arg(&include).arg(&source).arg("-o").arg(&object));
+    let flags = ["-std=c11", "-O2", "-Wall", "-Wextra", "-Werror", "-c"];
+    let alignment = if align { "-falign-functions=64" } else { "-falign-functions" };
+    run(Command::new("gcc").args(flags).arg(alignment).arg("-I").arg(&include).arg(&source).arg("-o").arg(&object));
     run(Command::new("ar").arg("crs").arg(&archive).arg(&object));
+    println!("cargo:rustc-link-search=native={}", out.display());
     println!("cargo:rustc-link-lib=static=in_place");
     for input in [source, header, include.join("grelfint.h")] {
         println!("cargo:rerun-if-changed={}", input.display());

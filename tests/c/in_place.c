@@ -51,7 +51,7 @@ static uint8_t actual_level(uint8_t level, uint8_t step)
     return (uint8_t)(((level + step - 1u) * inverses[step] >> 16) * step);
 }
 
-/* Lamps are read as words and all of them tested, so that gcc uses vectors. */
+/* Lamps are read as words and all of them tested, so that gcc uses vectors (from version 12 on). */
 static bool is_sound(const grelfint_node *node)
 {
     _Static_assert(sizeof(grelfint_lamp) == 4 && __BYTE_ORDER__ == __ORDER_LITTLE_ENDIAN__, "level, padding, seconds");
@@ -124,7 +124,7 @@ static int change_lamps(grelfint_node *node, const request *r)
     return count;
 }
 
-static int take_light(grelfint_node *node, const request *r)
+static int handle_light(grelfint_node *node, const request *r)
 {
     if (r->pcmd <= LOWER)
         return change_lamps(node, r);
@@ -138,7 +138,7 @@ static int take_light(grelfint_node *node, const request *r)
 }
 
 /* The PCMD after `read` writes. */
-static int take_memory(const request *r, uint8_t read, size_t address_size, uint8_t *bytes, size_t size, size_t longest)
+static int handle_memory(const request *r, uint8_t read, size_t address_size, uint8_t *bytes, size_t size, size_t longest)
 {
     const bool reads = r->pcmd == read;
     if (!reads && r->pcmd != read + 1)
@@ -160,17 +160,17 @@ static int take_memory(const request *r, uint8_t read, size_t address_size, uint
 }
 
 /* What a request and an entry of a list can both ask for. */
-static int take_peripheral(const call *c, const request *r)
+static int handle_peripheral(const call *c, const request *r)
 {
     switch (r->pnum) {
     case EEPROM:
-        return take_memory(r, 0x00, 1, c->eeprom, GRELFINT_EEPROM, 55);
+        return handle_memory(r, 0x00, 1, c->eeprom, GRELFINT_EEPROM, 55);
     case EXTERNAL:
-        return take_memory(r, 0x02, 2, c->external, GRELFINT_EXTERNAL, 54);
+        return handle_memory(r, 0x02, 2, c->external, GRELFINT_EXTERNAL, 54);
     case RAM:
-        return take_memory(r, 0x00, 1, c->node->ram, GRELFINT_RAM, 48);
+        return handle_memory(r, 0x00, 1, c->node->ram, GRELFINT_RAM, 48);
     case LIGHT:
-        return take_light(c->node, r);
+        return handle_light(c->node, r);
     default:
         return BAD_PNUM;
     }
@@ -196,7 +196,7 @@ static uint8_t list_fault(const uint8_t *pdata, size_t length, size_t *at)
 }
 
 /* No entry runs before the whole list is known to be sound. */
-static int take_list(call *c, const request *r, size_t start)
+static int handle_list(call *c, const request *r, size_t start)
 {
     size_t at = start;
     c->reason = list_fault(r->pdata, r->length, &at);
@@ -207,7 +207,7 @@ static int take_list(call *c, const request *r, size_t start)
     for (const uint8_t *e = r->pdata + start; *e != 0; e += *e) {
         const request entry = {e[1], e[2], word(e + 3), e + ENTRY_HEADER, (size_t)*e - ENTRY_HEADER, NULL};
         if (accepts(c->node, entry.hwpid))
-            take_peripheral(c, &entry); /* an entry's error is not reported */
+            handle_peripheral(c, &entry); /* an entry's error is not reported */
     }
     return 0;
 }
@@ -253,7 +253,7 @@ static int check_code(call *c, const request *r)
     return 1;
 }
 
-static int take_os(call *c, const request *r)
+static int handle_os(call *c, const request *r)
 {
     const uint16_t own = c->node->settings.address;
     const size_t list_start = r->pcmd == SELECTIVE_BATCH ? GRELFINT_NODE_SET : 0;
@@ -266,7 +266,7 @@ static int take_os(call *c, const request *r)
         return BAD_LENGTH;
     if (r->pcmd == SELECTIVE_BATCH && (r->pdata[own / 8] >> own % 8 & 1) == 0)
         return NOT_SELECTED;
-    return take_list(c, r, list_start);
+    return handle_list(c, r, list_start);
 }
 
 /* Writes the header in front of the data; returns the length of both. */
@@ -302,7 +302,7 @@ in_place_answer in_place_request(
     uint8_t *data = broadcast ? NULL : response + RESPONSE_HEADER;
     const request r = {frame[2], frame[3], word(frame + 4), frame + HEADER, frame_length - HEADER, data};
     call c = {node, eeprom, external, false, 0, 0};
-    const int outcome = !accepts(node, r.hwpid) ? BAD_HWPID : r.pnum == OS ? take_os(&c, &r) : take_peripheral(&c, &r);
+    const int outcome = !accepts(node, r.hwpid) ? BAD_HWPID : r.pnum == OS ? handle_os(&c, &r) : handle_peripheral(&c, &r);
     const bool silent = broadcast || outcome == NOT_SELECTED;
     const size_t length = silent ? 0 : respond(response, &node->settings, &r, outcome);
     return (in_place_answer){0, length, c.load, true, c.reason, c.place};

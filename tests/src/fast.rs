@@ -204,15 +204,6 @@ fn write(bytes: &mut [u8], width: usize, longest: usize, p: &[u8]) -> Result<usi
     Ok(0)
 }
 
-#[inline]
-fn actual(level: u8, step: u8) -> u8 {
-    if step == 1 {
-        level
-    } else {
-        level.div_ceil(step) * step
-    }
-}
-
 /// Whether the bytes are exactly `count` valid entries.
 #[inline]
 fn entries_good(entries: &[u8], count: usize) -> bool {
@@ -235,17 +226,17 @@ fn entries_good(entries: &[u8], count: usize) -> bool {
     i == entries.len()
 }
 
-fn lights(node: &mut Node, pcmd: u8, p: &[u8], data: Option<&mut [u8; 56]>) -> Result<usize, u8> {
+fn lights(node: &mut Node, pcmd: u8, p: &[u8], mut data: Option<&mut [u8; 56]>) -> Result<usize, u8> {
     let Some((bitmap, entries)) = p.split_first_chunk::<4>() else { return Err(6) };
     let mask = u32::from_le_bytes(*bitmap);
     let ones = mask.count_ones() as usize;
     if !entries_good(entries, ones) {
         return Err(6);
     }
-    let mut none = [0u8; 56];
-    let data = data.unwrap_or(&mut none);
     let count = node.settings.lamp_count as usize;
-    let step = node.settings.step;
+    let step = node.settings.step as u32;
+    // multiplying by it divides by the step
+    let inverse = 65536 / step + 1;
     let mut rest = mask;
     let mut i = 0;
     let mut k = 0;
@@ -260,13 +251,15 @@ fn lights(node: &mut Node, pcmd: u8, p: &[u8], data: Option<&mut [u8; 56]>) -> R
             i += 1;
             seconds = if t >= 0x80 { (t & 0x7F) as u16 } else { 60 * t as u16 };
         }
-        data[k] = 0;
+        let l = &mut node.lamps[lamp];
+        if let Some(data) = data.as_deref_mut() {
+            // an unimplemented lamp has level 0
+            data[k] = (((l.level as u32 + step - 1) * inverse >> 16) * step) as u8;
+            k += 1;
+        }
         if lamp < count {
-            let l = &mut node.lamps[lamp & 31];
-            data[k] = actual(l.level, step);
             change(l, pcmd, b & 0x7F, seconds);
         }
-        k += 1;
     }
     Ok(ones)
 }

@@ -28,6 +28,7 @@ extern "C" {
     ) -> Answer;
 }
 
+#[inline(always)]
 pub fn request(node: &mut Node, frame: &[u8], eeprom: &mut [u8], external: &mut [u8], response: &mut [u8]) -> Answer {
     // SAFETY: as for the wrappers in ffi.rs; the node is borrowed for the call
     unsafe {

@@ -36,7 +36,7 @@ pub fn at_end(s: &[u8]) -> bool
     s[0] == CLOSING_ZERO
 }
 
-// Reads the entry at the front of a list that has not ended.
+// Reads the entry at the front of a list. At the closing zero and after the last byte there is none: a fault.
 pub fn next_entry(s: &[u8]) -> NextEntry
     ensures { λ r. ⌜ r ≡ nextEntry (now (s .entry)) ⌝ }
 {

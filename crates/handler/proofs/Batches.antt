@@ -1,17 +1,15 @@
 -- Running the entries of a list on the memories: the invariant of the loop in `run_memories`.
 use mathlib.Core.Path.{_≡_, refl, sym, ap, subst, _∙_}
 use mathlib.Core.List.{List}
-use mathlib.Core.Bool.{true}
 use Prim.Native.Nat.{ℕ, _+_, _-_, _≤_}
 use native.Mathlib.Omega.{arith}
 use lib.ListN.{length, drop}
 use Rattle.dpa.specs.Lists.{slice}
 use Rattle.dpa.specs.declared.settings.Settings.{Settings}
-use Rattle.dpa.proofs.Lists.{slice-to-end}
 use Rattle.batch.specs.declared.entry.NextEntry.the-variants.{Entry, Fault}
-use Rattle.batch.specs.Batch.{entryHeadSize, atEnd, nextEntry, item}
+use Rattle.batch.specs.Batch.{entryHeadSize, nextEntry, item}
 use Rattle.batch.proofs.Entries.{entry-sized-at}
-use Rattle.batch.proofs.Running.{items-end, items-fault-at, items-entry-at}
+use Rattle.batch.proofs.Running.{items-fault-at, items-entry-at}
 use Rattle.handler.specs.Seen.{Memories, Sized, entryMemories, listMemories}
 use Rattle.handler.proofs.Parts.{entry-keeps-sizes}
 
@@ -44,10 +42,6 @@ module _ (s : Settings) (list : List ℕ) (old : Memories) (at : ℕ) (ms : Memo
         rest = ap (listMemories s (drop (at + l) list)) q ∙ items-entry-at (entryMemories s) list at ms e ∙ h .rest;
       }
 
-  -- at a fault all entries have run
-  pub fault-ends : {k a : ℕ} → nextEntry remaining ≡ Fault k a → ms ≡ listMemories s list old
-  fault-ends e = items-fault-at (entryMemories s) list at ms e ∙ h .rest
-
-  -- at the closing zero all entries have run
-  pub run-ends : atEnd remaining ≡ true → ms ≡ listMemories s list old
-  run-ends e = items-end (entryMemories s) (drop at list) ms (ap atEnd (sym (slice-to-end at list)) ∙ e) ∙ h .rest
+  -- without a next entry all have run
+  pub run-ends : {k a : ℕ} → nextEntry remaining ≡ Fault k a → ms ≡ listMemories s list old
+  run-ends e = items-fault-at (entryMemories s) list at ms e ∙ h .rest

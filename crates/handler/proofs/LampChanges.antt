@@ -33,24 +33,24 @@ module _ {s : Settings} {bytes : List ℕ} {start : Walk} {old : List Lamp} {wal
   changes-end e = sym (next .none e after (w .full)) ∙ w .rest
 
   module _ (found : x .found ≡ true) (n : ℕ) (count : n ≡ s .«lamp_count») where
-    changes-next : (ls : List Lamp) → length ls ≡ maxLamps → ls ≡ lampChanged (x .command) n (x .lamp) (x .power) (x .seconds) after
+    changes-next : (ls : List Lamp) → length ls ≡ maxLamps → ls ≡ lampChanged (x .rest .command) n (x .lamp) (x .power) (x .seconds) after
         → PartlyChanged s bytes start old (x .rest) ls
     changes-next ls l e =
         let c = next .some found in
         record {
           full = l;
           ok = c .ok;
-          rest = ap (walkLamps s bytes (x .rest)) (e ∙ ap (λ (k : ℕ). lampChanged (x .command) k (x .lamp) (x .power) (x .seconds) after) count) ∙ c .lamps after (w .full) ∙ w .rest;
+          rest = ap (walkLamps s bytes (x .rest)) (e ∙ ap (λ (k : ℕ). lampChanged (x .rest .command) k (x .lamp) (x .power) (x .seconds) after) count) ∙ c .lamps after (w .full) ∙ w .rest;
         }
 
     -- an implemented lamp
-    pub changes-implemented : (r : Lamp) → x .lamp < n → r ≡ lampAfter (x .command) (getD after (x .lamp) off) (x .power) (x .seconds)
+    pub changes-implemented : (r : Lamp) → x .lamp < n → r ≡ lampAfter (x .rest .command) (getD after (x .lamp) off) (x .power) (x .seconds)
         → PartlyChanged s bytes start old (x .rest) (set after (x .lamp) r)
     changes-implemented r h e =
         changes-next (set after (x .lamp) r) (length-set after (x .lamp) r ∙ w .full)
-        (changed-implemented (x .command) n (x .lamp) (x .power) (x .seconds) after r h e)
+        (changed-implemented (x .rest .command) n (x .lamp) (x .power) (x .seconds) after r h e)
 
     -- an unimplemented lamp
     pub changes-unimplemented : n ≤ x .lamp → PartlyChanged s bytes start old (x .rest) after
     changes-unimplemented h =
-        changes-next after (w .full) (changed-unimplemented (x .command) n (x .lamp) (x .power) (x .seconds) after h)
+        changes-next after (w .full) (changed-unimplemented (x .rest .command) n (x .lamp) (x .power) (x .seconds) after h)

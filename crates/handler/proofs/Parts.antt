@@ -25,7 +25,9 @@ use Rattle.batch.specs.Batch.{Item, reading, listError, runItems}
 use Rattle.batch.proofs.Running.{items-keep, items-part}
 use Rattle.batch.proofs.Selections.{select-cases}
 use Rattle.handler.specs.Request.{State, SoundState, withMemory, peripheralRequest, hwpidMatches, entryAfter, Outcome, replyOnly, batchOutcome, brokenOutcome, listRequest, batchRequest, selectionOutcome, selectiveRequest, codeCheckRequest, batchPcmd, codeCheckPcmd, selectivePcmd, osRequest, execute}
-use Rattle.handler.specs.Seen.{Memories, memoriesOf, Sized, peripheralMemories, peripheralLamps, entryMemories, entryLamps, listMemories, listLamps, succeeded, lampsAfterSuccess, LampsKnown}
+use Rattle.handler.specs.Seen.{Memories, memoriesOf, Sized, peripheralMemories, peripheralLamps, entryMemories, entryLamps, listMemories, listLamps, succeeded, lampsAfterSuccess}
+use Rattle.handler.specs.Walk.{StartKnown}
+use Rattle.lights.proofs.Requests.{success-changes}
 use Rattle.handler.proofs.Peripherals.{peripheral-lights, peripheral-cases}
 use Rattle.handler.proofs.BatchEntries.{entry-match, entry-mismatch, entry-cases}
 use Rattle.handler.proofs.Outcomes.{execute-mismatch, execute-os, execute-peripheral, os-selective, os-cases, execute-cases}
@@ -217,15 +219,16 @@ module _ (i : Item) (st : State) where
       never e = let z : _≡_ {A = ℕ} 0 1 = cc in omega arith
 
   -- what is known of a request that succeeded
-  pub success-known : succeeded (execute i st) ≡ true → LampsKnown (st .node .settings) i (st .node .lamps)
+  pub success-known : succeeded (execute i st) ≡ true → StartKnown i
   success-known h =
       let z : execute i st .error ≡ 0 = eqb-true _ _ (and-right (execute i st .answered) _ h) in
       record {
-        no-error = λ p.
-            by-test (hwpidMatches (st .node .settings) (i .hwpid))
+        changes = λ p c.
+            success-changes (st .node .settings) (i .pcmd) (i .pdata) (st .node .lamps) c
+            (by-test (hwpidMatches (st .node .settings) (i .hwpid))
             (λ e. sym (ap (λ (x : Reply State). x .error) (peripheral-lights (i .pnum) (i .pcmd) (i .pdata) st p))
             ∙ sym (ap (λ (a : Outcome). a .error) (execute-peripheral i st e (λ q. omega arith))) ∙ z)
-            (λ e. let y : 7 ≡ 0 = sym (ap (λ (a : Outcome). a .error) (execute-mismatch i st e)) ∙ z in absurd (omega arith));
+            (λ e. let y : 7 ≡ 0 = sym (ap (λ (a : Outcome). a .error) (execute-mismatch i st e)) ∙ z in absurd (omega arith)));
         node-set = λ p c.
             by-test (hwpidMatches (st .node .settings) (i .hwpid))
             (λ e. selective-long (ap succeeded (sym (os-selective (i .pcmd) (i .pdata) st c) ∙ sym (execute-os i st e p)) ∙ h))

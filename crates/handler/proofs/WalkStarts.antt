@@ -14,20 +14,12 @@ use Rattle.dpa.proofs.Lists.{slice-to-end}
 use Rattle.lights.specs.declared.apply.Command.the-variants.{Lower}
 use Rattle.lights.specs.declared.lamp.Lamp.{Lamp}
 use Rattle.lights.specs.Lights.{commandPcmd, lightsRequest, changesLamps}
-use Rattle.lights.proofs.Requests.{unchanged, success-changes}
+use Rattle.lights.proofs.Requests.{unchanged}
 use Rattle.batch.specs.Batch.{Item, item}
 use Rattle.handler.specs.Request.{batchPcmd, selectivePcmd}
-use Rattle.handler.specs.Seen.{peripheralLamps, listLamps, lampsAfterSuccess, LampsKnown}
-use Rattle.handler.specs.Walk.{listWalk, requestWalk, StartKnown, StartWalk}
+use Rattle.handler.specs.Seen.{peripheralLamps, listLamps, lampsAfterSuccess}
+use Rattle.handler.specs.Walk.{listWalk, requestWalk, StartWalk}
 use Rattle.handler.proofs.Walks.{list-walk-ok, request-walk-ok, request-walk-lamps, walk-list, walk-ended}
-
--- what a success says of the request
-pub start-known : (s : Settings) (i : Item) (ls : List Lamp) → LampsKnown s i ls → StartKnown i
-start-known s i ls k =
-    record {
-      changes = λ p c. success-changes s (i .pcmd) (i .pdata) ls c (k .no-error p);
-      node-set = k .node-set;
-    }
 
 module _ (p c h : ℕ) (d : List ℕ) where
   abbrev request : Item

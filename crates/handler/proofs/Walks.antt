@@ -46,7 +46,6 @@ changeAt w power seconds size =
     record {
       found = true;
       lamp = lowestLamp (w .remaining);
-      command = w .command;
       power = power;
       seconds = seconds;
       rest = record { next = w .next; command = w .command; remaining = withoutLowest (w .remaining); at = w .at + size };

@@ -1,4 +1,5 @@
--- How the code's results and buffers show the outcome of a request and the result of a call.
+-- How the code's results and buffers show the outcome of a request and the result of a call, and what a request does to the memories and
+-- to the lamps, each by itself.
 use Prim.Native.Nat.{ℕ, _+_, _≤_}
 use mathlib.Core.Path.{_≡_}
 use mathlib.Core.List.{List, _++_}
@@ -87,11 +88,6 @@ lampsAfterSuccess s i ls =
     (cond (eqb (i .pcmd) selectivePcmd) (listLamps s (drop nodeSetSize (i .pdata)) ls)
     ls))
     (peripheralLamps s (i .pnum) (i .pcmd) (i .pdata) ls)
-
--- what is known of a request that succeeded: a request to the lights has no error, and a selective batch has a node set
-pub record LampsKnown (s : Settings) (i : Item) (ls : List Lamp) : Type 0 where
-  pub no-error : i .pnum ≡ lightsPnum → lightsRequest s (i .pcmd) (i .pdata) ls .error ≡ 0
-  pub node-set : i .pnum ≡ osPnum → i .pcmd ≡ selectivePcmd → nodeSetSize ≤ length (i .pdata)
 
 -- what executing a request leaves, except the lamps: whether it is answered, the memories, ErrN, the length of the data, the report,
 -- and the buffer for the data

@@ -68,7 +68,7 @@ pub record CurrentWalk (s : Settings) (bytes : List ℕ) (w r : Walk) : Type 0 w
 
 -- the lamps after a change
 abbrev pub lampsChanged : Settings → Change → List Lamp → List Lamp
-lampsChanged s x ls = lampChanged (x .command) (s .«lamp_count») (x .lamp) (x .power) (x .seconds) ls
+lampsChanged s x ls = lampChanged (x .rest .command) (s .«lamp_count») (x .lamp) (x .power) (x .seconds) ls
 
 -- a change and the walk after it
 pub record Changes (s : Settings) (bytes : List ℕ) (w : Walk) (x : Change) : Type 0 where

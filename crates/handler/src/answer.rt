@@ -30,7 +30,8 @@ pub struct RequestAnswer {
     pub node: Node,
 }
 
-// A request that was executed: its report, the length of the response, and whether it was answered without an error.
+// A request that was executed: its report, the length of the response, and whether it succeeded: it has no error and is not a selective
+// batch for other nodes.
 pub struct Handled {
     pub report: Report,
     pub length: usize,

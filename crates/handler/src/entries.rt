@@ -2,7 +2,6 @@
 use crate::hwpid::hwpid_matches;
 use batch::entry::HEAD_SIZE;
 use batch::entry::NextEntry;
-use batch::entry::at_end;
 use batch::entry::next_entry;
 use dpa::pnum;
 use dpa::settings::Settings;
@@ -72,7 +71,7 @@ pub fn run_memories(
         ≡ listMemories settings (now (list .entry)) (memories (now (ram .entry)) (now (eeprom .entry)) (now (external .entry))) ⌝ }
 {
     let mut at: usize = 0;
-    while !at_end(&list[at..]) {
+    loop {
         let NextEntry::Entry {
             len,
             pnum,
@@ -80,7 +79,6 @@ pub fn run_memories(
             hwpid,
         } = next_entry(&list[at..])
         else {
-            // Not reached in a batch, whose list is checked before it runs.
             return;
         };
         run_entry(

@@ -1,5 +1,5 @@
-// The lamps after a request. One loop changes them, lamp by lamp, over all entries of a list: passing all lamps from entry to entry is
-// slow.
+// The lamps after a request. One loop changes them for a request and for all entries of a list, because passing all lamps from entry to
+// entry is slow.
 use crate::hwpid::hwpid_matches;
 use crate::os::BATCH;
 use crate::os::SELECTIVE_BATCH;
@@ -31,7 +31,7 @@ ghost use Rattle.dpa.specs.Lists.{slice};
 ghost use Rattle.lights.specs.Bits.{bitmapSize};
 ghost use Rattle.batch.specs.Batch.{item};
 ghost use Rattle.handler.specs.Request.{headerItem};
-ghost use Rattle.handler.specs.Seen.{lampsAfterSuccess, LampsKnown};
+ghost use Rattle.handler.specs.Seen.{lampsAfterSuccess};
 ghost use Rattle.handler.specs.Walk.{walkLamps, WalkOk, listWalk, requestWalk, EntryWalk, CurrentWalk, NextChange, StartKnown, StartWalk};
 
 // Where a walk over the changes of lamps stands.
@@ -46,11 +46,11 @@ pub struct Walk {
     pub at: usize,
 }
 
-// The next change of a lamp and the walk after it, or none. It has no enum with values, which is slow to return.
+// The next change of a lamp and the walk after it; the command is that of the walk. `found` is false if there is none. It is not an enum
+// with values, which is slow to return.
 pub struct Change {
     pub found: bool,
     pub lamp: usize,
-    pub command: Command,
     pub power: u8,
     pub seconds: u16,
     pub rest: Walk,
@@ -106,7 +106,7 @@ fn entry_walk(
     request_walk(pcmd, bytes, start, end)
 }
 
-// The walk at a request of which a lamp remains; none remains at the end of the list.
+// Goes on to the next request of which a lamp remains; at the end of the list none does.
 fn current_walk(settings: Settings, bytes: &[u8], walk: Walk) -> Walk
     requires { ⌜ WalkOk (now bytes) walk ⌝ }
     ensures { λ r. ⌜ CurrentWalk settings (now (bytes .entry)) walk r ⌝ }
@@ -147,24 +147,21 @@ fn next_change(settings: Settings, bytes: &[u8], walk: Walk) -> Change
         return Change {
             found: false,
             lamp: 0,
-            command: Command::Set,
             power: 0,
             seconds: 0,
             rest: current,
         };
     }
-    let command = current.command;
     let end = current.next;
-    let entry = valid_power_entry_at(&bytes[..end], current.at);
+    let power_entry = valid_power_entry_at(&bytes[..end], current.at);
     let mut rest = current;
     rest.remaining = without_lowest(mask);
-    rest.at = current.at + entry.size;
+    rest.at = current.at + power_entry.size;
     Change {
         found: true,
         lamp: lowest_lamp(mask),
-        command,
-        power: entry.power,
-        seconds: entry.seconds,
+        power: power_entry.power,
+        seconds: power_entry.seconds,
         rest,
     }
 }
@@ -187,18 +184,18 @@ fn change_lamps(
         if !change.found {
             return after;
         }
+        walk = change.rest;
         let i = change.lamp;
         if i < implemented {
-            let command = change.command;
+            let command = walk.command;
             let lamp = after[i];
             after[i] = lamp_after(command, lamp, change.power, change.seconds);
         }
-        walk = change.rest;
     }
 }
 
 // The walk at the start of a request that succeeded.
-fn start_of(header: Frame, pdata: &[u8]) -> Walk
+fn start_walk(header: Frame, pdata: &[u8]) -> Walk
     requires { ⌜ StartKnown (headerItem header (now pdata)) ⌝ }
     ensures { λ r. ⌜ StartWalk (headerItem header (now (pdata .entry))) r ⌝ }
 {
@@ -229,11 +226,11 @@ pub fn lamps_after(
     pdata: &[u8],
     lamps: [Lamp; LAMPS],
 ) -> [Lamp; LAMPS]
-    requires { ⌜ (success ≡ true → LampsKnown settings (headerItem header (now pdata)) lamps) ⌝ }
+    requires { ⌜ (success ≡ true → StartKnown (headerItem header (now pdata))) ⌝ }
     ensures { λ r. ⌜ r ≡ cond success (lampsAfterSuccess settings (headerItem header (now (pdata .entry))) lamps) lamps ⌝ }
 {
     if !success {
         return lamps;
     }
-    change_lamps(settings, lamps, pdata, start_of(header, pdata))
+    change_lamps(settings, lamps, pdata, start_walk(header, pdata))
 }

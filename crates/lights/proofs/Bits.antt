@@ -10,11 +10,8 @@ use lib.Arith.{lt-one}
 use lib.Pow.{shr-lt}
 use lib.Bits.{block-half, block-odd, bitAnd, and-step, and-self}
 use lib.Count.{ones, ones-step, trailingZeros, under}
-use lib.Dec.{ltb}
-use borrow.Author.Tests.{ltb-true, ltb-false}
 use Rattle.dpa.specs.Settings.{maxLamps}
 use Rattle.dpa.specs.Lists.{Bytes}
-use Rattle.dpa.proofs.Bool.{by-test}
 use Rattle.lights.specs.Bits.{bits, count, bitmap, maskOf}
 
 -- the first bit counts if it is 1

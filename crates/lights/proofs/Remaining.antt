@@ -12,7 +12,7 @@ use Rattle.dpa.specs.declared.settings.Settings.{Settings}
 use Rattle.dpa.proofs.Bool.{by-test}
 use Rattle.lights.specs.Bits.{bits}
 use Rattle.lights.specs.Lamp.{off, actualLevel}
-use Rattle.lights.specs.Lights.{lampAfter, lampsAfter, levelsBefore}
+use Rattle.lights.specs.Lights.{lampsAfter, levelsBefore}
 use Rattle.lights.specs.Remaining.{lampChanged}
 use Rattle.lights.proofs.Bits.{bits-cons, by-lowest}
 use Rattle.lights.specs.declared.apply.Command.{Command}

@@ -36,8 +36,8 @@ pub struct ValidPowerEntry {
     pub size: usize,
 }
 
-// Whether the low seven bits of a power byte are a level or keep. Plus one, keep becomes 0 and the levels follow it, so that one
-// comparison is enough.
+// Whether the low seven bits of a power byte are a level or keep. Adding one, modulo 128, takes keep to 0 and the levels to 1 to 101, so
+// that one comparison is enough.
 fn power_ok(power: u8) -> bool
     requires { ⌜ power < bit7 ⌝ }
     ensures { λ r. ⌜ r ≡ powerOk power ⌝ }

@@ -53,7 +53,7 @@ pub fn node_from_parts(fixed: ReadOnly, lamps: [Lamp; LAMPS], ram: [u8; RAM_SIZE
     }
 }
 
-// Returns whether every lamp follows the rule of an implemented one, as a lamp of zeros does. The loop has no early exit and always
+// Returns whether every lamp follows the rule of an implemented one; a lamp of zeros follows it too. The loop has no early exit and always
 // the same length, so that it can be vectorized.
 fn each_ok(lamps: [Lamp; LAMPS]) -> bool
     ensures { λ r. ⌜ r ≡ allBelow maxLamps (λ k. lampOk (getD lamps k off)) ⌝ }

@@ -1,4 +1,5 @@
-//! Benchmark, not part of the gate: `cargo run --release --offline`.
+//! Benchmark, not part of the gate: `cargo run --release --offline` in `tests/`,
+//! whose `.cargo/config.toml` aligns functions.
 //! Measures the library against an implementation of the same rules in Rust for
 //! speed (src/fast.rs), which has the same C boundary, and requests also against
 //! one in C that changes the node in place (c/in_place.c). Then measures ways to
@@ -91,8 +92,8 @@ fn low_quantile(mut times: Vec<f64>) -> f64 {
 /// makes some bursts slower and none faster. `run(program, calls)` times one burst.
 fn time_bursts<const N: usize>(bursts: usize, mut run: impl FnMut(usize, u32) -> f64) -> [f64; N] {
     let calls: [u32; N] = std::array::from_fn(|program| {
-        run(program, 1000);
-        (BURST / run(program, 1000)).clamp(1.0, 1000.0) as u32
+        let once = [(); 4].map(|_| run(program, 250)).into_iter().fold(f64::MAX, f64::min);
+        (BURST / once).clamp(1.0, 1000.0) as u32
     });
     let mut times = [(); N].map(|_| Vec::with_capacity(bursts));
     for burst in 0..bursts {
@@ -115,9 +116,9 @@ fn print_heading(bursts: usize) {
     println!("ns per call, the quantile 1/10 of {bursts} bursts of about {:.0} us, by turns", BURST / 1000.0);
     println!("each side has separate buffers: EEPROM 192, external memory 16,384, response 64, output 4,096 bytes;");
     println!(
-        "each call gets the same node with 32 lit lamps, by value; in C and for the tick in place it is copied into"
+        "each call starts from the same node with 32 lit lamps: by value, or copied into a record before the call"
     );
-    println!("a record before the call, and the fast side stores the result of its by-value tick there\n");
+    println!("(C and tick in place; the tick in place of the Rust side stores what its tick by value returns)\n");
     println!("{:<34}{:>10}{:>10}{:>10}{:>10}{:>10}", "", "library", "Rust", "C", "to Rust", "to C");
 }
 

@@ -1,6 +1,5 @@
 -- `run_memories`: a loop over the entries; `PartlyRun` is its invariant.
 use borrow.Author.Needs.{needs}
-use borrow.Author.Tests.{not-false}
 use native.Mathlib.Omega.{arith}
 use mathlib.Core.Path.{_≡_, refl, sym, _∙_}
 use mathlib.Core.List.{List}
@@ -9,7 +8,7 @@ use lib.ListN.{length, take, drop}
 use Rattle.batch.specs.declared.entry.NextEntry.the-variants.{Entry}
 use Rattle.batch.specs.Batch.{entryHeadSize, nextEntry}
 use Rattle.handler.specs.Seen.{memories}
-use Rattle.handler.proofs.Batches.{PartlyRun, run-starts, run-ends, entry-in-list, entry-runs, fault-ends}
+use Rattle.handler.proofs.Batches.{PartlyRun, run-starts, run-ends, entry-in-list, entry-runs}
 use Rattle.handler.proofs.entries.run_memories.Statement.{statement}
 use Rattle.handler.proofs.entries.run_memories.Tie as tie
 
@@ -23,7 +22,7 @@ abbrev μ-loop : tie.MeasureT-loop
 
 -- the loop, from where an entry or a fault was read
 abbrev at-loop : tie.After-next-entry Inv-loop μ-loop → tie.At-loop Inv-loop μ-loop
-at-loop c = c .before .before .before .before .before
+at-loop c = c .before .before
 
 -- after an entry was read: the loop, the list, the position in it, and the length of the entry
 abbrev iteration : tie.After-known-told Inv-loop μ-loop → tie.At-loop Inv-loop μ-loop
@@ -61,7 +60,7 @@ loop-holds c = (run-starts _ _ _ (c .before .before .before .before .pre), refl,
 
 returns : tie.Need-returns Inv-loop μ-loop
 returns c =
-    fault-ends _ _ _ _ _ (at-loop (c .before .before) .loop .inv .0) (sym (c .before .before .next-entry .ensures) ∙ c .enum-told .given .1)
+    run-ends _ _ _ _ _ (at-loop (c .before .before) .loop .inv .0) (sym (c .before .before .next-entry .ensures) ∙ c .enum-told .given .1)
 
 run-entry-requires : tie.Need-run-entry-requires Inv-loop μ-loop
 run-entry-requires c κs = iteration (c .before .before .before .before) .loop .inv .0 .sized
@@ -76,17 +75,11 @@ loop-again c =
       call .run-entry .kept .1 .1 .1 .1 .1 .1 .1 .0 ∙ i .3,
     )
 
-returns-2 : tie.Need-returns-2 Inv-loop μ-loop
-returns-2 c = run-ends _ _ _ _ _ (c .before .before .before .loop .inv .0) (sym (c .before .at-end .ensures) ∙ not-false _ (c .if1 .left))
-
 pub run-memories-spec : {M : Type 1} → statement M
 run-memories-spec =
     tie.close (tie.spec Inv-loop μ-loop loop-holds (λ c. omega (arith, c .loop .inv .0 .position-max))
     (λ c. omega (arith, c .loop .inv .0 .position-max)) (λ c. search needs) (λ c κs. search needs)
-    (λ c. omega (arith, c .before .before .before .loop .inv .0 .position-max))
-    (λ c. omega (arith, c .before .before .before .loop .inv .0 .position-max)) (λ c. search needs)
-    (λ c κs. search needs) (λ c. search needs) (λ c. search needs) (λ c. search needs) (λ c. search needs)
+    (λ c. search needs) (λ c. search needs) (λ c. search needs) (λ c. search needs)
     (λ c. search needs) returns (λ c. omega (arith, sized c)) (λ c. omega (arith, sized c))
     (λ c. omega (arith, sized c)) (λ c. omega (arith, sized c)) (λ c. omega (arith, sized c)) run-entry-requires
-    (λ c. omega (arith, sized (read (run-call c)))) (λ c. omega (arith, sized (read (run-call c)))) loop-again
-    (λ c. search needs) (λ c. search needs) (λ c. search needs) returns-2)
+    (λ c. omega (arith, sized (read (run-call c)))) (λ c. omega (arith, sized (read (run-call c)))) loop-again)

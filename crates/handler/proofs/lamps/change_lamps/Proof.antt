@@ -2,7 +2,6 @@
 use borrow.Author.Needs.{needs}
 use borrow.Author.Tests.{not-true, not-false}
 use native.Mathlib.Omega.{arith}
-use mathlib.Core.Logic.{⊎-elim}
 use mathlib.Core.Path.{_≡_}
 use mathlib.Core.Bool.{true}
 use Prim.Native.Nat.{_-_, _<_}
@@ -35,26 +34,32 @@ found c = not-false _ (c .if1 .left)
 inside : (c : tie.Else1 Inv-loop μ-loop) → c .before .before .next-change .result .lamp < maxLamps
 inside c = c .before .before .next-change .ensures .some (found c) .lamp-max
 
-loop-less : tie.Need-loop-less Inv-loop μ-loop
-loop-less c =
-    let t = c .before .before in
-    let x = t .before .before .next-change .ensures .some (found t) in
+less : (c : tie.Else1 Inv-loop μ-loop) →
+    let l = c .before .before .before in
+    let bytes = l .before .before .before .args .bytes .now in
+    length bytes - c .before .before .next-change .result .rest .at < length bytes - l .loop .walk .at
+less c =
+    let x = c .before .before .next-change .ensures .some (found c) in
     omega (arith, x .further, x .ok .at-max, x .ok .next-max)
 
--- the ways through the loop body: a lamp that is implemented, and one that is not
+-- an implemented lamp
 loop-again : tie.Need-loop-again Inv-loop μ-loop
 loop-again c =
+    let t = c .before .before .before .before in
+    let l = t .before .before .before in
+    changes-implemented (l .loop .inv) _ (t .before .before .next-change .ensures) (found t) _ (l .before .wide .ensures .0) _
+    (c .before .before .if2 .taken) (c .lamp-after .ensures)
+
+-- an unimplemented lamp
+loop-again-2 : tie.Need-loop-again-2 Inv-loop μ-loop
+loop-again-2 c =
     let t = c .before .before in
-    let n = t .before .before .before .before .wide in
-    let i = t .before .before .before .loop .inv in
-    let x = t .before .before .next-change .ensures in
-    ⊎-elim
-    (λ u. rw (u .3) (changes-implemented i _ x (found t) _ (n .ensures .0) _ (u .0 .taken) (u .2 .ensures)))
-    (λ u. rw (u .1) (changes-unimplemented i _ x (found t) _ (n .ensures .0) (u .0 .left)))
-    (c .before .if2 .came)
+    let l = t .before .before .before in
+    changes-unimplemented (l .loop .inv) _ (t .before .before .next-change .ensures) (found t) _ (l .before .wide .ensures .0) (c .if2 .left)
 
 pub change-lamps-spec : {M : Type 1} → statement M
 change-lamps-spec =
     tie.close (tie.spec Inv-loop μ-loop (λ c κs. search needs) loop-holds (λ c κs. c .loop .inv .ok) returns
-    (λ c. omega (arith, inside (c .before))) (λ c. inside (c .before)) (λ c κs. search needs)
-    (λ c. omega (arith, inside (c .before .before .before))) (λ c. inside (c .before .before .before)) loop-less loop-again)
+    (λ c. omega (arith, inside (c .before .before))) (λ c. inside (c .before .before)) (λ c κs. search needs)
+    (λ c. omega (arith, inside (c .before .before .before .before))) (λ c. inside (c .before .before .before .before))
+    (λ c. less (c .before .before .before .before)) loop-again (λ c. less (c .before .before)) loop-again-2)

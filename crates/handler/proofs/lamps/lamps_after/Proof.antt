@@ -3,7 +3,6 @@ use borrow.Author.Needs.{needs}
 use borrow.Author.Tests.{not-true, not-false}
 use mathlib.Core.Path.{_≡_, _∙_}
 use mathlib.Core.Bool.{true, false}
-use Rattle.handler.proofs.WalkStarts.{start-known}
 use Rattle.handler.proofs.lamps.lamps_after.Statement.{statement}
 use Rattle.handler.proofs.lamps.lamps_after.Tie as tie
 
@@ -12,13 +11,13 @@ returns c =
     let e : c .before .before .args .success ≡ false = not-true _ (c .if1 .taken) in
     rw e
 
-start-of-requires : tie.Need-start-of-requires
-start-of-requires c κs = start-known _ _ _ (c .before .before .pre (not-false _ (c .if1 .left)))
+start-walk-requires : tie.Need-start-walk-requires
+start-walk-requires c κs = c .before .before .pre (not-false _ (c .if1 .left))
 
 returns-2 : tie.Need-returns-2
 returns-2 c =
     let e : c .before .before .before .before .args .success ≡ true = not-false _ (c .before .before .if1 .left) in
-    rw e (c .change-lamps .ensures ∙ c .before .start-of .ensures .lamps _ _)
+    rw e (c .change-lamps .ensures ∙ c .before .start-walk .ensures .lamps _ _)
 
 pub lamps-after-spec : {M : Type 1} → statement M
-lamps-after-spec = tie.close (tie.spec returns start-of-requires (λ c κs. search needs) returns-2)
+lamps-after-spec = tie.close (tie.spec returns start-walk-requires (λ c κs. search needs) returns-2)

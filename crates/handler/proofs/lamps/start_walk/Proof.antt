@@ -1,4 +1,4 @@
--- `lamps::start_of` meets its contract: proofs/WalkStarts has a law for each return.
+-- `lamps::start_walk` meets its contract: proofs/WalkStarts has a law for each return.
 use borrow.Author.Needs.{needs}
 use native.Mathlib.Omega.{arith}
 use mathlib.Core.Path.{_≡_}
@@ -9,8 +9,8 @@ use Rattle.lights.specs.Bits.{bitmapSize}
 use Rattle.lights.specs.Lights.{changesLamps}
 use Rattle.lights.proofs.WellFormed.{bitmap-there, changes-well-formed}
 use Rattle.handler.proofs.WalkStarts.{start-other-lights, start-lights, start-elsewhere, start-batch, start-selective, start-other-os}
-use Rattle.handler.proofs.lamps.start_of.Statement.{statement}
-use Rattle.handler.proofs.lamps.start_of.Tie as tie
+use Rattle.handler.proofs.lamps.start_walk.Statement.{statement}
+use Rattle.handler.proofs.lamps.start_walk.Tie as tie
 
 returns : tie.Need-returns
 returns c = rw (c .list-walk .ensures) (start-other-lights _ _ _ _ (c .before .before .before .if1 .taken) (c .before .if2 .taken))
@@ -55,7 +55,7 @@ returns-6 c =
     rw (c .list-walk5 .ensures)
     (start-other-os _ _ _ _ (os (c .before .before .before .before .before)) (c .before .before .before .if4 .left) (c .before .if5 .left))
 
-pub start-of-spec : {M : Type 1} → statement M
-start-of-spec =
+pub start-walk-spec : {M : Type 1} → statement M
+start-walk-spec =
     tie.close (tie.spec (λ c κs. search needs) returns request-walk-requires returns-2 (λ c κs. search needs) returns-3
     (λ c κs. search needs) returns-4 (λ c κs. search needs) returns-5 (λ c κs. search needs) returns-6)
