@@ -1,61 +1,73 @@
 -- The invariant of the loop in `write_levels`, and how each path through its body keeps it.
 use mathlib.Core.Path.{_≡_, refl, sym, ap, _∙_}
+use mathlib.Core.Bool.{true}
 use mathlib.Core.List.{List, _++_, append-nil}
 use Prim.Native.Nat.{ℕ, _+_, _^_, _≤_, _<_}
 use native.Mathlib.Numerals.{add-one}
 use native.Mathlib.Omega.{arith}
 use lib.ListN.{length, getD, take, drop, set, length-set}
 use lib.Seq.{length-take-le, take-suc-set, append-snoc}
-use borrow.Author.Tests.{lt-ltb, le-ltb}
-use Rattle.dpa.specs.Settings.{maxLamps}
+use lib.Dec.{ltb}
+use borrow.Author.Tests.{ltb-false}
+use Rattle.dpa.specs.Settings.{maxLamps, settingsOk}
+use Rattle.dpa.proofs.Bool.{by-test}
 use Rattle.dpa.specs.Lists.{Bytes, overwriteFront}
 use Rattle.dpa.specs.declared.settings.Settings.{Settings}
 use Rattle.dpa.proofs.Lists.{same-tail-set, front-written}
 use Rattle.lights.specs.Bits.{bits, count, bitmap, maskOf, lowestLamp, withoutLowest}
-use Rattle.lights.specs.Lamp.{off, actualLevel}
+use Rattle.lights.specs.Lamp.{off, SoundLevels, actualLevel}
+use Rattle.lights.proofs.Lamps.{actual-off}
 use Rattle.lights.specs.Lights.{levelsBefore}
 use Rattle.lights.proofs.Bits.{count-le, mask-max, bits-mask, lowest-less, lowest-counts}
 use Rattle.lights.proofs.Remaining.{levelAt, levels-lowest, levels-none}
 use Rattle.lights.specs.declared.lamp.Lamp.{Lamp}
 
 -- the facts that hold before the loop and throughout
-pub record LevelsInput (ls : List Lamp) (old : List ℕ) : Type 0 where
+pub record LevelsInput (s : Settings) (ls : List Lamp) (old : List ℕ) : Type 0 where
+  pub settings-ok : settingsOk s ≡ true
+  pub sound : SoundLevels (s .«lamp_count») ls
   pub lamps-length : length ls ≡ maxLamps
   pub old-length : maxLamps ≤ length old
 
 -- With the mask m remaining and k levels written: these and the levels of the remaining lamps are the result,
 -- and the bytes from k on are still those of the lent buffer old.
-pub record LevelsLoop (s : Settings) (ls : List Lamp) (n : ℕ) (result old out : List ℕ) (m k : ℕ) : Type 0 where
-  pub input : LevelsInput ls old
+pub record LevelsLoop (s : Settings) (ls : List Lamp) (result old out : List ℕ) (m k : ℕ) : Type 0 where
+  pub input : LevelsInput s ls old
   pub out-length : length out ≡ length old
   pub out-unchanged : drop k out ≡ drop k old
   pub count-max : k + count (bits maxLamps m) ≤ maxLamps
   pub mask-max : m < 2 ^ maxLamps
-  pub levels : result ≡ take k out ++ levelsBefore s n (bits maxLamps m) ls
+  pub levels : result ≡ take k out ++ levelsBefore s (s .«lamp_count») (bits maxLamps m) ls
 
 -- the invariant holds before the loop
-pub levels-start : (s : Settings) (src : List ℕ) (ls : List Lamp) (old : List ℕ) (n mask : ℕ)
-    → LevelsInput ls old → Bytes src → n ≡ s .«lamp_count» → mask ≡ maskOf src
-    → LevelsLoop s ls n (levelsBefore s (s .«lamp_count») (bitmap src) ls) old old mask 0
-levels-start s src ls old n mask a small q e =
+pub levels-start : (s : Settings) (src : List ℕ) (ls : List Lamp) (old : List ℕ) (mask : ℕ) → LevelsInput s ls old → Bytes src → mask ≡ maskOf src
+    → LevelsLoop s ls (levelsBefore s (s .«lamp_count») (bitmap src) ls) old old mask 0
+levels-start s src ls old mask a small e =
     record {
       input = a;
       out-length = refl;
       out-unchanged = refl;
       count-max = omega (arith, count-le maxLamps mask);
       mask-max = rw e (mask-max src small);
-      levels = rw (q, e, bits-mask src small);
+      levels = rw (e, bits-mask src small);
     }
 
-module _ {s : Settings} {ls : List Lamp} {n : ℕ} {result old out : List ℕ} {m k : ℕ} (w : LevelsLoop s ls n result old out m k) where
+module _ {s : Settings} {ls : List Lamp} {result old out : List ℕ} {m k : ℕ} (w : LevelsLoop s ls result old out m k) where
   -- after the loop the result is written
   pub levels-end : m ≡ 0 → (k ≡ length result) × (out ≡ overwriteFront result old)
   levels-end z =
+      let n = s .«lamp_count» in
       let h : k ≤ length out = omega (arith, w .count-max, w .out-length, w .input .old-length) in
       let v : result ≡ take k out =
       w .levels ∙ ap (λ (j : ℕ). take k out ++ levelsBefore s n (bits maxLamps j) ls) z
       ∙ ap (λ (x : List ℕ). take k out ++ x) (levels-none s maxLamps n ls) ∙ append-nil (take k out) in
       (sym (ap length v ∙ length-take-le k out h), front-written result out old k h v (w .out-unchanged))
+
+  -- an unimplemented lamp has the level of a lamp that is off
+  level-at : (i : ℕ) → actualLevel s (getD ls i off .level) ≡ levelAt s (s .«lamp_count») ls i
+  level-at i =
+      by-test (ltb i (s .«lamp_count»)) (λ t. rw t)
+      (λ t. rw t (ap (actualLevel s) (w .input .sound .unimplemented-off i (ltb-false _ _ t)) ∙ actual-off s (w .input .settings-ok)))
 
   module _ (some : m ≡ 0 → ⊥) where
     -- fewer levels are written than there are lamps
@@ -66,9 +78,12 @@ module _ {s : Settings} {ls : List Lamp} {n : ℕ} {result old out : List ℕ} {
     pub levels-room : k < length out
     levels-room = omega (arith, levels-fewer, w .out-length, w .input .old-length)
 
-    levels-next : (v : ℕ) → v ≡ levelAt s n ls (lowestLamp m) → LevelsLoop s ls n result old (set out k v) (withoutLowest m) (k + 1)
-    levels-next v x =
+    -- the level of the lowest lamp is written
+    pub levels-next : (v i : ℕ) → i ≡ lowestLamp m → v ≡ actualLevel s (getD ls i off .level)
+        → LevelsLoop s ls result old (set out k v) (withoutLowest m) (k + 1)
+    levels-next v i j e =
         let room = levels-room in
+        let x : v ≡ levelAt s (s .«lamp_count») ls (lowestLamp m) = e ∙ level-at i ∙ ap (levelAt s (s .«lamp_count») ls) j in
         record {
           input = w .input;
           out-length = length-set out k v ∙ w .out-length;
@@ -76,15 +91,6 @@ module _ {s : Settings} {ls : List Lamp} {n : ℕ} {result old out : List ℕ} {
           count-max = omega (arith, w .count-max, lowest-counts maxLamps m some (w .mask-max));
           mask-max = omega (arith, w .mask-max, lowest-less maxLamps m some (w .mask-max));
           levels = w .levels
-              ∙ ap (λ (x : List ℕ). take k out ++ x) (levels-lowest s maxLamps m some (w .mask-max) n ls (w .input .lamps-length))
+              ∙ ap (λ (x : List ℕ). take k out ++ x) (levels-lowest s maxLamps m some (w .mask-max) (s .«lamp_count») ls (w .input .lamps-length))
               ∙ rw (← x, add-one k, take-suc-set, append-snoc);
         }
-
-    -- an implemented lamp
-    pub levels-implemented : (v i : ℕ) → i ≡ lowestLamp m → i < n → v ≡ actualLevel s (getD ls i off .level)
-        → LevelsLoop s ls n result old (set out k v) (withoutLowest m) (k + 1)
-    levels-implemented v i j h e = levels-next v (rw (← j, lt-ltb i n h) e)
-
-    -- an unimplemented lamp
-    pub levels-unimplemented : (i : ℕ) → i ≡ lowestLamp m → n ≤ i → LevelsLoop s ls n result old (set out k 0) (withoutLowest m) (k + 1)
-    levels-unimplemented i j h = levels-next 0 (rw (← j, le-ltb i n h))

@@ -48,6 +48,11 @@ lampFits count k l = cond (ltb k count) (lampOk l) (lampZero l)
 abbrev pub LevelsInRange : List Lamp → Type 0
 LevelsInRange ls = (i : ℕ) → getD ls i off .level ≤ maxLevel
 
+-- the same, and the lamps from n on are off: so it is in a sound node with n lamps
+pub record SoundLevels (n : ℕ) (ls : List Lamp) : Type 0 where
+  pub in-range : LevelsInRange ls
+  pub unimplemented-off : (i : ℕ) → n ≤ i → getD ls i off .level ≡ 0
+
 -- the level rounded up to a multiple of the step
 -- (proofs/Lamps: `actual-multiple`, `actual-above`, `actual-least`, `actual-max`)
 unfoldable pub actualLevel : Settings → ℕ → ℕ

@@ -6,7 +6,6 @@ use crate::lamp::LAMPS;
 use crate::lamp::Lamp;
 use crate::lamp::actual_level;
 use crate::lamp::step_inverse;
-use dpa::number::wide;
 use dpa::settings::Settings;
 ghost use mathlib.Core.Path.{_≡_};
 ghost use mathlib.Core.Bool.{true};
@@ -15,27 +14,22 @@ ghost use lib.ListN.{length};
 ghost use Rattle.dpa.specs.Lists.{overwriteFront};
 ghost use Rattle.dpa.specs.Settings.{settingsOk, maxLamps};
 ghost use Rattle.lights.specs.Bits.{bitmapSize, bitmap};
-ghost use Rattle.lights.specs.Lamp.{LevelsInRange};
+ghost use Rattle.lights.specs.Lamp.{SoundLevels};
 ghost use Rattle.lights.specs.Lights.{levelsBefore};
 
-// Writes the actual levels of the selected lamps to the front of out, 0 for an unimplemented one, and returns how many.
+// Writes the actual levels of the selected lamps to the front of out and returns how many.
 pub fn write_levels(settings: Settings, pdata: &[u8], lamps: [Lamp; LAMPS], out: &mut [u8]) -> usize
-    requires { ⌜ (settingsOk settings ≡ true) × LevelsInRange lamps × (maxLamps ≤ length (now out)) × (bitmapSize ≤ length (now pdata)) ⌝ }
+    requires { ⌜ (settingsOk settings ≡ true) × SoundLevels (settings .«lamp_count») lamps × (maxLamps ≤ length (now out)) × (bitmapSize ≤ length (now pdata)) ⌝ }
     ensures { λ r. ⌜ (r ≡ length (levelsBefore settings (settings .«lamp_count») (bitmap (now (pdata .entry))) lamps))
         × (now (out .exit) ≡ overwriteFront (levelsBefore settings (settings .«lamp_count») (bitmap (now (pdata .entry))) lamps) (now (out .entry))) ⌝ }
 {
-    let implemented = wide(settings.lamp_count);
     let inverse = step_inverse(settings);
     let mut remaining = mask_of(pdata);
     let mut written: usize = 0;
     while remaining != 0 {
-        let i = lowest_lamp(remaining);
-        if i < implemented {
-            let lamp = lamps[i];
-            out[written] = actual_level(settings, inverse, lamp.level);
-        } else {
-            out[written] = 0;
-        }
+        // An unimplemented lamp is off.
+        let lamp = lamps[lowest_lamp(remaining)];
+        out[written] = actual_level(settings, inverse, lamp.level);
         written = written + 1;
         remaining = without_lowest(remaining);
     }

@@ -18,7 +18,7 @@ ghost use lib.ListN.{length};
 ghost use Rattle.dpa.specs.Frame.{pdataMax};
 ghost use Rattle.dpa.specs.Reply.{replySeen, replyInBuffer};
 ghost use Rattle.dpa.specs.Settings.{settingsOk, maxLamps};
-ghost use Rattle.lights.specs.Lamp.{LevelsInRange};
+ghost use Rattle.lights.specs.Lamp.{SoundLevels};
 ghost use Rattle.lights.specs.Lights.{commandOf, wellFormed, changesLamps, changeLamps, enumerateLamps, lightsRequest};
 
 // PCMD of each request.
@@ -70,7 +70,7 @@ fn error_reply(error: u8) -> Reply
 
 // The answer to set, raise and lower is the same for each command: the levels before the change.
 fn answer_levels(settings: Settings, lamps: [Lamp; LAMPS], pdata: &[u8], out: &mut [u8]) -> Reply
-    requires { ⌜ (settingsOk settings ≡ true) × LevelsInRange lamps × (maxLamps ≤ length (now out)) ⌝ }
+    requires { ⌜ (settingsOk settings ≡ true) × SoundLevels (settings .«lamp_count») lamps × (maxLamps ≤ length (now out)) ⌝ }
     ensures { λ r. ⌜ ((c : Command) → replySeen (changeLamps settings c (now (pdata .entry)) lamps .after) (r .error) (r .length) (now (out .exit))
         ≡ replyInBuffer (changeLamps settings c (now (pdata .entry)) lamps) (now (out .entry))) ⌝ }
 {
@@ -108,7 +108,7 @@ pub fn request(
     pdata: &[u8],
     out: &mut [u8],
 ) -> Reply
-    requires { ⌜ (settingsOk settings ≡ true) × LevelsInRange lamps × (pdataMax ≤ length (now out)) ⌝ }
+    requires { ⌜ (settingsOk settings ≡ true) × SoundLevels (settings .«lamp_count») lamps × (pdataMax ≤ length (now out)) ⌝ }
     ensures { λ r. ⌜ replySeen (lightsRequest settings pcmd (now (pdata .entry)) lamps .after) (r .error) (r .length) (now (out .exit))
         ≡ replyInBuffer (lightsRequest settings pcmd (now (pdata .entry)) lamps) (now (out .entry)) ⌝ }
 {

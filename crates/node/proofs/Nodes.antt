@@ -13,7 +13,7 @@ use Rattle.dpa.specs.Sizes.{ramSize}
 use Rattle.dpa.proofs.Bool.{and-left, and-right, both, by-test, all-below-intro, all-below-elim}
 use Rattle.dpa.proofs.Ranges.{settings-facts}
 use Rattle.lights.specs.declared.lamp.Lamp.{Lamp}
-use Rattle.lights.specs.Lamp.{maxLevel, off, lampFits, LevelsInRange, actualLevel, tickLamp}
+use Rattle.lights.specs.Lamp.{maxLevel, off, lampFits, LevelsInRange, SoundLevels, actualLevel, tickLamp}
 use Rattle.lights.proofs.Lamps.{lamp-facts, zero-facts, off-rule, fits-below, fits-above, fits-test, fits-rule, tick-keeps, tick-seconds, tick-ends, tick-level, actual-max, actual-off}
 use Rattle.node.specs.declared.record.Node.{Node}
 use Rattle.node.specs.Node.{withLamps, withRam, shapeOk, lampsOk, nodeOk, NodeRule, nodeAnswer, fresh, blank, startOf, actualLevels, levelsOf, tickLamps, tickNode, tickOf}
@@ -50,13 +50,26 @@ module _ (n : Node) (e : nodeOk n ≡ true) where
   unfolding nodeOk lampsOk
   node-fits = all-below-elim maxLamps _ (and-right (shapeOk n && settingsOk (n .settings)) (lampsOk (n .settings .«lamp_count») (n .lamps)) e)
 
+  beyond : (k : ℕ) → maxLamps ≤ k → getD (n .lamps) k off ≡ off
+  beyond k h = List·getD-eq-default (n .lamps) off (omega (arith, node-lamps))
+
   -- none of its levels is over 100
   pub node-levels-in-range : LevelsInRange (n .lamps)
   node-levels-in-range k =
       by-test (ltb k maxLamps)
       (λ t. fits-rule _ k _ (node-fits k (ltb-true _ _ t)) .level-max)
-      (λ t. let z : getD (n .lamps) k off ≡ off = List·getD-eq-default (n .lamps) off (omega (arith, node-lamps, ltb-false k maxLamps t)) in
-      rw z (omega arith))
+      (λ t. rw (beyond k (ltb-false k maxLamps t)) (omega arith))
+
+  -- and its lamps from the count on are off
+  pub node-levels : SoundLevels (n .settings .«lamp_count») (n .lamps)
+  node-levels =
+      record {
+        in-range = node-levels-in-range;
+        unimplemented-off = λ k h.
+            by-test (ltb k maxLamps)
+            (λ t. ap (λ (l : Lamp). l .level) (zero-facts _ (sym (fits-above _ k _ h) ∙ node-fits k (ltb-true _ _ t))))
+            (λ t. ap (λ (l : Lamp). l .level) (beyond k (ltb-false k maxLamps t)));
+      }
 
   -- the test gives the facts
   pub node-facts : NodeRule n

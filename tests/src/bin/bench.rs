@@ -88,8 +88,18 @@ fn low_quantile(mut times: Vec<f64>) -> f64 {
     times[times.len() / 10]
 }
 
+/// Calls a function with the stack `steps` frames of about 100 bytes lower.
+#[inline(never)]
+fn deeper(steps: usize, call: &mut dyn FnMut() -> f64) -> f64 {
+    let frame = black_box([0u8; 64]);
+    let result = if steps == 0 { call() } else { deeper(steps - 1, call) };
+    black_box(&frame);
+    result
+}
+
 /// Nanoseconds per call of each of `N` programs: a low quantile over short bursts, by turns. Other work on the machine
-/// makes some bursts slower and none faster. `run(program, calls)` times one burst.
+/// makes some bursts slower and none faster. The bursts start at 64 stack depths, because the addresses of the records
+/// there matter, and a process gets others in each run. `run(program, calls)` times one burst.
 fn time_bursts<const N: usize>(bursts: usize, mut run: impl FnMut(usize, u32) -> f64) -> [f64; N] {
     let calls: [u32; N] = std::array::from_fn(|program| {
         let once = [(); 4].map(|_| run(program, 250)).into_iter().fold(f64::MAX, f64::min);
@@ -98,7 +108,7 @@ fn time_bursts<const N: usize>(bursts: usize, mut run: impl FnMut(usize, u32) ->
     let mut times = [(); N].map(|_| Vec::with_capacity(bursts));
     for burst in 0..bursts {
         for program in (burst..burst + N).map(|i| i % N) {
-            times[program].push(run(program, calls[program]));
+            times[program].push(deeper(burst / N % 64, &mut || run(program, calls[program])));
         }
     }
     times.map(low_quantile)

@@ -7,7 +7,7 @@ use Rattle.dpa.proofs.Replies.{reply-mapped}
 use Rattle.memory.specs.declared.block.Memory.the-variants.{Eeprom, Ram, External}
 use Rattle.lights.specs.declared.lamp.Lamp.{Lamp}
 use Rattle.lights.specs.Lights.{lightsRequest}
-use Rattle.node.proofs.Nodes.{node-settings, node-levels-in-range, node-ram}
+use Rattle.node.proofs.Nodes.{node-settings, node-levels, node-ram}
 use Rattle.handler.specs.Request.{State}
 use Rattle.handler.specs.Seen.{memories, memoriesOf}
 use Rattle.handler.proofs.Peripherals.{peripheral-lights, peripheral-unknown, memory-seen}
@@ -41,7 +41,7 @@ returns-3 c =
 request-requires-4 : tie.Need-request-requires-4
 request-requires-4 c κs =
     let s = start (c .before .before .before) in
-    (node-settings _ (s .pre .0 .node-ok), node-levels-in-range _ (s .pre .0 .node-ok), s .pre .1)
+    (node-settings _ (s .pre .0 .node-ok), node-levels _ (s .pre .0 .node-ok), s .pre .1)
 
 returns-4 : tie.Need-returns-4
 returns-4 c =
