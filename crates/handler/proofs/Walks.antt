@@ -82,7 +82,7 @@ module _ (bytes : List ℕ) where
     request-walk-ok =
         record { next-max = h; at-max = bitmap-room; remains = subst (Remaining _) entries-bytes (remaining-start pcmd pdata changes pdata-small) }
 
-    -- its walk gives the lamps after it, then after the entries behind it
+    -- its walk gives the lamps after it, then after the entries after it
     pub request-walk-lamps : (s : Settings) (ls : List Lamp)
         → walkLamps s bytes (requestWalk pcmd bytes start end) ls ≡ listLamps s (drop end bytes) (lightsRequest s pcmd pdata ls .after)
     unfolding walkLamps
@@ -107,7 +107,7 @@ module _ (bytes : List ℕ) where
         (f .0, omega (arith, good .at-max))
 
   module _ (s : Settings) where
-    -- if nothing remains of the current request, the entries behind it are left
+    -- if nothing remains of the current request, the entries after it are left
     pub walk-list : (w : Walk) (ls : List Lamp) → w .remaining ≡ 0 → walkLamps s bytes w ls ≡ listLamps s (drop (w .next) bytes) ls
     unfolding walkLamps
     walk-list w ls z =

@@ -1,6 +1,6 @@
 -- How the code's results and buffers show the outcome of a request and the result of a call, and what a request does to the memories and
 -- to the lamps, each by itself.
-use Prim.Native.Nat.{ℕ, _+_, _≤_}
+use Prim.Native.Nat.{ℕ, _+_}
 use mathlib.Core.Path.{_≡_}
 use mathlib.Core.List.{List, _++_}
 use mathlib.Core.Bool.{Bool, cond, _&&_}

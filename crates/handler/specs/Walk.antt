@@ -26,7 +26,7 @@ use Rattle.handler.specs.Seen.{entryLamps, listLamps, lampsAfterSuccess}
 abbrev pub remainingBytes : List ℕ → Walk → List ℕ
 remainingBytes bytes w = drop (w .at) (take (w .next) bytes)
 
--- the lamps after the rest of a walk: after what remains of the current request, then after the entries behind it
+-- the lamps after the rest of a walk: after what remains of the current request, then after the entries after it
 unfoldable pub walkLamps : Settings → List ℕ → Walk → List Lamp → List Lamp
 walkLamps s bytes w ls =
     listLamps s (drop (w .next) bytes)
