@@ -3,11 +3,11 @@ use mathlib.Core.Bool.{true, false}
 use mathlib.Core.List.{List, [], _∷_, _++_, append-assoc, append-nil}
 use mathlib.Core.Path.{_≡_, refl, sym, ap, _∙_}
 use Prim.Native.Nat.{ℕ, zero, suc, _+_, _*_, _^_, _≤_, _<_}
-use native.Mathlib.Nat.{add-zero}
 use native.Mathlib.Omega.{arith}
 use lib.ListN.{length, take, drop, set, length-append, take-append-drop}
 use lib.Seq.{sets, length-sets}
 use borrow.Author.Tests.{eq-eqb, ne-eqb}
+use Rattle.dpa.proofs.Lists.{sets-append}
 use Rattle.batch.specs.Batch.{entryBytes}
 use Rattle.book.specs.declared.step.Step.{Step}
 use Rattle.book.specs.Book.{stepLength, stepOf, stepsIn}
@@ -20,13 +20,6 @@ use Rattle.book.proofs.Records.{records-next, records-taken, records-al
 use Rattle.book.proofs.Positions.{steps-length}
 
 -- ---- bytes after bytes
-
--- writing xs ++ ys is writing xs, then ys after it
-pub sets-append : (l : List ℕ) (i : ℕ) (xs ys : List ℕ) → sets l i (xs ++ ys) ≡ sets (sets l i xs) (i + length xs) ys
-sets-append l i [] ys = rw (add-zero i)
-sets-append l i (x ∷ xs) ys =
-    let e : i + suc (length xs) ≡ suc i + length xs = omega arith in
-    rw e (sets-append (set l i x) (suc i) xs ys)
 
 -- two writers, the second from where the first ended
 pub two-writes : (out out′ out″ xs ys zs : List ℕ) (at w r : ℕ) → out′ ≡ sets out at xs → w ≡ at + length xs → out″ ≡ sets out′ w ys

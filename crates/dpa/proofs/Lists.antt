@@ -1,7 +1,8 @@
 -- Laws of lists: slices, buffers that are written from the front, and a borrowed tail of a buffer.
 use mathlib.Core.Path.{_≡_, refl, sym, ap, _∙_}
 use mathlib.Core.List.{List, [], _∷_, _++_, append-nil, append-assoc}
-use Prim.Native.Nat.{ℕ, _+_, _-_, _≤_, _<_}
+use Prim.Native.Nat.{ℕ, suc, _+_, _-_, _≤_, _<_}
+use native.Mathlib.Nat.{add-zero}
 use native.Mathlib.Omega.{arith}
 use lib.ListN.{length, take, drop, set, length-append, length-drop, take-append-drop, drop-of-length-le}
 use lib.Seq.{sets, sets-eq, take-all, take-at, drop-at, take-length, drop-drop, drop-set-lt, length-take-le}
@@ -23,6 +24,13 @@ sets-front vs l h = rw (sets-eq vs l 0 (omega arith), zero-add)
 pub set-first : (xs : List ℕ) (v : ℕ) → 0 < length xs → set xs 0 v ≡ overwriteFront (v ∷ []) xs
 set-first [] v h = absurd (omega arith)
 set-first (x ∷ xs) v h = refl
+
+-- writing xs ++ ys is writing xs, then ys after it
+pub sets-append : (l : List ℕ) (i : ℕ) (xs ys : List ℕ) → sets l i (xs ++ ys) ≡ sets (sets l i xs) (i + length xs) ys
+sets-append l i [] ys = rw (add-zero i)
+sets-append l i (x ∷ xs) ys =
+    let e : i + suc (length xs) ≡ suc i + length xs = omega arith in
+    rw e (sets-append (set l i x) (suc i) xs ys)
 
 -- k bytes copied to the front of a buffer (as `bytes::copy` states it), then values stored from place k on
 pub sets-after-copy : (xs vs old out : List ℕ) (k : ℕ) → length xs ≡ k → k + length vs ≤ length old

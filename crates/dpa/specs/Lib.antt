@@ -6,3 +6,4 @@ pub mod Frame
 pub mod Pnum
 pub mod Sizes
 pub mod Reply
+pub mod Answer

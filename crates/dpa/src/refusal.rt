@@ -1,8 +1,9 @@
 // Why a call refuses its arguments. If several apply, the first of this list is returned.
 pub const NONE: u8 = 0;
-// The node record breaks the node rule, settings or an address are out of range, or a node set names address 0 or no node.
+// The node record or the record of a receiver breaks its rule, settings or an address are out of range, or a node set names address 0
+// or no node.
 pub const NODE: u8 = 1;
-// The frame is shorter than its header, or longer than the longest request.
+// The frame is shorter than its header, or longer than the longest request; on the serial line, than the longest response.
 pub const FRAME: u8 = 2;
 // The response buffer is too small for the longest response.
 pub const RESPONSE: u8 = 3;
@@ -26,6 +27,8 @@ pub const STEP_TIME: u8 = 84;
 pub const OUTPUT: u8 = 9;
 // A view names neither EEPROM nor external memory.
 pub const VIEW: u8 = 10;
+// The output buffer is too small for the framed message.
+pub const FRAMED: u8 = 11;
 // A view is longer than the longest block of a request.
 pub const BLOCK: u8 = 15;
 // A view starts or ends outside the memory.

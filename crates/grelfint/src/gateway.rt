@@ -1,5 +1,5 @@
 // The gateway: timeslots, waiting and confirmations.
-use timing::confirm::LengthAnswer;
+use dpa::answer::LengthAnswer;
 use timing::confirm::confirm;
 use timing::slot::Network;
 use timing::slot::SendAnswer;
@@ -7,7 +7,8 @@ use timing::slot::SlotAnswer;
 use timing::slot::earliest_send;
 use timing::slot::timeslot;
 ghost use mathlib.Core.Path.{_≡_};
-ghost use Rattle.timing.specs.Confirm.{confirmResult, confirmOf};
+ghost use Rattle.dpa.specs.Answer.{lengthResult};
+ghost use Rattle.timing.specs.Confirm.{confirmOf};
 ghost use Rattle.timing.specs.Slot.{timeslotOf, sendOf};
 ghost use Rattle.grelfint.specs.Network.{networkOf};
 
@@ -30,7 +31,7 @@ pub extern "C" fn grelfint_confirm(
     lp: bool,
     out: &mut [u8],
 ) -> LengthAnswer
-    ensures { λ r. ⌜ confirmResult r (now (out .exit)) ≡ confirmOf (now (frame .entry)) «dpa_value» hops «response_hops» (networkOf lp) (now (out .entry)) ⌝ }
+    ensures { λ r. ⌜ lengthResult r (now (out .exit)) ≡ confirmOf (now (frame .entry)) «dpa_value» hops «response_hops» (networkOf lp) (now (out .entry)) ⌝ }
 {
     confirm(frame, dpa_value, hops, response_hops, network_of(lp), out)
 }

@@ -3,3 +3,4 @@ pub mod gateway;
 pub mod nodes;
 pub mod requests;
 pub mod scenes;
+pub mod serial;

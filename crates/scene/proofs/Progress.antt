@@ -15,7 +15,8 @@ use Rattle.book.specs.Entry.{joinedItem}
 use Rattle.book.specs.Join.{entriesOf}
 use Rattle.book.specs.EntrySize.{FirstEntry}
 use Rattle.book.specs.Writing.{AllStepsGood}
-use Rattle.book.proofs.Writing.{sets-append, two-writes}
+use Rattle.dpa.proofs.Lists.{sets-append}
+use Rattle.book.proofs.Writing.{two-writes}
 use Rattle.book.proofs.Positions.{steps-length}
 use Rattle.book.proofs.GoodSteps.{good-steps}
 use Rattle.scene.specs.declared.fill.SizeLimits.{SizeLimits}

@@ -10,11 +10,12 @@ use lib.Dec.{ltb}
 use borrow.Author.Tests.{lt-ltb, le-ltb}
 use Rattle.dpa.proofs.Bool.{by-cond}
 use Rattle.dpa.proofs.Headers.{fits-sizes}
+use Rattle.dpa.specs.Answer.{LengthResult, resultInBuffer}
 use Rattle.dpa.specs.Lists.{overwriteFront}
 use Rattle.dpa.specs.Frame.{headerSize, longestResponse, pdataOf, frameFits}
 use Rattle.timing.specs.declared.slot.Network.{Network}
 use Rattle.timing.specs.Slot.{slotOf}
-use Rattle.timing.specs.Confirm.{confirmationLength, confirmBytes, confirmation, ConfirmResult, resultInBuffer, confirmOf}
+use Rattle.timing.specs.Confirm.{confirmationLength, confirmBytes, confirmation, confirmOf}
 
 -- the length of a confirmation
 pub confirmation-length : (f : List ℕ) (d h s b : ℕ) → headerSize ≤ length f → length (confirmBytes f d h s b) ≡ confirmationLength
@@ -50,7 +51,7 @@ module _ (f : List ℕ) (d h b : ℕ) (net : Network) (o : List ℕ) where
       (λ t. λ z. confirmation-length f d h (slotOf (length (pdataOf f)) net) b (fits-sizes (length f) e .0)))
       (λ e. λ z. absurd (omega arith))
     where
-      Whole : ConfirmResult → Type 0
+      Whole : LengthResult → Type 0
       Whole c = c .refusal ≡ 0 → c .length ≡ confirmationLength
 
   -- a refused call returns length 0 and leaves the buffer unchanged
@@ -61,7 +62,7 @@ module _ (f : List ℕ) (d h b : ℕ) (net : Network) (o : List ℕ) where
       (λ e. by-cond Kept (ltb (length o) longestResponse) _ _ (λ t. λ z. (refl, refl)) (λ t. λ z. absurd (z refl)))
       (λ e. λ z. (refl, refl))
     where
-      Kept : ConfirmResult → Type 0
+      Kept : LengthResult → Type 0
       Kept c = (c .refusal ≡ 0 → ⊥) → (c .length ≡ 0) × (c .out ≡ o)
 
   -- bytes after the confirmation are unchanged, refused or not
@@ -74,5 +75,5 @@ module _ (f : List ℕ) (d h b : ℕ) (net : Network) (o : List ℕ) where
       rw l (drop-at (confirmation f d h b net) (drop confirmationLength o) confirmationLength l)))
       (λ e. refl)
     where
-      Stays : ConfirmResult → Type 0
+      Stays : LengthResult → Type 0
       Stays c = drop confirmationLength (c .out) ≡ drop confirmationLength o

@@ -4,10 +4,9 @@ use mathlib.Core.Bool.{cond}
 use mathlib.Core.List.{List, [], _∷_, _++_}
 use lib.ListN.{length, take}
 use lib.Dec.{ltb, eqb}
-use Rattle.dpa.specs.Lists.{overwriteFront}
+use Rattle.dpa.specs.Answer.{LengthResult, resultInBuffer}
 use Rattle.dpa.specs.Frame.{headerSize, longestResponse, broadcastNadr, headerOf, pdataOf, frameFits}
 use Rattle.timing.specs.declared.slot.Network.{Network}
-use Rattle.timing.specs.declared.confirm.LengthAnswer.{LengthAnswer}
 use Rattle.timing.specs.Slot.{slotOf}
 
 -- the status that marks a confirmation
@@ -32,21 +31,8 @@ abbrev pub confirmation : List ℕ → ℕ → ℕ → ℕ → Network → List 
 confirmation frame dpaValue hops responseHops net =
     confirmBytes frame dpaValue hops (slotOf (length (pdataOf frame)) net) responseHops
 
--- what `confirm` leaves: its answer and the buffer
-pub record ConfirmResult : Type 0 where
-  pub refusal : ℕ
-  pub length : ℕ
-  pub out : List ℕ
-
-abbrev pub confirmResult : LengthAnswer → List ℕ → ConfirmResult
-confirmResult r o = record { refusal = r .refusal; length = r .length; out = o }
-
--- bytes written to the front of the buffer, and their number
-abbrev pub resultInBuffer : ℕ → List ℕ → List ℕ → ConfirmResult
-resultInBuffer e xs o = record { refusal = e; length = length xs; out = overwriteFront xs o }
-
 -- `confirm`: not a frame of 6 to 62 bytes: 2; a buffer under 64 bytes: 3; NADR is not tested
-unfoldable pub confirmOf : List ℕ → ℕ → ℕ → ℕ → Network → List ℕ → ConfirmResult
+unfoldable pub confirmOf : List ℕ → ℕ → ℕ → ℕ → Network → List ℕ → LengthResult
 confirmOf frame dpaValue hops responseHops net o =
     cond (frameFits (length frame))
     (cond (ltb (length o) longestResponse)

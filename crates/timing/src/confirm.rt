@@ -1,20 +1,16 @@
 // The confirmation that the gateway returns for a request.
 use crate::slot::Network;
 use crate::slot::slot_of;
+use dpa::answer::LengthAnswer;
 use dpa::frame::Frame;
 use dpa::refusal;
 ghost use mathlib.Core.Path.{_≡_};
 ghost use Prim.Native.Nat.{_≤_};
 ghost use lib.ListN.{length};
+ghost use Rattle.dpa.specs.Answer.{lengthResult};
 ghost use Rattle.dpa.specs.Frame.{headerSize};
 ghost use Rattle.dpa.specs.Lists.{overwriteFront};
-ghost use Rattle.timing.specs.Confirm.{confirmationLength, responseHopsSent, confirmBytes, confirmResult, confirmOf};
-
-#[repr(C)]
-pub struct LengthAnswer {
-    pub refusal: u8,
-    pub length: usize,
-}
+ghost use Rattle.timing.specs.Confirm.{confirmationLength, responseHopsSent, confirmBytes, confirmOf};
 
 // The status that marks a confirmation; it is where a response has ErrN.
 const STATUS_CONFIRMATION: u8 = 0xFF;
@@ -63,7 +59,7 @@ pub fn confirm(
     network: Network,
     out: &mut [u8],
 ) -> LengthAnswer
-    ensures { λ r. ⌜ confirmResult r (now (out .exit)) ≡ confirmOf (now (frame .entry)) «dpa_value» hops «response_hops» network (now (out .entry)) ⌝ }
+    ensures { λ r. ⌜ lengthResult r (now (out .exit)) ≡ confirmOf (now (frame .entry)) «dpa_value» hops «response_hops» network (now (out .entry)) ⌝ }
 {
     if !Frame::fits(frame.len()) {
         return LengthAnswer {

@@ -1,0 +1,12 @@
+pub mod Xor
+pub mod CheckBytes
+pub mod Escapes
+pub mod Sending
+pub mod Causes
+pub mod Receivers
+pub mod Receiving
+pub mod Streams
+pub mod Contents
+pub mod RoundTrips
+pub mod Damage
+pub mod Examples

@@ -1,0 +1,15 @@
+-- `framing::escaped_length` meets its contract.
+use mathlib.Core.Path.{sym, _∙_}
+use native.Mathlib.Omega.{arith}
+use Rattle.uart.proofs.Escapes.{escaped-reserved, escaped-plain}
+use Rattle.uart.proofs.framing.escaped_length.Statement.{statement}
+use Rattle.uart.proofs.framing.escaped_length.Tie as tie
+
+returns : tie.Need-returns
+returns c = (rw (escaped-reserved _ (sym (c .before .reserved .ensures) ∙ c .if1 .taken)), omega arith)
+
+returns-2 : tie.Need-returns-2
+returns-2 c = (rw (escaped-plain _ (sym (c .before .reserved .ensures) ∙ c .if1 .left)), omega arith)
+
+pub escaped-length-spec : {M : Type 1} → statement M
+escaped-length-spec = tie.close (tie.spec (λ c κs. tt) returns returns-2)

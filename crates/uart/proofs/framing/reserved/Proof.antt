@@ -1,0 +1,16 @@
+-- `framing::reserved` meets its contract.
+use borrow.Author.Tests.{eq-eqb, ne-eqb}
+use Rattle.uart.specs.Framing.{flag, reserved}
+use Rattle.uart.proofs.framing.reserved.Statement.{statement}
+use Rattle.uart.proofs.framing.reserved.Tie as tie
+
+returns : tie.Need-returns
+unfolding reserved
+returns c = simp (eq-eqb (c .before .args .byte) flag (c .if1 .taken))
+
+returns-2 : tie.Need-returns-2
+unfolding reserved
+returns-2 c = simp (ne-eqb (c .before .args .byte) flag (c .if1 .left))
+
+pub reserved-spec : {M : Type 1} → statement M
+reserved-spec = tie.close (tie.spec returns returns-2)

@@ -1,0 +1,65 @@
+-- Document 000, 2.3.2: flag, escape, a framed message. Document 02, change 5: the sender.
+use Prim.Native.Nat.{ℕ}
+use mathlib.Core.List.{List, [], _∷_, _++_}
+use mathlib.Core.Bool.{Bool, cond, _||_}
+use lib.ListN.{length}
+use lib.Dec.{eqb, ltb}
+use lib.Bits.{bitXor}
+use Rattle.dpa.specs.Answer.{LengthResult, resultInBuffer}
+use Rattle.uart.specs.CheckByte.{checkByte}
+
+-- Flag Sequence: the first and the last byte of a framed message
+abbrev pub flag : ℕ
+flag = 0x7E
+
+-- Control Escape
+abbrev pub escape : ℕ
+escape = 0x7D
+
+-- Escape Bit
+abbrev pub escapeBit : ℕ
+escapeBit = 0x20
+
+-- a byte with the other value of its escape bit: what follows an escape
+abbrev pub flipped : ℕ → ℕ
+flipped b = bitXor b escapeBit
+
+-- a byte that has a meaning of its own on the line
+unfoldable pub reserved : ℕ → Bool
+reserved b = eqb b flag || eqb b escape
+
+-- one byte of a message on the line: a flag and an escape are written as two bytes
+unfoldable pub escaped : ℕ → List ℕ
+escaped b = cond (reserved b) (escape ∷ flipped b ∷ []) (b ∷ [])
+
+-- the bytes of a message on the line
+unfoldable pub escapedAll : List ℕ → List ℕ
+escapedAll [] = []
+escapedAll (b ∷ bs) = escaped b ++ escapedAll bs
+
+-- a message with its check byte
+abbrev pub withCheckByte : List ℕ → List ℕ
+withCheckByte m = m ++ (checkByte m ∷ [])
+
+-- bytes between two flags
+abbrev pub betweenFlags : List ℕ → List ℕ
+betweenFlags bytes = flag ∷ (escapedAll bytes ++ (flag ∷ []))
+
+-- a framed message
+abbrev pub framed : List ℕ → List ℕ
+framed m = betweenFlags (withCheckByte m)
+
+-- the shortest and the longest message, in bytes without the check byte
+abbrev pub shortest : ℕ
+shortest = 6
+
+abbrev pub longest : ℕ
+longest = 64
+
+-- `frame`: a message of less than 6 or more than 64 bytes: 2; a buffer that the framed message does not fit: 11
+unfoldable pub frameOf : List ℕ → List ℕ → LengthResult
+frameOf m o =
+    cond (ltb (length m) shortest) (resultInBuffer 2 [] o)
+    (cond (ltb longest (length m)) (resultInBuffer 2 [] o)
+    (cond (ltb (length o) (length (framed m))) (resultInBuffer 11 [] o)
+    (resultInBuffer 0 (framed m) o)))

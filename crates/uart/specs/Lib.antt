@@ -1,0 +1,5 @@
+pub mod CheckByte
+pub mod ShiftTable
+pub mod Framing
+pub mod Receiver
+pub mod Stream

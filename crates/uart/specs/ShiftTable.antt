@@ -1,0 +1,20 @@
+-- The table by which the code computes the check byte.
+use Prim.Native.Nat.{ℕ, zero, suc, _+_, _*_, _/_, _%_, _^_}
+use mathlib.Core.List.{List, [], _∷_}
+use Rattle.uart.specs.CheckByte.{shifts}
+
+-- bytes that are added at once
+abbrev pub blockLength : ℕ
+blockLength = 4
+
+-- f of the n numbers from i on
+unfoldable pub tableFrom : (ℕ → ℕ) → ℕ → ℕ → List ℕ
+tableFrom f i zero = []
+tableFrom f i (suc n) = f i ∷ tableFrom f (suc i) n
+
+-- entry k: for each number of bytes that follow, the low digits, then the high ones
+abbrev pub shiftEntry : ℕ → ℕ
+shiftEntry k = shifts (8 * (k / 32 + 1)) (k % 16 * 16 ^ (k / 16 % 2))
+
+unfoldable pub shiftTable : List ℕ
+shiftTable = tableFrom shiftEntry 0 128
