@@ -53,6 +53,9 @@ extern "C" {
 #define GRELFINT_COMPILED 4096 /* minimum for a compiled scene */
 #define GRELFINT_NODE_SET 30   /* bytes: a bit for each address, 0 to 239 */
 
+#define GRELFINT_UART_FRAME 64   /* the longest frame on the serial line */
+#define GRELFINT_UART_FRAMED 132 /* the longest framed message: two flags and 65 escaped bytes */
+
 typedef struct grelfint_settings {
     uint16_t address;
     uint16_t hwpid;
@@ -132,6 +135,26 @@ typedef struct grelfint_compile_answer {
     uint8_t step; /* the first bad step, with refusals 81 to 84 */
     size_t length;
 } grelfint_compile_answer;
+
+/* A receiver on a serial line. Start one by grelfint_uart_receiver.
+ * It is sound if limit is 62 or 64, phase at most 2, count at most limit + 2,
+ * and count 0 in phase 0. */
+typedef struct grelfint_receiver {
+    uint8_t limit; /* the longest frame: 64 at a gateway, 62 at a node */
+    uint8_t phase; /* 0 before the first flag, 1 in a frame, 2 after an escape */
+    uint8_t count; /* bytes of this frame so far with its check byte; stops at limit + 2 */
+    uint8_t bytes[GRELFINT_UART_FRAME + 1]; /* byte k of the frame, for k up to limit */
+} grelfint_receiver;
+
+typedef struct grelfint_receive_answer {
+    uint8_t refusal;
+    uint8_t event;  /* 0 all bytes taken, no frame yet; 1 a frame; 2 a dropped frame */
+    uint8_t cause;  /* of a drop: 1 too long, 2 cut after an escape, 3 short, 4 check byte */
+    size_t taken;   /* bytes of the slice that were used */
+    size_t length;  /* bytes of the frame, check byte not counted */
+    uint8_t frame[GRELFINT_UART_FRAME]; /* the frame, then zeros */
+    grelfint_receiver receiver;
+} grelfint_receive_answer;
 
 /* Starts a node with these settings; every lamp and RAM byte is 0.
  * Answer: refusal; node. Refusals: 1 (the node is then all zeros).
@@ -239,6 +262,14 @@ grelfint_compile_answer grelfint_compile_selected_default(
     const uint8_t *book, size_t book_length, size_t scene,
     grelfint_node_set nodes,
     uint8_t *out, size_t out_length);
+
+grelfint_receiver grelfint_uart_receiver(bool gateway);
+
+grelfint_receive_answer grelfint_uart_receive(
+    grelfint_receiver receiver, const uint8_t *bytes, size_t bytes_length);
+
+grelfint_length_answer grelfint_uart_frame(
+    const uint8_t *frame, size_t frame_length, uint8_t *out, size_t out_length);
 
 #ifdef __cplusplus
 }

@@ -124,6 +124,35 @@ pub struct CompileAnswer {
     pub length: usize,
 }
 
+/// A receiver on the serial line.
+#[repr(C)]
+#[derive(Clone, Copy, Debug, PartialEq, Eq)]
+pub struct Receiver {
+    pub limit: u8,
+    pub phase: u8,
+    pub count: u8,
+    pub bytes: [u8; 65],
+}
+
+#[repr(C)]
+#[derive(Clone, Copy, Debug, PartialEq, Eq)]
+pub struct ReceiveAnswer {
+    pub refusal: u8,
+    pub event: u8,
+    pub cause: u8,
+    pub taken: usize,
+    pub length: usize,
+    pub frame: [u8; 64],
+    pub receiver: Receiver,
+}
+
+impl ReceiveAnswer {
+    /// Every number and every byte of the frame 0.
+    pub fn zeros(receiver: Receiver) -> ReceiveAnswer {
+        ReceiveAnswer { refusal: 0, event: 0, cause: 0, taken: 0, length: 0, frame: [0; 64], receiver }
+    }
+}
+
 /// The type of `grelfint_handle_request`.
 pub type HandleRequest =
     unsafe extern "C" fn(Node, *const u8, usize, *mut u8, usize, *mut u8, usize, *mut u8, usize) -> RequestAnswer;
@@ -133,6 +162,12 @@ pub type Compile = unsafe extern "C" fn(*const u8, usize, usize, u16, u16, *mut 
 
 /// The type of `grelfint_compile_selected`.
 pub type CompileSelected = unsafe extern "C" fn(*const u8, usize, usize, NodeSet, u16, *mut u8, usize) -> CompileAnswer;
+
+/// The type of `grelfint_uart_receive`.
+pub type UartReceive = unsafe extern "C" fn(Receiver, *const u8, usize) -> ReceiveAnswer;
+
+/// The type of `grelfint_uart_frame`.
+pub type UartFrame = unsafe extern "C" fn(*const u8, usize, *mut u8, usize) -> LengthAnswer;
 
 mod raw {
     use super::*;
@@ -222,12 +257,22 @@ mod raw {
             out: *mut u8,
             out_length: usize,
         ) -> CompileAnswer;
+        pub fn grelfint_uart_receiver(gateway: bool) -> Receiver;
+        pub fn grelfint_uart_receive(receiver: Receiver, bytes: *const u8, bytes_length: usize) -> ReceiveAnswer;
+        pub fn grelfint_uart_frame(
+            frame: *const u8,
+            frame_length: usize,
+            out: *mut u8,
+            out_length: usize,
+        ) -> LengthAnswer;
     }
 }
 
 pub const HANDLE_REQUEST: HandleRequest = raw::grelfint_handle_request;
 pub const COMPILE: Compile = raw::grelfint_compile;
 pub const COMPILE_SELECTED: CompileSelected = raw::grelfint_compile_selected;
+pub const UART_RECEIVE: UartReceive = raw::grelfint_uart_receive;
+pub const UART_FRAME: UartFrame = raw::grelfint_uart_frame;
 
 // SAFETY, for each wrapper: every slice outlives the call, mutable ones have
 // no alias, and the lengths passed are those of the slices.
@@ -359,4 +404,26 @@ pub fn compile_selected_default(book: &[u8], scene: usize, nodes: NodeSet, out: 
     unsafe {
         raw::grelfint_compile_selected_default(book.as_ptr(), book.len(), scene, nodes, out.as_mut_ptr(), out.len())
     }
+}
+
+pub fn uart_receiver(gateway: bool) -> Receiver {
+    unsafe { raw::grelfint_uart_receiver(gateway) }
+}
+
+#[inline(always)]
+pub fn uart_receive_by(function: UartReceive, receiver: Receiver, bytes: &[u8]) -> ReceiveAnswer {
+    unsafe { function(receiver, bytes.as_ptr(), bytes.len()) }
+}
+
+pub fn uart_receive(receiver: Receiver, bytes: &[u8]) -> ReceiveAnswer {
+    uart_receive_by(UART_RECEIVE, receiver, bytes)
+}
+
+#[inline(always)]
+pub fn uart_frame_by(function: UartFrame, message: &[u8], out: &mut [u8]) -> LengthAnswer {
+    unsafe { function(message.as_ptr(), message.len(), out.as_mut_ptr(), out.len()) }
+}
+
+pub fn uart_frame(message: &[u8], out: &mut [u8]) -> LengthAnswer {
+    uart_frame_by(UART_FRAME, message, out)
 }

@@ -1,14 +1,21 @@
 //! Shared by the tests: the C interface; the plain reference, written from the
-//! papers (document 01 with changes 1/12 to 4/12 of document 02) and the
+//! papers (document 01 with changes 1/12 to 5/12 of document 02) and the
 //! decisions on open points; a fast implementation of the same rules, and one of
 //! requests in place, for the benchmark; a common interface to these four; a
-//! board to run them on; random inputs; and counts of what they did.
+//! board to run them on; random inputs; and counts of what they did. The serial
+//! line has files of its own, whose names end in `_uart`.
 pub mod board;
+pub mod buffers;
 pub mod fast;
+pub mod fast_uart;
 pub mod ffi;
 pub mod in_place;
 pub mod random;
+pub mod random_uart;
 pub mod reference;
+pub mod reference_uart;
 pub mod rng;
 pub mod seen;
+pub mod seen_uart;
 pub mod sides;
+pub mod sides_uart;

@@ -14,7 +14,7 @@ pub const EXCESS: usize = 64;
 const RESPONSE: usize = 300;
 
 /// A number from a to b; each limit is drawn more often than the numbers between them.
-fn edge(g: &mut Rng, a: usize, b: usize) -> usize {
+pub fn edge(g: &mut Rng, a: usize, b: usize) -> usize {
     match g.below(4) {
         0 => a,
         1 => b,

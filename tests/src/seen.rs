@@ -54,7 +54,7 @@ impl<K: Ord + Debug> Counts<K> {
     }
 }
 
-const EITHER: [bool; 2] = [false, true];
+pub const EITHER: [bool; 2] = [false, true];
 
 // ---- requests ----
 /// Requests by outcome.

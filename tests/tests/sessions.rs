@@ -4,6 +4,7 @@
 //! After every call the whole answer and every whole buffer are compared, with
 //! the guard bytes after it, including buffers that are only read.
 use grelfint_tests::board::{book_of, code_check_pdata, frame_of, selective_pdata, set_checksum, Board, Lengths};
+use grelfint_tests::buffers::{difference, hex, Input};
 use grelfint_tests::fast;
 use grelfint_tests::ffi::{CompileAnswer, Lamp, Node, NodeSet, RequestAnswer, Settings};
 use grelfint_tests::random::{self, BATCH_LIST, EXCESS, GUARD, SELECTIVE_LIST};
@@ -25,10 +26,6 @@ const GUARD_NODE: Node = Node {
 };
 
 // ---- text of a failure ----
-fn hex(bytes: &[u8]) -> String {
-    bytes.iter().map(|b| format!("{b:02X} ")).collect::<String>().trim_end().to_string()
-}
-
 /// Rows of 32 bytes, without those that repeat the row before.
 fn rows(bytes: &[u8]) -> String {
     let mut text = String::new();
@@ -52,43 +49,10 @@ fn memories(b: &Board) -> String {
     )
 }
 
-/// Empty if the buffers are equal; they have the same length.
-fn difference(name: &str, tested: &[u8], plain: &[u8]) -> String {
-    if tested == plain {
-        return String::new();
-    }
-    let i = tested.iter().zip(plain).position(|(x, y)| x != y).expect("same length");
-    format!("{name} differs at byte {i}: {:02X}, expected {:02X}\n", tested[i], plain[i])
-}
-
 fn differences(tested: &Board, plain: &Board) -> String {
     difference("EEPROM", &tested.eeprom, &plain.eeprom)
         + &difference("external memory", &tested.external, &plain.external)
         + &difference("response buffer", &tested.response, &plain.response)
-}
-
-/// A buffer that a call only reads, with guard bytes after it.
-struct Input {
-    bytes: Vec<u8>,
-    kept: Vec<u8>,
-    length: usize,
-}
-
-impl Input {
-    fn new(part: &[u8]) -> Input {
-        let mut bytes = part.to_vec();
-        bytes.extend_from_slice(&[0x5A; GUARD]);
-        Input { kept: bytes.clone(), bytes, length: part.len() }
-    }
-
-    fn part(&self) -> &[u8] {
-        &self.bytes[..self.length]
-    }
-
-    /// The optimizer may assume that a shared slice is unchanged; `black_box` keeps the comparison.
-    fn difference(&self, name: &str) -> String {
-        difference(name, black_box(&self.bytes), &self.kept)
-    }
 }
 
 /// A code image in external memory.

@@ -1,0 +1,29 @@
+//! One type for the calls of the serial line, filled by the library, the plain
+//! reference and the fast implementation, so that a test is written once.
+use crate::ffi::{uart_frame_by, uart_receive_by, LengthAnswer, ReceiveAnswer, Receiver};
+use crate::{fast_uart, ffi, reference_uart};
+
+#[derive(Clone, Copy)]
+pub struct Side {
+    pub name: &'static str,
+    pub receiver: fn(bool) -> Receiver,
+    pub receive: fn(Receiver, &[u8]) -> ReceiveAnswer,
+    pub frame: fn(&[u8], &mut [u8]) -> LengthAnswer,
+}
+
+pub const LIBRARY: Side =
+    Side { name: "library", receiver: ffi::uart_receiver, receive: ffi::uart_receive, frame: ffi::uart_frame };
+
+pub const REFERENCE: Side = Side {
+    name: "reference",
+    receiver: reference_uart::receiver,
+    receive: reference_uart::receive,
+    frame: reference_uart::frame,
+};
+
+pub const FAST: Side = Side {
+    name: "fast",
+    receiver: |gateway| fast_uart::receiver(gateway),
+    receive: |receiver, bytes| uart_receive_by(fast_uart::receive, receiver, bytes),
+    frame: |message, out| uart_frame_by(fast_uart::frame, message, out),
+};
