@@ -508,8 +508,10 @@ fn sound_records(side: Side) {
 // ---- sender ----
 /// The answer, and the bytes that a buffer of this length has afterwards.
 fn send(side: Side, message: &[u8], room: usize) -> (LengthAnswer, Vec<u8>) {
-    let mut out = vec![0xEE; room];
-    let answer = (side.frame)(message, &mut out);
+    let mut out = vec![0xEE; room + GUARD];
+    let answer = (side.frame)(message, &mut out[..room]);
+    let guard = out.split_off(room);
+    assert_eq!(guard, [0xEE; GUARD]);
     (answer, out)
 }
 

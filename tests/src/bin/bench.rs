@@ -1,20 +1,28 @@
 //! Benchmark, not part of the gate: `cargo run --release --offline` in `tests/`,
 //! whose `.cargo/config.toml` aligns functions.
 //! Measures the library against an implementation of the same rules in Rust for
-//! speed (src/fast.rs), which has the same C boundary, and requests also against
-//! one in C that changes the node in place (c/in_place.c). Then measures ways to
-//! compute a checksum against the loop that adds byte by byte with carries.
+//! speed (src/fast.rs, src/fast_uart.rs), which has the same C boundary, and
+//! requests also against one in C that changes the node in place (c/in_place.c).
+//! Then measures ways to compute a checksum against the loop that adds byte by
+//! byte with carries.
 //! `BENCH_BURSTS` sets the number of bursts for each figure.
 use grelfint_tests::board::{code_check_pdata, frame_of, Board, Lengths};
-use grelfint_tests::ffi::{handle_request_by, CompileAnswer, HandleRequest, Node, NodeSet, HANDLE_REQUEST};
+use grelfint_tests::ffi::{
+    handle_request_by, uart_frame_by, uart_receive_by, CompileAnswer, HandleRequest, Node, NodeSet, Receiver,
+    UartFrame, UartReceive, HANDLE_REQUEST, UART_FRAME, UART_RECEIVE,
+};
 use grelfint_tests::reference::{CodeType, EXTERNAL_SIZE};
+use grelfint_tests::reference_uart::{self, ESCAPE, FLAG, LONGEST};
 use grelfint_tests::sides::{Side, FAST, IN_PLACE, LIBRARY};
-use grelfint_tests::{fast, in_place};
+use grelfint_tests::{fast, fast_uart, in_place};
 use std::hint::black_box;
 use std::time::Instant;
 
 /// Nanoseconds of a burst. The calls of one take this long together, so that few bursts are interrupted.
 const BURST: f64 = 20_000.0;
+
+/// The longest message on the serial line: two flags and 65 escaped bytes.
+const FRAMED: usize = 132;
 
 fn board(side: Side) -> Board {
     let mut b = Board::started(side, 32, 10);
@@ -82,6 +90,18 @@ fn time_tick_in_place(side: Side, node: Node, calls: u32) -> f64 {
     })
 }
 
+fn time_receive(function: UartReceive, receiver: Receiver, line: &[u8], calls: u32) -> f64 {
+    time(calls, || {
+        black_box(&uart_receive_by(function, *black_box(&receiver), black_box(line)));
+    })
+}
+
+fn time_frame(function: UartFrame, message: &[u8], out: &mut [u8], calls: u32) -> f64 {
+    time(calls, || {
+        black_box(&uart_frame_by(function, black_box(message), out));
+    })
+}
+
 /// One burst in ten takes less.
 fn low_quantile(mut times: Vec<f64>) -> f64 {
     times.sort_by(f64::total_cmp);
@@ -124,7 +144,8 @@ fn compare<const N: usize>(name: &str, bursts: usize, run: impl FnMut(usize, u32
 
 fn print_heading(bursts: usize) {
     println!("ns per call, the quantile 1/10 of {bursts} bursts of about {:.0} us, by turns", BURST / 1000.0);
-    println!("each side has separate buffers: EEPROM 192, external memory 16,384, response 64, output 4,096 bytes;");
+    println!("each side has separate buffers: EEPROM 192, external memory 16,384, response 64, output 4,096 bytes,");
+    println!("on the serial line an output of 132 bytes; all sides read the same line, from a new receiver by value;");
     println!(
         "each call starts from the same node with 32 lit lamps: by value, or copied into a record before the call"
     );
@@ -241,6 +262,40 @@ fn compare_compilers(bursts: usize) {
     });
 }
 
+/// Framing the longest message, and receiving it in one part at a new gateway.
+fn compare_message(name: &str, bursts: usize, message: &[u8; LONGEST]) {
+    let frames: [UartFrame; 2] = [UART_FRAME, fast_uart::frame];
+    let mut outs = [[0; FRAMED]; 2];
+    let [l, f] = [0, 1].map(|side| uart_frame_by(frames[side], message, &mut outs[side]));
+    assert!(l == f && l.refusal == 0 && outs[0] == outs[1], "{name}: sides differ");
+    compare::<2>(&format!("framing 64 bytes, {name}"), bursts, |side, calls| {
+        time_frame(frames[side], message, &mut outs[side], calls)
+    });
+
+    let receives: [UartReceive; 2] = [UART_RECEIVE, fast_uart::receive];
+    let (receiver, line) = (reference_uart::receiver(true), &outs[0][..l.length]);
+    let [l, f] = receives.map(|receive| uart_receive_by(receive, receiver, line));
+    assert!(l == f && l.frame == *message, "{name}: sides differ");
+    compare::<2>(&format!("receiving them, {name}"), bursts, |side, calls| {
+        time_receive(receives[side], receiver, line, calls)
+    });
+}
+
+/// Messages without a flag or an escape, and with sixteen of them; their check bytes are neither.
+fn compare_serial_line(bursts: usize) {
+    let plain: [u8; LONGEST] = std::array::from_fn(|i| 1 + i as u8);
+    let escaped = std::array::from_fn(|i| match i % 8 {
+        2 => FLAG,
+        6 => ESCAPE,
+        _ => plain[i],
+    });
+    for (message, escapes) in [(&plain, 0), (&escaped, 16)] {
+        assert_eq!(reference_uart::framed(message).len(), LONGEST + 3 + escapes);
+    }
+    compare_message("plain", bursts, &plain);
+    compare_message("1/4 escaped", bursts, &escaped);
+}
+
 fn compare_ticks(bursts: usize) {
     let node = board(LIBRARY).node;
     assert_eq!((LIBRARY.tick)(node), (FAST.tick)(node));
@@ -332,5 +387,6 @@ fn main() {
     compare_requests(bursts);
     compare_compilers(bursts);
     compare_ticks(bursts);
+    compare_serial_line(bursts);
     compare_checksums(bursts);
 }
