@@ -1,8 +1,9 @@
 /* Worked examples of document 01, broken lists and bad steps (document 02,
  * change 1/12), keep with a time (change 2/12), selective batches and scenes for
- * chosen nodes (change 3/12), and checksums of code images (change 4/12), called
- * through include/grelfint.h. To see how one compiled scene reaches chosen nodes,
- * read `one_scene_for_chosen_nodes`.
+ * chosen nodes (change 3/12), checksums of code images (change 4/12), and the
+ * serial line (change 5/12), called through include/grelfint.h. To see how one
+ * compiled scene reaches chosen nodes, read `one_scene_for_chosen_nodes`; how a
+ * request travels over a serial line, `one_request_over_the_serial_line`.
  * From the repository's root:
  *
  *   rt staticlib grelfint && mkdir -p target/tests
@@ -42,6 +43,13 @@ _Static_assert(offsetof(grelfint_request_answer, place) == 19, "place");
 _Static_assert(offsetof(grelfint_request_answer, node) == 20, "node of a request's answer");
 _Static_assert(sizeof(grelfint_request_answer) == 208, "a request's answer");
 _Static_assert(sizeof(grelfint_node_set) == 30, "node set");
+_Static_assert(sizeof(grelfint_receiver) == 68, "receiver");
+_Static_assert(offsetof(grelfint_receiver, bytes) == 3, "bytes of a receiver");
+_Static_assert(offsetof(grelfint_receive_answer, taken) == 8, "taken");
+_Static_assert(offsetof(grelfint_receive_answer, length) == 16, "length of a frame");
+_Static_assert(offsetof(grelfint_receive_answer, frame) == 24, "frame");
+_Static_assert(offsetof(grelfint_receive_answer, receiver) == 88, "receiver of an answer");
+_Static_assert(sizeof(grelfint_receive_answer) == 160, "a receiver's answer");
 
 static grelfint_node node;
 static uint8_t eeprom[GRELFINT_EEPROM];
@@ -745,6 +753,126 @@ static void one_scene_for_chosen_nodes(void)
     check("broadcast: node 2", same_node(&after, &second));
 }
 
+/* The guide's example (document 000, 2.3.2): write 7E and 7D at RAM address 0 of
+ * node 2F. */
+static const uint8_t guide_message[9] = {0x2F, 0, 5, 1, 0xFF, 0xFF, 0, 0x7E, 0x7D};
+static const uint8_t guide_line[15] = {0x7E, 0x2F, 0, 5, 1, 0xFF, 0xFF, 0, 0x7D, 0x5E, 0x7D, 0x5D, 0x7D, 0x5E, 0x7E};
+
+static bool same_receiver(const grelfint_receiver *a, const grelfint_receiver *b)
+{
+    return a->limit == b->limit && a->phase == b->phase && a->count == b->count &&
+           memcmp(a->bytes, b->bytes, sizeof a->bytes) == 0;
+}
+
+/* Nothing but what the arguments say; `frame` is followed by zeros. */
+static bool received(const grelfint_receive_answer *answer, uint8_t event, uint8_t cause, size_t taken,
+                     const uint8_t *frame, size_t length)
+{
+    uint8_t want[GRELFINT_UART_FRAME] = {0};
+
+    if (length > 0)
+        memcpy(want, frame, length);
+    return answer->refusal == 0 && answer->event == event && answer->cause == cause && answer->taken == taken &&
+           answer->length == length && memcmp(answer->frame, want, sizeof want) == 0;
+}
+
+static void serial_sender(void)
+{
+    static const uint8_t message[GRELFINT_UART_FRAME + 1] = {1, 2, 3, 4, 5, 6};
+    uint8_t out[GRELFINT_UART_FRAMED], untouched[GRELFINT_UART_FRAMED];
+    grelfint_length_answer answer;
+    size_t room;
+
+    memset(untouched, 0xEE, sizeof untouched);
+    memset(out, 0xEE, sizeof out);
+    answer = grelfint_uart_frame(guide_message, sizeof guide_message, out, sizeof out);
+    check("framed", answer.refusal == 0 && answer.length == sizeof guide_line &&
+                        memcmp(out, guide_line, sizeof guide_line) == 0 &&
+                        memcmp(out + sizeof guide_line, untouched, sizeof out - sizeof guide_line) == 0);
+
+    memset(out, 0xEE, sizeof out);
+    for (room = 0; room < sizeof guide_line; room++) {
+        answer = grelfint_uart_frame(guide_message, sizeof guide_message, out, room);
+        check("no room", answer.refusal == 11 && answer.length == 0 && memcmp(out, untouched, sizeof out) == 0);
+    }
+    answer = grelfint_uart_frame(message, 5, out, 0);
+    check("5 bytes", answer.refusal == 2 && answer.length == 0);
+    answer = grelfint_uart_frame(message, 65, out, sizeof out);
+    check("65 bytes", answer.refusal == 2 && answer.length == 0 && memcmp(out, untouched, sizeof out) == 0);
+    check("6 bytes", grelfint_uart_frame(message, 6, out, sizeof out).length == 9);
+    check("64 bytes", grelfint_uart_frame(message, 64, out, sizeof out).length == 67);
+}
+
+/* Receives these bytes in one part after the first flag, at a node. */
+static grelfint_receive_answer receive(const uint8_t *bytes, size_t length)
+{
+    grelfint_receiver receiver = grelfint_uart_receiver(false);
+
+    receiver.phase = 1;
+    return grelfint_uart_receive(receiver, bytes, length);
+}
+
+static void dropped(const char *name, const uint8_t *bytes, size_t length, uint8_t cause)
+{
+    grelfint_receive_answer answer = receive(bytes, length);
+
+    check(name, received(&answer, 2, cause, length, NO_BYTES));
+}
+
+static void serial_receiver(void)
+{
+    const grelfint_receiver fresh_node = grelfint_uart_receiver(false);
+    uint8_t line[62 + 2 + 1]; /* one byte over the limit, a check byte and a flag */
+    grelfint_receive_answer answer;
+    grelfint_receiver receiver;
+
+    check("node's limit", fresh_node.limit == 62 && fresh_node.phase == 0 && fresh_node.count == 0);
+    check("gateway's limit", grelfint_uart_receiver(true).limit == 64);
+
+    answer = grelfint_uart_receive(fresh_node, guide_line, sizeof guide_line);
+    check("received", received(&answer, 1, 0, sizeof guide_line, guide_message, sizeof guide_message));
+    answer = grelfint_uart_receive(fresh_node, BYTES(0, 0x7D, 0x5E));
+    check("before the first flag",
+          received(&answer, 0, 0, 3, NO_BYTES) && same_receiver(&answer.receiver, &fresh_node));
+    answer = receive(BYTES(0x7E, 0x7E));
+    check("flags alone", received(&answer, 0, 0, 2, NO_BYTES));
+
+    memset(line, 1, sizeof line);
+    line[sizeof line - 1] = 0x7E;
+    dropped("too long", line, sizeof line, 1);
+    dropped("cut", BYTES(0x7D, 0x7E), 2);
+    dropped("short", BYTES(1, 2, 3, 0x7E), 3);
+    dropped("check byte", BYTES(0x2F, 0, 5, 1, 0xFF, 0xFF, 0, 1, 0x7E), 4);
+
+    receiver = fresh_node;
+    receiver.limit = 63;
+    answer = grelfint_uart_receive(receiver, guide_line, sizeof guide_line);
+    check("broken record", answer.refusal == 1 && answer.event == 0 && answer.taken == 0 && answer.length == 0 &&
+                               same_receiver(&answer.receiver, &receiver));
+}
+
+/* A gateway frames a request; the node's UART gives one byte at a time. Only the
+ * last one completes the frame. */
+static void one_request_over_the_serial_line(void)
+{
+    grelfint_receiver receiver = grelfint_uart_receiver(false);
+    uint8_t line[GRELFINT_UART_FRAMED];
+    grelfint_length_answer framed =
+        grelfint_uart_frame(guide_message, sizeof guide_message, line, sizeof line);
+    grelfint_receive_answer answer;
+    size_t i;
+
+    check("on the line", framed.refusal == 0);
+    for (i = 0; i < framed.length; i++) {
+        answer = grelfint_uart_receive(receiver, line + i, 1);
+        receiver = answer.receiver;
+        if (i + 1 < framed.length)
+            check("not yet", received(&answer, 0, 0, 1, NO_BYTES));
+        else
+            check("arrived", received(&answer, 1, 0, 1, guide_message, sizeof guide_message));
+    }
+}
+
 int main(void)
 {
     lamps();
@@ -763,6 +891,9 @@ int main(void)
     bad_steps();
     chosen_scenes();
     one_scene_for_chosen_nodes();
+    serial_sender();
+    serial_receiver();
+    one_request_over_the_serial_line();
     if (failed > 0) {
         printf("%d passed, %d failed\n", passed, failed);
         return 1;
