@@ -60,7 +60,7 @@ pub fn room(g: &mut Rng, needed: usize) -> usize {
 // ---- streams ----
 /// A stream of frames that pass and of frames with each fault, with bytes before the first flag, doubled flags and damage.
 pub fn stream(g: &mut Rng, limit: usize) -> Vec<u8> {
-    let noise = edge(g, 0, 12);
+    let noise = if g.chance(1, 50) { g.within(13, 600) } else { edge(g, 0, 12) };
     let mut line: Vec<u8> = bytes(g, noise).into_iter().filter(|&byte| byte != FLAG).collect();
     for _ in 0..g.within(0, 4) {
         let flags = if g.chance(1, 4) { g.within(2, 4) } else { 1 };
@@ -102,6 +102,7 @@ fn frame_with_check_byte(g: &mut Rng, limit: usize) -> Vec<u8> {
         3 => SHORTEST,
         4 => limit,
         5 => limit + 1,
+        6 if g.chance(1, 8) => g.within(256, 600),
         6 => g.within(limit + 2, 2 * limit),
         _ => g.within(SHORTEST + 1, limit - 1),
     };

@@ -569,9 +569,11 @@ fn length_before_room(side: Side) {
 
 /// Two flags and 65 escaped bytes.
 fn longest_line(side: Side) {
-    let special = |bits: u32| (0..LONGEST).map(|i| if bits >> (i % 32) & 1 == 1 { FLAG } else { ESCAPE }).collect();
-    let mut messages = (0..4096).map(|bits| -> Vec<u8> { special(bits) });
-    let message = messages.find(|m| [FLAG, ESCAPE].contains(&check_byte(m))).expect("two check bytes of 256");
+    let of_bits = |bits: u32| -> Vec<u8> {
+        (0..LONGEST).map(|i| if bits >> (i % 32) & 1 == 1 { FLAG } else { ESCAPE }).collect()
+    };
+    let mut messages = (0..4096).map(of_bits);
+    let message = messages.find(|m| [FLAG, ESCAPE].contains(&check_byte(m))).expect("a check byte that is escaped");
     assert_refused(side, &message, 131, 11);
     assert_eq!(send(side, &message, 132), (LengthAnswer { refusal: 0, length: 132 }, framed(&message)));
     assert_eq!(Line::new(side, 64).take(&framed(&message)), frame_of(&message));
@@ -719,14 +721,18 @@ impl Session {
         let b = (REFERENCE.frame)(message, &mut plain[..room]);
         let fault = difference("output", &tested, &plain) + &lent.difference("message");
         self.expect(a == b && fault.is_empty(), || {
-            let (message_length, message, before) = (message.len(), hex(message), hex(&before));
-            format!("{fault}answer   {a:?}\nexpected {b:?}\ninputs: message ({message_length}) {message}\nroom {room}\noutput before {before}")
+            format!(
+                "{fault}answer   {a:?}\nexpected {b:?}\ninputs: message ({}) {}\nroom {room}, output before {}",
+                message.len(),
+                hex(message),
+                hex(&before)
+            )
         });
         self.seen.sent(message, room, b.refusal);
         (b.refusal == 0).then(|| tested[..b.length].to_vec())
     }
 
-    /// A message into a buffer of any length; what was written is received again, unless it is over the limit.
+    /// A message into a buffer of any length; what was written is received again.
     fn random_message(&mut self) {
         let length = random::message_length(&mut self.g);
         let message = random::message(&mut self.g, length);
@@ -737,18 +743,14 @@ impl Session {
         }
     }
 
-    /// The opening flag ends what the receiver has, and then exactly the message comes out, or its drop.
+    /// The opening flag ends what the receiver has; then exactly the message comes out, or its drop if it is too long.
     fn comes_back(&mut self, start: Receiver, message: &[u8], line: &[u8]) {
-        let (ended, opened) = self.receive_all(start, &[&[FLAG]]);
-        let (mut want, last) = (ended, opened.bytes);
-        want.push(if message.len() <= start.limit as usize {
-            Event::Frame(message.to_vec())
-        } else {
-            Event::Drop(TOO_LONG)
-        });
+        let (mut want, _) = self.receive_all(start, &[&[FLAG]]);
+        let fits = message.len() <= start.limit as usize;
+        want.push(if fits { Event::Frame(message.to_vec()) } else { Event::Drop(TOO_LONG) });
         let (came, after) = self.receive_all(start, &[line]);
         let good = came == want && (after.limit, after.phase, after.count) == (start.limit, 1, 0);
-        self.expect(good && last == start.bytes, || {
+        self.expect(good, || {
             format!("came {came:?}\nexpected {want:?}\n{after:?}\ninputs: {start:?}\nmessage {}", hex(message))
         });
     }
