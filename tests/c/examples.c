@@ -795,6 +795,10 @@ static void serial_sender(void)
         answer = grelfint_uart_frame(guide_message, sizeof guide_message, out, room);
         check("no room", answer.refusal == 11 && answer.length == 0 && memcmp(out, untouched, sizeof out) == 0);
     }
+    answer = grelfint_uart_frame(guide_message, sizeof guide_message, out, sizeof guide_line);
+    check("just enough room", answer.refusal == 0 && answer.length == sizeof guide_line);
+
+    memset(out, 0xEE, sizeof out);
     answer = grelfint_uart_frame(message, 5, out, 0);
     check("5 bytes", answer.refusal == 2 && answer.length == 0);
     answer = grelfint_uart_frame(message, 65, out, sizeof out);
@@ -824,7 +828,6 @@ static void serial_receiver(void)
     const grelfint_receiver fresh_node = grelfint_uart_receiver(false);
     uint8_t line[62 + 2 + 1]; /* one byte over the limit, a check byte and a flag */
     grelfint_receive_answer answer;
-    grelfint_receiver receiver;
 
     check("node's limit", fresh_node.limit == 62 && fresh_node.phase == 0 && fresh_node.count == 0);
     check("gateway's limit", grelfint_uart_receiver(true).limit == 64);
@@ -844,11 +847,58 @@ static void serial_receiver(void)
     dropped("short", BYTES(1, 2, 3, 0x7E), 3);
     dropped("check byte", BYTES(0x2F, 0, 5, 1, 0xFF, 0xFF, 0, 1, 0x7E), 4);
 
-    receiver = fresh_node;
-    receiver.limit = 63;
-    answer = grelfint_uart_receive(receiver, guide_line, sizeof guide_line);
-    check("broken record", answer.refusal == 1 && answer.event == 0 && answer.taken == 0 && answer.length == 0 &&
-                               same_receiver(&answer.receiver, &receiver));
+    /* escapes do not count, not even the one that waits for its byte */
+    line[sizeof line - 2] = 0x7D;
+    dropped("cut at the limit", line, sizeof line, 2);
+    dropped("cut and short", BYTES(1, 2, 3, 0x7D, 0x7E), 2);
+}
+
+/* Each clause of the rule about receivers, on no bytes and on a frame. */
+static void serial_records(void)
+{
+    static const struct {
+        uint8_t limit, phase, count;
+        bool sound;
+    } table[] = {
+        {62, 0, 0, true},  {62, 1, 64, true},  {64, 2, 66, true},  {64, 2, 0, true},  {61, 1, 0, false},
+        {63, 1, 0, false}, {65, 1, 0, false},  {64, 3, 0, false},  {62, 1, 65, false}, {64, 2, 67, false},
+        {62, 0, 1, false}, {64, 0, 66, false},
+    };
+    size_t i;
+
+    for (i = 0; i < sizeof table / sizeof table[0]; i++) {
+        const uint8_t refusal = table[i].sound ? 0 : 1;
+        grelfint_receiver receiver = grelfint_uart_receiver(true);
+        grelfint_receive_answer answer;
+
+        receiver.limit = table[i].limit;
+        receiver.phase = table[i].phase;
+        receiver.count = table[i].count;
+        answer = grelfint_uart_receive(receiver, guide_line, 0);
+        check("record, no bytes", answer.refusal == refusal && answer.event == 0 && answer.taken == 0 &&
+                                      same_receiver(&answer.receiver, &receiver));
+        answer = grelfint_uart_receive(receiver, guide_line, sizeof guide_line);
+        check("record, a frame", answer.refusal == refusal && (answer.taken > 0) == table[i].sound &&
+                                     same_receiver(&answer.receiver, &receiver) != table[i].sound);
+    }
+}
+
+/* Framed and received, a message of 6 bytes up to the limit comes back. */
+static void serial_lengths(void)
+{
+    uint8_t message[GRELFINT_UART_FRAME], line[GRELFINT_UART_FRAMED];
+    size_t length;
+
+    memset(message, 0x7D, sizeof message);
+    for (length = 6; length <= sizeof message; length++) {
+        size_t framed = grelfint_uart_frame(message, length, line, sizeof line).length;
+        grelfint_receive_answer answer = grelfint_uart_receive(grelfint_uart_receiver(true), line, framed);
+
+        check("at a gateway", received(&answer, 1, 0, framed, message, length));
+        answer = grelfint_uart_receive(grelfint_uart_receiver(false), line, framed);
+        check("at a node", length <= 62 ? received(&answer, 1, 0, framed, message, length)
+                                        : received(&answer, 2, 1, framed, NO_BYTES));
+    }
 }
 
 /* A gateway frames a request; the node's UART gives one byte at a time. Only the
@@ -893,6 +943,8 @@ int main(void)
     one_scene_for_chosen_nodes();
     serial_sender();
     serial_receiver();
+    serial_records();
+    serial_lengths();
     one_request_over_the_serial_line();
     if (failed > 0) {
         printf("%d passed, %d failed\n", passed, failed);
