@@ -49,12 +49,14 @@ on_every_side! {
     escape_after_the_longest_frame,
     shortest_frames,
     every_check_byte,
+    check_byte_by_masks,
     first_cause,
     count_stops,
     bytes_of_a_record,
     last_bytes_of_a_nodes_record,
     parts_of_a_frame,
     empty_parts,
+    two_receivers_by_turns,
     broken_records,
     sound_records,
     lengths_of_a_message,
@@ -352,6 +354,28 @@ fn every_check_byte(side: Side) {
     }
 }
 
+/// The routine of 000, 13.1.1, which adds a mask for each bit of the byte and the CRC before it.
+fn guide_check_byte(message: &[u8]) -> u8 {
+    const MASKS: [u8; 8] = [0x5E, 0xBC, 0x61, 0xC2, 0x9D, 0x23, 0x46, 0x8C];
+    message.iter().fold(0xFF, |crc, byte| {
+        let bits = (0..8).filter(|bit| (crc ^ byte) >> bit & 1 == 1);
+        bits.fold(0, |sum, bit| sum ^ MASKS[bit])
+    })
+}
+
+fn check_byte_by_masks(side: Side) {
+    assert_eq!(guide_check_byte(&GUIDE_MESSAGE), GUIDE_CHECK_BYTE);
+    for length in SHORTEST..=LONGEST {
+        for first in 0..=255 {
+            let message: Vec<u8> = (0..length).map(|i| (first + 37 * i) as u8).collect();
+            let check = escaped(&[guide_check_byte(&message)]);
+            let (answer, out) = send(side, &message, 132);
+            let end = answer.length - 1;
+            assert_eq!(out[end - check.len()..end], check, "{}", hex(&message));
+        }
+    }
+}
+
 /// Where several causes hold, the first is told.
 fn first_cause(side: Side) {
     for limit in LIMITS {
@@ -455,6 +479,24 @@ fn empty_parts(side: Side) {
     for (limit, phase, count) in [(62, 0, 0), (64, 1, 0), (62, 1, 64), (64, 2, 0), (64, 2, 66)] {
         let receiver = Receiver { limit, phase, count, bytes: [0xA5; 65] };
         assert_eq!((side.receive)(receiver, &[]), ReceiveAnswer::zeros(receiver));
+    }
+}
+
+/// All state is in the record: of two receivers, the second a byte behind the first, each gets the frame.
+fn two_receivers_by_turns(side: Side) {
+    for limit in LIMITS {
+        let mut first = Line::new(side, limit);
+        let mut second = Line::new(side, limit);
+        let (mut events, mut later_events) = (Vec::new(), Vec::new());
+        let mut before: &[u8] = &[];
+        for byte in GUIDE_LINE.chunks(1).chain([&[][..]]) {
+            events.extend(first.take(byte));
+            later_events.extend(second.take(before));
+            before = byte;
+        }
+        assert_eq!(events, frame_of(&GUIDE_MESSAGE));
+        assert_eq!(later_events, events);
+        assert_eq!(second.receiver, first.receiver);
     }
 }
 
