@@ -1,13 +1,14 @@
-/* grelfint: lamp node, scene compiler and gateway timing.
+/* grelfint: lamp node, scene compiler, gateway timing and serial line.
  *
  * Every call returns an answer for every input. Its refusal is 0 or, from the
  * top, the first of this list that applies. A refused call returns 0 for every
  * other number (except `step` with 81 to 84), false for every flag and the
  * node unchanged, and writes no buffer.
  *
- *    1  the node record is not sound; settings or an address out of range; a
- *       node set that names address 0, or no node
- *    2  the frame has fewer than 6 or more than 62 bytes
+ *    1  the node record or the receiver record is not sound; settings or an
+ *       address out of range; a node set that names address 0, or no node
+ *    2  the frame has fewer than 6 or more than 62 bytes; a message for the
+ *       serial line has fewer than 6 or more than 64
  *    3  fewer than 64 bytes for a response or confirmation
  *    4  EEPROM is not 192 bytes, or external memory not 16,384
  *    5  more than 56 bytes of PData
@@ -19,6 +20,7 @@
  *   84  a step with an invalid time: 0x80 for a lamp, not 0 for a memory
  *    9  fewer than 4,096 bytes for a compiled scene
  *   10  a view of neither memory
+ *   11  the framed message does not fit into the buffer
  *   15  a view of more bytes than one request can transfer
  *   16  a view that starts or ends outside its memory
  *
@@ -28,6 +30,8 @@
  * A node record is sound if its address is 1 to 239, its lamp count 1 to 32
  * and its step a divisor of 100; no level is over 100; no timer is over 7,620
  * seconds or runs at level 0; and all lamps from the lamp count on are zero.
+ * A receiver record is sound if its limit is 62 or 64, its phase at most 2, its
+ * count at most limit + 2, and its count 0 in phase 0.
  *
  * Each pointer to a buffer is followed by the length of that buffer. Pointers
  * must not be null, even if the length is 0. A buffer that a call writes must
@@ -52,9 +56,9 @@ extern "C" {
 #define GRELFINT_RESPONSE 64   /* minimum for a response or confirmation */
 #define GRELFINT_COMPILED 4096 /* minimum for a compiled scene */
 #define GRELFINT_NODE_SET 30   /* bytes: a bit for each address, 0 to 239 */
-
-#define GRELFINT_UART_FRAME 64   /* the longest frame on the serial line */
-#define GRELFINT_UART_FRAMED 132 /* the longest framed message: two flags and 65 escaped bytes */
+#define GRELFINT_UART_FRAME 64   /* the longest message on the serial line */
+#define GRELFINT_UART_FRAMED 132 /* room for every framed message: 2 flags, and
+                                  * 65 bytes of which each may be escaped */
 
 typedef struct grelfint_settings {
     uint16_t address;
@@ -136,24 +140,32 @@ typedef struct grelfint_compile_answer {
     size_t length;
 } grelfint_compile_answer;
 
-/* A receiver on a serial line. Start one by grelfint_uart_receiver.
- * It is sound if limit is 62 or 64, phase at most 2, count at most limit + 2,
- * and count 0 in phase 0. */
+/* A receiver on the serial line, from grelfint_uart_receiver. A caller stores
+ * it between calls and need not look inside. */
 typedef struct grelfint_receiver {
-    uint8_t limit; /* the longest frame: 64 at a gateway, 62 at a node */
+    uint8_t limit; /* the longest message: 64 at a gateway, 62 at a node */
     uint8_t phase; /* 0 before the first flag, 1 in a frame, 2 after an escape */
-    uint8_t count; /* bytes of this frame so far with its check byte; stops at limit + 2 */
-    uint8_t bytes[GRELFINT_UART_FRAME + 1]; /* byte k of the frame, for k up to limit */
+    uint8_t count; /* bytes of this frame so far, with its check byte; it stops
+                    * at limit + 2 */
+    uint8_t bytes[GRELFINT_UART_FRAME + 1]; /* byte k of the frame is bytes[k],
+                                             * for k up to the limit */
 } grelfint_receiver;
 
 typedef struct grelfint_receive_answer {
     uint8_t refusal;
-    uint8_t event;  /* 0 all bytes taken, no frame yet; 1 a frame; 2 a dropped frame */
-    uint8_t cause;  /* of a drop: 1 too long, 2 cut after an escape, 3 short, 4 check byte */
-    size_t taken;   /* bytes of the slice that were used */
-    size_t length;  /* bytes of the frame, check byte not counted */
+    uint8_t event; /* 0 all bytes taken and no frame yet, 1 a frame, 2 a frame
+                    * that was dropped */
+    uint8_t cause; /* why it was dropped, the first of:
+                    *   1  more bytes than the limit
+                    *   2  a flag right after an escape
+                    *   3  fewer than 6 bytes
+                    *   4  wrong check byte
+                    * 0 with event 0 or 1 */
+    size_t taken;  /* bytes that were used; at least 1 of a part that is not
+                    * empty, unless the call is refused */
+    size_t length; /* bytes of the frame, without its check byte */
     uint8_t frame[GRELFINT_UART_FRAME]; /* the frame, then zeros */
-    grelfint_receiver receiver;
+    grelfint_receiver receiver; /* for the next call */
 } grelfint_receive_answer;
 
 /* Starts a node with these settings; every lamp and RAM byte is 0.
@@ -263,13 +275,29 @@ grelfint_compile_answer grelfint_compile_selected_default(
     grelfint_node_set nodes,
     uint8_t *out, size_t out_length);
 
+/* A receiver that waits for its first flag: at a gateway (messages of up to 64
+ * bytes) or at a node (62).
+ * Answer: the receiver. Refusals: none. Written: nothing. */
 grelfint_receiver grelfint_uart_receiver(bool gateway);
 
+/* Receives the next bytes of the serial line, any number of them, up to the
+ * first flag that completes or drops a frame. Hand in the bytes after `taken`
+ * next, with the receiver of the answer; how the stream is cut into calls
+ * changes neither frames nor drops. examples/serial.c has the loop.
+ * Answer: refusal; event; cause; bytes taken; frame and its length; receiver.
+ * Refusals: 1 (taken is then 0: a loop has to end). Written: nothing. */
 grelfint_receive_answer grelfint_uart_receive(
-    grelfint_receiver receiver, const uint8_t *bytes, size_t bytes_length);
+    grelfint_receiver receiver,
+    const uint8_t *bytes, size_t bytes_length);
 
+/* Frames a message of 6 to 64 bytes for the serial line: flag, message, check
+ * byte, flag. The check byte is computed here. A node's receiver drops messages
+ * of 63 and 64 bytes.
+ * Answer: refusal; length of the framed message. Refusals: 2, 11.
+ * Written: the first `length` bytes of `out`. Later bytes are unchanged. */
 grelfint_length_answer grelfint_uart_frame(
-    const uint8_t *frame, size_t frame_length, uint8_t *out, size_t out_length);
+    const uint8_t *frame, size_t frame_length,
+    uint8_t *out, size_t out_length);
 
 #ifdef __cplusplus
 }
