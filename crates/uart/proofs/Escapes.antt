@@ -2,7 +2,7 @@
 use mathlib.Core.Path.{_≡_, refl, sym, ap, _∙_}
 use mathlib.Core.Bool.{true, false}
 use mathlib.Core.List.{List, [], _∷_, _++_, append-assoc, append-nil}
-use Prim.Native.Nat.{ℕ, _+_, _≤_, _<_}
+use Prim.Native.Nat.{ℕ, _+_, _*_, _≤_, _<_}
 use native.Mathlib.Omega.{arith}
 use native.Mathlib.Numerals.{add-one}
 use lib.ListN.{length, getD, drop, set, length-append, drop-of-length-le}
@@ -27,6 +27,12 @@ escaped-plain b e = rw e
 pub escaped-size : (b : ℕ) → (1 ≤ length (escaped b)) × (length (escaped b) ≤ 2)
 unfolding escaped
 escaped-size b = by-cond (λ (xs : List ℕ). (1 ≤ length xs) × (length xs ≤ 2)) (reserved b) _ _ (λ e. (omega arith, omega arith)) (λ e. (omega arith, omega arith))
+
+-- and a message at most twice its bytes
+pub escaped-max : (m : List ℕ) → length (escapedAll m) ≤ 2 * length m
+unfolding escapedAll
+escaped-max [] = omega arith
+escaped-max (b ∷ bs) = omega (arith, length-append (escaped b) (escapedAll bs), escaped-size b, escaped-max bs)
 
 -- a message of one byte
 pub escaped-one : (b : ℕ) → escapedAll (b ∷ []) ≡ escaped b
@@ -99,6 +105,10 @@ module _ (m : List ℕ) (c : ℕ) (e : c ≡ checkByte m) where
   -- its length
   pub framed-length : length (framed m) ≡ length (escapedAll m) + length (escaped c) + 2
   framed-length = omega (arith, ap length framed-parts, length-append (escapedAll m) (escaped c ++ (flag ∷ [])), length-append (escaped c) (flag ∷ []))
+
+  -- at most two bytes for each byte of the message and for the check byte, and the flags
+  pub framed-max : length (framed m) ≤ 2 * length m + 4
+  framed-max = omega (arith, framed-length, escaped-max m, escaped-size c)
 
   -- its parts written one after the other
   pub framed-written : (old o o′ : List ℕ) (w l : ℕ) → length (framed m) ≤ length old

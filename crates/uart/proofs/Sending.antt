@@ -1,8 +1,10 @@
--- Laws of the sender: one for each of its answers, and what every answer leaves alone.
-use mathlib.Core.Path.{_≡_, refl}
+-- Laws of the sender: one for each of its answers.
+use mathlib.Core.Bool.{true, false}
+use mathlib.Core.Path.{_≡_}
 use mathlib.Core.List.{List, []}
 use Prim.Native.Nat.{ℕ, _≤_, _<_}
-use lib.ListN.{length, drop}
+use lib.Dec.{leb}
+use lib.ListN.{length}
 use borrow.Author.Tests.{lt-ltb, le-ltb}
 use Rattle.dpa.specs.Answer.{resultInBuffer}
 use Rattle.dpa.specs.Lists.{overwriteFront}
@@ -20,16 +22,14 @@ module _ (m o : List ℕ) where
     unfolding frameOf
     long-refused l = rw (le-ltb (length m) shortest long-enough, lt-ltb longest (length m) l)
 
-    module _ (short-enough : length m ≤ longest) (n : ℕ) (framed-length : n ≡ length (framed m)) where
+    module _ (short-enough : length m ≤ longest) where
       -- the framed message does not fit
-      pub room-refused : length o < n → resultInBuffer 11 [] o ≡ frameOf m o
+      pub room-refused : leb (length (framed m)) (length o) ≡ false → resultInBuffer 11 [] o ≡ frameOf m o
       unfolding frameOf
-      room-refused l =
-          rw (le-ltb (length m) shortest long-enough, le-ltb longest (length m) short-enough, ← framed-length, lt-ltb (length o) n l)
+      room-refused e = rw (le-ltb (length m) shortest long-enough, le-ltb longest (length m) short-enough, e)
 
       -- a framed message
-      pub framed-answered : n ≤ length o → (k : ℕ) (o′ : List ℕ) → k ≡ length (framed m) → o′ ≡ overwriteFront (framed m) o
+      pub framed-answered : leb (length (framed m)) (length o) ≡ true → (k : ℕ) (o′ : List ℕ) → k ≡ length (framed m) → o′ ≡ overwriteFront (framed m) o
           → record { refusal = 0; length = k; out = o′ } ≡ frameOf m o
       unfolding frameOf
-      framed-answered l k o′ ek eo =
-          rw (ek, eo, le-ltb (length m) shortest long-enough, le-ltb longest (length m) short-enough, ← framed-length, le-ltb (length o) n l)
+      framed-answered e k o′ ek eo = rw (ek, eo, le-ltb (length m) shortest long-enough, le-ltb longest (length m) short-enough, e)

@@ -3,7 +3,7 @@ use Prim.Native.Nat.{ℕ}
 use mathlib.Core.List.{List, [], _∷_, _++_}
 use mathlib.Core.Bool.{Bool, cond, _||_}
 use lib.ListN.{length}
-use lib.Dec.{eqb, ltb}
+use lib.Dec.{eqb, ltb, leb}
 use lib.Bits.{bitXor}
 use Rattle.dpa.specs.Answer.{LengthResult, resultInBuffer}
 use Rattle.uart.specs.CheckByte.{checkByte}
@@ -61,5 +61,5 @@ unfoldable pub frameOf : List ℕ → List ℕ → LengthResult
 frameOf m o =
     cond (ltb (length m) shortest) (resultInBuffer 2 [] o)
     (cond (ltb longest (length m)) (resultInBuffer 2 [] o)
-    (cond (ltb (length o) (length (framed m))) (resultInBuffer 11 [] o)
-    (resultInBuffer 0 (framed m) o)))
+    (cond (leb (length (framed m)) (length o)) (resultInBuffer 0 (framed m) o)
+    (resultInBuffer 11 [] o)))

@@ -5,6 +5,7 @@ use dpa::answer::LengthAnswer;
 use dpa::refusal;
 ghost use mathlib.Core.Path.{_≡_};
 ghost use Prim.Native.Nat.{_+_, _≤_};
+ghost use lib.Dec.{leb};
 ghost use lib.ListN.{length};
 ghost use lib.Seq.{sets};
 ghost use Rattle.dpa.specs.Answer.{lengthResult};
@@ -95,6 +96,17 @@ fn framed_length(message: &[u8], check: u8) -> usize
     escaped_all_length(message) + escaped_length(check) + 2
 }
 
+// Whether a framed message fits. Its escapes are counted only if the room is not enough for every message of this length.
+fn fits(message: &[u8], check: u8, room: usize) -> bool
+    requires { ⌜ (length (now message) ≤ longest) × (check ≡ checkByte (now message)) ⌝ }
+    ensures { λ r. ⌜ r ≡ leb (length (framed (now (message .entry)))) room ⌝ }
+{
+    if 2 * message.len() + 4 <= room {
+        return true;
+    }
+    framed_length(message, check) <= room
+}
+
 // Writes a framed message to the front of a buffer and returns its length.
 fn write_framed(message: &[u8], check: u8, out: &mut [u8]) -> usize
     requires { ⌜ (check ≡ checkByte (now message)) × (length (framed (now message)) ≤ length (now out)) ⌝ }
@@ -124,7 +136,7 @@ pub fn frame(message: &[u8], out: &mut [u8]) -> LengthAnswer
         return length_answer(refusal::FRAME, 0);
     }
     let check = check_byte(message);
-    if out.len() < framed_length(message, check) {
+    if !fits(message, check, out.len()) {
         return length_answer(refusal::FRAMED, 0);
     }
     let size = write_framed(message, check, out);

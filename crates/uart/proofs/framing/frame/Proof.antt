@@ -1,7 +1,11 @@
 -- `framing::frame` meets its contract: one law for each return.
 use mathlib.Core.Path.{_≡_, sym, _∙_}
-use native.Mathlib.Omega.{arith}
+use mathlib.Core.Bool.{true}
+use lib.Dec.{leb}
+use lib.ListN.{length}
+use borrow.Author.Tests.{not-true, not-false, leb-true}
 use borrow.Author.Needs.{needs}
+use Rattle.uart.specs.Framing.{framed}
 use Rattle.uart.proofs.Sending.{short-refused, long-refused, room-refused, framed-answered}
 use Rattle.uart.proofs.framing.frame.Statement.{statement}
 use Rattle.uart.proofs.framing.frame.Tie as tie
@@ -21,7 +25,15 @@ returns-3 c =
     let sized = c .before .before in
     let a = sized .before .before .before .before .before .before .args in
     rw (c .length-answer3 .ensures)
-    (room-refused (a .message .now) (a .out .now) (sized .before .before .before .if1 .left) (sized .before .before .if2 .left) _ (sized .framed-length .ensures) (c .before .if3 .taken))
+    (room-refused (a .message .now) (a .out .now) (sized .before .before .before .if1 .left) (sized .before .before .if2 .left)
+    (sym (sized .fits2 .ensures) ∙ not-true _ (c .before .if3 .taken)))
+
+-- there is room
+room : (c : tie.Else3) → let a = c .before .before .before .before .before .before .before .args in leb (length (framed (a .message .now))) (length (a .out .now)) ≡ true
+room c = sym (c .before .fits2 .ensures) ∙ not-false _ (c .if3 .left)
+
+write-framed-requires : tie.Need-write-framed-requires
+write-framed-requires c κs = (c .before .before .before .check-byte .ensures, leb-true _ _ (room (c .before)))
 
 returns-4 : tie.Need-returns-4
 returns-4 c =
@@ -29,10 +41,10 @@ returns-4 c =
     let sized = written .before .before .before in
     let a = sized .before .before .before .before .before .before .args in
     rw (c .length-answer4 .ensures)
-    (framed-answered (a .message .now) (a .out .now) (sized .before .before .before .if1 .left) (sized .before .before .if2 .left) _ (sized .framed-length .ensures) (written .before .before .if3 .left)
+    (framed-answered (a .message .now) (a .out .now) (sized .before .before .before .if1 .left) (sized .before .before .if2 .left) (room (written .before .before))
     _ _ (written .write-framed .ensures .0) (written .write-framed .ensures .1))
 
 pub frame-spec : {M : Type 1} → statement M
 frame-spec =
     tie.close (tie.spec (λ c κs. search needs) returns (λ c κs. search needs) returns-2 (λ c κs. search needs) (λ c κs. search needs) (λ c κs. search needs)
-    returns-3 (λ c κs. search needs) (λ c κs. search needs) (λ c. search needs) returns-4)
+    returns-3 write-framed-requires (λ c κs. search needs) (λ c. search needs) returns-4)

@@ -1,0 +1,22 @@
+-- `framing::fits` meets its contract.
+use mathlib.Core.Path.{sym}
+use native.Mathlib.Omega.{arith}
+use lib.ListN.{length}
+use borrow.Author.Tests.{le-leb}
+use borrow.Author.Needs.{needs}
+use Rattle.uart.specs.Framing.{framed}
+use Rattle.uart.proofs.Escapes.{framed-max}
+use Rattle.uart.proofs.framing.fits.Statement.{statement}
+use Rattle.uart.proofs.framing.fits.Tie as tie
+
+returns : tie.Need-returns
+returns c =
+    let start = c .before .before in
+    let m = start .args .message .now in
+    sym (le-leb (length (framed m)) (start .args .room) (omega (arith, framed-max m (start .args .check) (start .pre .1), c .if1 .taken)))
+
+returns-2 : tie.Need-returns-2
+returns-2 c = rw (c .framed-length .ensures)
+
+pub fits-spec : {M : Type 1} → statement M
+fits-spec = tie.close (tie.spec (λ c. search needs) (λ c. search needs) returns (λ c κs. c .before .before .pre) returns-2)
