@@ -1,6 +1,6 @@
-//! The serial line's rules implemented for speed and without allocation, as the
-//! benchmark's baseline, behind the C boundary of include/grelfint.h.
-//! `serial.rs` compares it with the plain reference.
+//! The serial line's rules tuned for speed, without allocation, behind the C
+//! boundary of include/grelfint.h: the benchmark's second yardstick, after
+//! plain_uart.rs. `serial.rs` compares it with the reference.
 use super::ffi::{LengthAnswer, ReceiveAnswer, Receiver};
 use std::slice::{from_raw_parts, from_raw_parts_mut};
 

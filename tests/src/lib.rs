@@ -3,13 +3,15 @@
 //! decisions on open points; a fast implementation of the same rules, and one of
 //! requests in place, for the benchmark; a common interface to these four; a
 //! board to run them on; random inputs; and counts of what they did. The serial
-//! line has files of its own, whose names end in `_uart`.
+//! line has files of its own, whose names end in `_uart`; for the benchmark it
+//! has two implementations, one in ordinary Rust and one tuned for speed.
 pub mod board;
 pub mod buffers;
 pub mod fast;
 pub mod fast_uart;
 pub mod ffi;
 pub mod in_place;
+pub mod plain_uart;
 pub mod random;
 pub mod random_uart;
 pub mod reference;

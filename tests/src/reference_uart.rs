@@ -11,6 +11,9 @@ pub const ESCAPE_BIT: u8 = 0x20;
 pub const SHORTEST: usize = 6;
 pub const LONGEST: usize = 64;
 
+/// The longest message on the line: two flags and 65 escaped bytes.
+pub const FRAMED: usize = 132;
+
 /// Why a frame is dropped, in the order of the tests.
 pub const TOO_LONG: u8 = 1;
 pub const CUT: u8 = 2;

@@ -1,7 +1,8 @@
-//! One type for the calls of the serial line, filled by the library, the plain
-//! reference and the fast implementation, so that a test is written once.
+//! One type for the calls of the serial line, filled by the library, the
+//! reference, and the plain and the fast implementation, so that a test is
+//! written once.
 use crate::ffi::{uart_frame_by, uart_receive_by, LengthAnswer, ReceiveAnswer, Receiver};
-use crate::{fast_uart, ffi, reference_uart};
+use crate::{fast_uart, ffi, plain_uart, reference_uart};
 
 #[derive(Clone, Copy)]
 pub struct Side {
@@ -19,6 +20,13 @@ pub const REFERENCE: Side = Side {
     receiver: reference_uart::receiver,
     receive: reference_uart::receive,
     frame: reference_uart::frame,
+};
+
+pub const PLAIN: Side = Side {
+    name: "plain",
+    receiver: |gateway| plain_uart::receiver(gateway),
+    receive: |receiver, bytes| uart_receive_by(plain_uart::receive, receiver, bytes),
+    frame: |message, out| uart_frame_by(plain_uart::frame, message, out),
 };
 
 pub const FAST: Side = Side {

@@ -1,7 +1,7 @@
 //! The serial line (02, change 5/12). First examples, on the library through its
-//! C interface, on the plain reference and on the fast implementation: the
-//! guide's (000, 2.3.2) and one or more for each point of the rules. Then random
-//! calls of the library and of the fast implementation, compared with the
+//! C interface, on the reference, and on the plain and the fast implementation:
+//! the guide's (000, 2.3.2) and one or more for each point of the rules. Then
+//! random calls of the library and of both implementations, compared with the
 //! reference call by call: the whole answer with the record, and whole buffers
 //! with the guard bytes after them. Whatever the cuts, the frames and drops of
 //! all calls, and the last record, are those of the whole stream, which the
@@ -18,7 +18,7 @@ use grelfint_tests::reference_uart::{
 };
 use grelfint_tests::rng::{seed, Rng};
 use grelfint_tests::seen_uart::{Escaped, Frame, Received, Record, Seen, Sent};
-use grelfint_tests::sides_uart::{Side, FAST, LIBRARY, REFERENCE};
+use grelfint_tests::sides_uart::{Side, FAST, LIBRARY, PLAIN, REFERENCE};
 
 /// Makes each example a test of every side.
 macro_rules! on_every_side {
@@ -28,6 +28,9 @@ macro_rules! on_every_side {
         }
         mod on_reference {
             $(#[test] fn $example() { super::$example(super::REFERENCE) })*
+        }
+        mod on_plain {
+            $(#[test] fn $example() { super::$example(super::PLAIN) })*
         }
         mod on_fast {
             $(#[test] fn $example() { super::$example(super::FAST) })*
@@ -653,48 +656,59 @@ fn damaged_bits(side: Side) {
 
 // ---- random calls ----
 /// The sides that are compared with the reference.
-const TESTED: [Side; 2] = [LIBRARY, FAST];
+const TESTED: [Side; 3] = [LIBRARY, PLAIN, FAST];
 
-/// Makes the same calls on the tested side and on the reference.
+/// Makes the same calls on each tested side and on the reference.
 struct Session {
     test: &'static str,
     seed: u64,
     g: Rng,
     seen: Seen,
-    tested: Side,
 }
 
 impl Session {
-    fn new(test: &'static str, tested: Side) -> Session {
+    fn new(test: &'static str) -> Session {
         let seed = seed(test);
-        Session { test, seed, g: Rng::new(seed), seen: Seen::default(), tested }
+        Session { test, seed, g: Rng::new(seed), seen: Seen::default() }
     }
 
     /// Fails the test if `good` is false.
     fn expect(&self, good: bool, fault: impl FnOnce() -> String) {
         if !good {
-            let Session { test, seed, seen, tested, .. } = self;
-            panic!("{test}: seed {seed}, call {}, {}\n{}", seen.calls, tested.name, fault());
+            let Session { test, seed, seen, .. } = self;
+            panic!("{test}: seed {seed}, call {}\n{}", seen.calls, fault());
         }
     }
 
     fn new_receiver(&mut self) -> Receiver {
         let gateway = self.g.chance(1, 2);
-        let [a, b] = [self.tested, REFERENCE].map(|side| (side.receiver)(gateway));
-        self.expect(a == b, || format!("receiver {a:?}\nexpected {b:?}\ninputs: gateway {gateway}"));
-        b
+        let want = (REFERENCE.receiver)(gateway);
+        for side in TESTED {
+            let came = (side.receiver)(gateway);
+            self.expect(came == want, || {
+                format!("{}: receiver {came:?}\nexpected {want:?}\ninputs: gateway {gateway}", side.name)
+            });
+        }
+        want
     }
 
     fn receive(&mut self, receiver: Receiver, part: &[u8]) -> ReceiveAnswer {
-        let lent = Input::new(part);
-        let a = (self.tested.receive)(receiver, lent.part());
-        let b = (REFERENCE.receive)(receiver, part);
-        let fault = lent.difference("part");
-        self.expect(a == b && fault.is_empty(), || {
-            format!("{fault}answer   {a:?}\nexpected {b:?}\ninputs: {receiver:?}\npart ({}) {}", part.len(), hex(part))
-        });
-        self.seen.received(&receiver, part, &b);
-        b
+        let want = (REFERENCE.receive)(receiver, part);
+        for side in TESTED {
+            let lent = Input::new(part);
+            let answer = (side.receive)(receiver, lent.part());
+            let fault = lent.difference("part");
+            self.expect(answer == want && fault.is_empty(), || {
+                format!(
+                    "{}: {fault}answer   {answer:?}\nexpected {want:?}\ninputs: {receiver:?}\npart ({}) {}",
+                    side.name,
+                    part.len(),
+                    hex(part)
+                )
+            });
+        }
+        self.seen.received(&receiver, part, &want);
+        want
     }
 
     /// Hands each part in until it is used up, an empty one once. Returns the frames and drops, and the last record.
@@ -755,23 +769,28 @@ impl Session {
 
     /// The bytes on the line, or none if the call is refused.
     fn frame(&mut self, message: &[u8], room: usize) -> Option<Vec<u8>> {
-        let lent = Input::new(message);
         let mut before = vec![0; room + GUARD];
         self.g.fill(&mut before);
-        let (mut tested, mut plain) = (before.clone(), before.clone());
-        let a = (self.tested.frame)(lent.part(), &mut tested[..room]);
-        let b = (REFERENCE.frame)(message, &mut plain[..room]);
-        let fault = difference("output", &tested, &plain) + &lent.difference("message");
-        self.expect(a == b && fault.is_empty(), || {
-            format!(
-                "{fault}answer   {a:?}\nexpected {b:?}\ninputs: message ({}) {}\nroom {room}, output before {}",
-                message.len(),
-                hex(message),
-                hex(&before)
-            )
-        });
-        self.seen.sent(message, room, b.refusal);
-        (b.refusal == 0).then(|| tested[..b.length].to_vec())
+        let mut out = before.clone();
+        let want = (REFERENCE.frame)(message, &mut out[..room]);
+        for side in TESTED {
+            let lent = Input::new(message);
+            let mut tested = before.clone();
+            let answer = (side.frame)(lent.part(), &mut tested[..room]);
+            let fault = difference("output", &tested, &out) + &lent.difference("message");
+            self.expect(answer == want && fault.is_empty(), || {
+                format!(
+                    "{}: {fault}answer   {answer:?}\nexpected {want:?}\n\
+                     inputs: message ({}) {}\nroom {room}, output before {}",
+                    side.name,
+                    message.len(),
+                    hex(message),
+                    hex(&before)
+                )
+            });
+        }
+        self.seen.sent(message, room, want.refusal);
+        (want.refusal == 0).then(|| out[..want.length].to_vec())
     }
 
     /// A message into a buffer of any length; what was written is received again.
@@ -821,56 +840,48 @@ fn every_sound_record() -> impl Iterator<Item = (u8, u8, u8)> {
 /// Streams full of flags and escapes, with each kind of frame and drop, under random cuts.
 #[test]
 fn random_streams() {
-    for side in TESTED {
-        let mut s = Session::new("random_streams", side);
-        for _ in 0..7000 {
-            s.random_stream();
-        }
-        println!("random_streams: {:?}", s.seen);
-        s.seen.received.assert_each(Received::every(), 30);
-        s.seen.frames.assert_each(Frame::every(), 20);
-        s.seen.escaped.assert_each(Escaped::EVERY, 1000);
+    let mut s = Session::new("random_streams");
+    for _ in 0..7000 {
+        s.random_stream();
     }
+    println!("random_streams: {:?}", s.seen);
+    s.seen.received.assert_each(Received::every(), 30);
+    s.seen.frames.assert_each(Frame::every(), 20);
+    s.seen.escaped.assert_each(Escaped::EVERY, 1000);
 }
 
 /// Records that keep or break the rule, on empty parts too.
 #[test]
 fn random_records() {
-    for side in TESTED {
-        let mut s = Session::new("random_records", side);
-        for _ in 0..20_000 {
-            s.random_record();
-        }
-        println!("random_records: {:?}", s.seen);
-        s.seen.records.assert_each(Record::EVERY, 300);
+    let mut s = Session::new("random_records");
+    for _ in 0..20_000 {
+        s.random_record();
     }
+    println!("random_records: {:?}", s.seen);
+    s.seen.records.assert_each(Record::EVERY, 300);
 }
 
 /// Messages of every length up to 70 bytes, full of flags and escapes, into buffers of any length, and back.
 #[test]
 fn random_messages() {
-    for side in TESTED {
-        let mut s = Session::new("random_messages", side);
-        for _ in 0..20_000 {
-            s.random_message();
-        }
-        println!("random_messages: {:?}", s.seen);
-        s.seen.sent.assert_each(Sent::every(), 100);
-        s.seen.escaped_checks.assert_each([FLAG, ESCAPE], 500);
+    let mut s = Session::new("random_messages");
+    for _ in 0..20_000 {
+        s.random_message();
     }
+    println!("random_messages: {:?}", s.seen);
+    s.seen.sent.assert_each(Sent::every(), 100);
+    s.seen.escaped_checks.assert_each([FLAG, ESCAPE], 500);
 }
 
 /// Every sound limit, phase and count with every byte, alone and before a flag.
 #[test]
 fn every_step() {
-    for side in TESTED {
-        let mut s = Session::new("every_step", side);
-        for (limit, phase, count) in every_sound_record() {
-            for byte in 0..=255 {
-                let start = random::receiver_of(&mut s.g, limit, phase, count);
-                s.receive_stream(start, &[&[byte]]);
-                s.receive_stream(start, &[&[byte, FLAG]]);
-            }
+    let mut s = Session::new("every_step");
+    for (limit, phase, count) in every_sound_record() {
+        for byte in 0..=255 {
+            let start = random::receiver_of(&mut s.g, limit, phase, count);
+            s.receive_stream(start, &[&[byte]]);
+            s.receive_stream(start, &[&[byte, FLAG]]);
         }
     }
 }
@@ -878,14 +889,12 @@ fn every_step() {
 /// From every sound limit, phase and count a framed message comes out, of every length.
 #[test]
 fn every_record_and_length() {
-    for side in TESTED {
-        let mut s = Session::new("every_record_and_length", side);
-        for (limit, phase, count) in every_sound_record() {
-            for length in SHORTEST..=LONGEST {
-                let start = random::receiver_of(&mut s.g, limit, phase, count);
-                let message = random::message(&mut s.g, length);
-                s.comes_back(start, &message, &framed(&message));
-            }
+    let mut s = Session::new("every_record_and_length");
+    for (limit, phase, count) in every_sound_record() {
+        for length in SHORTEST..=LONGEST {
+            let start = random::receiver_of(&mut s.g, limit, phase, count);
+            let message = random::message(&mut s.g, length);
+            s.comes_back(start, &message, &framed(&message));
         }
     }
 }
@@ -893,19 +902,17 @@ fn every_record_and_length() {
 /// Streams cut at every two places.
 #[test]
 fn every_cut() {
-    for side in TESTED {
-        let mut s = Session::new("every_cut", side);
-        for _ in 0..6 {
-            let start = random::receiver(&mut s.g);
-            let mut stream = Vec::new();
-            while stream.len() < 70 {
-                stream.extend(random::stream(&mut s.g, start.limit as usize));
-            }
-            stream.truncate(70);
-            for second in 0..=stream.len() {
-                for first in 0..=second {
-                    s.receive_stream(start, &[&stream[..first], &stream[first..second], &stream[second..]]);
-                }
+    let mut s = Session::new("every_cut");
+    for _ in 0..6 {
+        let start = random::receiver(&mut s.g);
+        let mut stream = Vec::new();
+        while stream.len() < 70 {
+            stream.extend(random::stream(&mut s.g, start.limit as usize));
+        }
+        stream.truncate(70);
+        for second in 0..=stream.len() {
+            for first in 0..=second {
+                s.receive_stream(start, &[&stream[..first], &stream[first..second], &stream[second..]]);
             }
         }
     }

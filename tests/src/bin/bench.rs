@@ -1,8 +1,10 @@
 //! Benchmark, not part of the gate: `cargo run --release --offline` in `tests/`,
 //! whose `.cargo/config.toml` aligns functions.
 //! Measures the library against an implementation of the same rules in Rust for
-//! speed (src/fast.rs, src/fast_uart.rs), which has the same C boundary, and
-//! requests also against one in C that changes the node in place (c/in_place.c).
+//! speed (src/fast.rs), which has the same C boundary, and requests also against
+//! one in C that changes the node in place (c/in_place.c). On the serial line it
+//! measures the library against ordinary Rust (src/plain_uart.rs) and against
+//! Rust tuned for speed (src/fast_uart.rs), both with the same C boundary.
 //! Then measures ways to compute a checksum against the loop that adds byte by
 //! byte with carries.
 //! `BENCH_BURSTS` sets the number of bursts for each figure.
@@ -12,17 +14,14 @@ use grelfint_tests::ffi::{
     UartFrame, UartReceive, HANDLE_REQUEST, UART_FRAME, UART_RECEIVE,
 };
 use grelfint_tests::reference::{CodeType, EXTERNAL_SIZE};
-use grelfint_tests::reference_uart::{self, ESCAPE, FLAG, LONGEST};
+use grelfint_tests::reference_uart::{self, ESCAPE, FLAG, FRAMED, LONGEST};
 use grelfint_tests::sides::{Side, FAST, IN_PLACE, LIBRARY};
-use grelfint_tests::{fast, fast_uart, in_place};
+use grelfint_tests::{fast, fast_uart, in_place, plain_uart};
 use std::hint::black_box;
 use std::time::Instant;
 
 /// Nanoseconds of a burst. The calls of one take this long together, so that few bursts are interrupted.
 const BURST: f64 = 20_000.0;
-
-/// The longest message on the serial line: two flags and 65 escaped bytes.
-const FRAMED: usize = 132;
 
 fn board(side: Side) -> Board {
     let mut b = Board::started(side, 32, 10);
@@ -134,7 +133,7 @@ fn time_bursts<const N: usize>(bursts: usize, mut run: impl FnMut(usize, u32) ->
     times.map(low_quantile)
 }
 
-/// Measures the library, the fast side and any further ones, and prints a row.
+/// Measures the library, the Rust side and any further ones, and prints a row.
 fn compare<const N: usize>(name: &str, bursts: usize, run: impl FnMut(usize, u32) -> f64) {
     let times = time_bursts::<N>(bursts, run);
     let columns = times.map(|time| format!("{time:>10.1}")).concat();
@@ -150,7 +149,11 @@ fn print_heading(bursts: usize) {
         "each call starts from the same node with 32 lit lamps: by value, or copied into a record before the call"
     );
     println!("(C and tick in place; the tick in place of the Rust side stores what its tick by value returns)\n");
-    println!("{:<34}{:>10}{:>10}{:>10}{:>10}{:>10}", "", "library", "Rust", "C", "to Rust", "to C");
+    print_columns("", ["library", "Rust", "C", "to Rust", "to C"]);
+}
+
+fn print_columns(rows: &str, columns: [&str; 5]) {
+    println!("{rows:<34}{}", columns.map(|column| format!("{column:>10}")).concat());
 }
 
 /// A request for the first lamps; the lower half of them gets a time.
@@ -264,19 +267,20 @@ fn compare_compilers(bursts: usize) {
 
 /// Framing the longest message, and receiving it in one part at a new gateway.
 fn compare_message(name: &str, bursts: usize, message: &[u8; LONGEST]) {
-    let frames: [UartFrame; 2] = [UART_FRAME, fast_uart::frame];
-    let mut outs = [[0; FRAMED]; 2];
-    let [l, f] = [0, 1].map(|side| uart_frame_by(frames[side], message, &mut outs[side]));
-    assert!(l == f && l.refusal == 0 && outs[0] == outs[1], "{name}: sides differ");
-    compare::<2>(&format!("framing 64 bytes, {name}"), bursts, |side, calls| {
+    let frames: [UartFrame; 3] = [UART_FRAME, plain_uart::frame, fast_uart::frame];
+    let mut outs = [[0; FRAMED]; 3];
+    let [l, p, f] = [0, 1, 2].map(|side| uart_frame_by(frames[side], message, &mut outs[side]));
+    assert!(l == p && l == f && l.refusal == 0, "{name}: answers differ");
+    assert!(outs[0] == outs[1] && outs[0] == outs[2], "{name}: framed bytes differ");
+    compare::<3>(&format!("framing 64 bytes, {name}"), bursts, |side, calls| {
         time_frame(frames[side], message, &mut outs[side], calls)
     });
 
-    let receives: [UartReceive; 2] = [UART_RECEIVE, fast_uart::receive];
+    let receives: [UartReceive; 3] = [UART_RECEIVE, plain_uart::receive, fast_uart::receive];
     let (receiver, line) = (reference_uart::receiver(true), &outs[0][..l.length]);
-    let [l, f] = receives.map(|receive| uart_receive_by(receive, receiver, line));
-    assert!(l == f && l.frame == *message, "{name}: sides differ");
-    compare::<2>(&format!("receiving them, {name}"), bursts, |side, calls| {
+    let [l, p, f] = receives.map(|receive| uart_receive_by(receive, receiver, line));
+    assert!(l == p && l == f && l.frame == *message, "{name}: frames differ");
+    compare::<3>(&format!("receiving them, {name}"), bursts, |side, calls| {
         time_receive(receives[side], receiver, line, calls)
     });
 }
@@ -292,6 +296,9 @@ fn compare_serial_line(bursts: usize) {
     for (message, escapes) in [(&plain, 0), (&escaped, 16)] {
         assert_eq!(reference_uart::framed(message).len(), LONGEST + 3 + escapes);
     }
+    println!("\nserial line: Rust is ordinary Rust, byte by byte (src/plain_uart.rs);");
+    println!("tuned is Rust tuned for speed, in blocks of 16 bytes (src/fast_uart.rs)");
+    print_columns("", ["library", "Rust", "tuned", "to Rust", "to tuned"]);
     compare_message("plain", bursts, &plain);
     compare_message("1/4 escaped", bursts, &escaped);
 }
