@@ -1,13 +1,15 @@
--- Laws of the sender: one for each of its answers.
+-- Laws of the sender: one for each of its answers, and what it leaves unchanged.
 use mathlib.Core.Bool.{true, false}
-use mathlib.Core.Path.{_≡_}
+use mathlib.Core.Path.{_≡_, refl}
 use mathlib.Core.List.{List, []}
 use Prim.Native.Nat.{ℕ, _≤_, _<_}
-use lib.Dec.{leb}
-use lib.ListN.{length}
+use lib.Dec.{ltb, leb}
+use lib.ListN.{length, drop}
+use lib.Seq.{drop-append-seam}
 use borrow.Author.Tests.{lt-ltb, le-ltb}
-use Rattle.dpa.specs.Answer.{resultInBuffer}
+use Rattle.dpa.specs.Answer.{LengthResult, resultInBuffer}
 use Rattle.dpa.specs.Lists.{overwriteFront}
+use Rattle.dpa.proofs.Bool.{by-cond}
 use Rattle.uart.specs.Framing.{framed, shortest, longest, frameOf}
 
 module _ (m o : List ℕ) where
@@ -33,3 +35,27 @@ module _ (m o : List ℕ) where
           → record { refusal = 0; length = k; out = o′ } ≡ frameOf m o
       unfolding frameOf
       framed-answered e k o′ ek eo = rw (ek, eo, le-ltb (length m) shortest long-enough, le-ltb longest (length m) short-enough, e)
+
+  -- a refused call answers length 0 and leaves the buffer unchanged
+  pub refused-frame : (frameOf m o .refusal ≡ 0 → ⊥) → (frameOf m o .length ≡ 0) × (frameOf m o .out ≡ o)
+  unfolding frameOf
+  refused-frame =
+      by-cond Kept (ltb (length m) shortest) _ _ (λ e z. (refl, refl)) λ e.
+      by-cond Kept (ltb longest (length m)) _ _ (λ l z. (refl, refl)) λ l.
+      by-cond Kept (leb (length (framed m)) (length o)) _ _ (λ f z. absurd (z refl)) (λ f z. (refl, refl))
+    where
+      Kept : LengthResult → Type 0
+      Kept c = (c .refusal ≡ 0 → ⊥) → (c .length ≡ 0) × (c .out ≡ o)
+
+  -- bytes after the framed message are unchanged, refused or not
+  pub later-bytes-kept : drop (frameOf m o .length) (frameOf m o .out) ≡ drop (frameOf m o .length) o
+  unfolding frameOf
+  later-bytes-kept =
+      by-cond Stays (ltb (length m) shortest) _ _ (λ e. refl) λ e.
+      by-cond Stays (ltb longest (length m)) _ _ (λ l. refl) λ l.
+      by-cond Stays (leb (length (framed m)) (length o)) _ _
+      (λ f. drop-append-seam (framed m) (drop (length (framed m)) o))
+      (λ f. refl)
+    where
+      Stays : LengthResult → Type 0
+      Stays c = drop (c .length) (c .out) ≡ drop (c .length) o

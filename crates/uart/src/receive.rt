@@ -85,21 +85,21 @@ fn no_frame(refusal: u8, event: u8, cause: u8, taken: usize, receiver: Receiver)
 }
 
 // Why the frame that a flag ends is dropped.
-fn drop_cause(limit: u8, phase: u8, count: u8, bytes: &[u8]) -> u8
+fn drop_cause(limit: u8, count: u8, cut: bool, bytes: &[u8]) -> u8
     requires { ⌜ (limit ≤ longest) × (length (now bytes) ≡ placeCount) ⌝ }
-    ensures { λ r. ⌜ r ≡ dropCause limit count (eqb phase afterEscape) (now (bytes .entry)) ⌝ }
+    ensures { λ r. ⌜ r ≡ dropCause limit count cut (now (bytes .entry)) ⌝ }
 {
     if limit + 1 < count {
         return TOO_LONG;
     }
-    if phase == AFTER_ESCAPE {
+    if cut {
         return CUT;
     }
     if wide(count) < SHORTEST + 1 {
         return SHORT;
     }
-    let size = wide(count) - 1;
-    if check_byte(&bytes[..size]) != bytes[size] {
+    let last = wide(count) - 1;
+    if check_byte(&bytes[..last]) != bytes[last] {
         return CHECK_BYTE;
     }
     GOOD
@@ -110,7 +110,7 @@ fn end_frame(limit: u8, phase: u8, count: u8, bytes: [u8; PLACES], taken: usize)
     requires { ⌜ limit ≤ longest ⌝ }
     ensures { λ r. ⌜ r ≡ eventAnswer (frameEvent limit count (eqb phase afterEscape) bytes) taken (receiverFrom limit inFrame 0 bytes) ⌝ }
 {
-    let cause = drop_cause(limit, phase, count, &bytes);
+    let cause = drop_cause(limit, count, phase == AFTER_ESCAPE, &bytes);
     let receiver = Receiver {
         limit,
         phase: IN_FRAME,

@@ -16,6 +16,9 @@ use node::start::start;
 use timing::confirm::confirm;
 use timing::slot::Network;
 use timing::slot::earliest_send;
+use uart::framing::frame;
+use uart::receive::receive;
+use uart::receiver::new_receiver;
 
 fn print_text(s: &[u8]) {
     io::write_all(STDOUT_FILENO, s);
@@ -219,6 +222,22 @@ fn gateway() {
     print_text(b"\n");
 }
 
+// The message of the DPA guide on the serial line, framed and received, and a frame that ends after an escape.
+fn serial_line() {
+    let mut out = [0u8; 132];
+    let framed = frame(b"\x2F\x00\x05\x01\xFF\xFF\x00\x7E\x7D", &mut out);
+    print_text(b"framed");
+    print_hex(&out, framed.length);
+    let received = receive(new_receiver(false), &out);
+    let message = received.frame;
+    print_text(b"received");
+    print_hex(&message, received.length);
+    let cut = receive(received.receiver, b"\x7E\x7D\x7E");
+    print_text(b"7E 7D 7E, cause");
+    print_number(cut.cause as u64);
+    print_text(b"\n");
+}
+
 fn main() {
     let settings = Settings {
         address: 1,
@@ -243,4 +262,5 @@ fn main() {
     wrong_ends(read, &mut eeprom, &mut external);
     broadcast(read, &mut eeprom, &mut external);
     gateway();
+    serial_line();
 }
