@@ -88,14 +88,6 @@ fn write_escaped_all(out: &mut [u8], at: usize, message: &[u8]) -> usize
     next
 }
 
-// The length of a framed message.
-fn framed_length(message: &[u8], check: u8) -> usize
-    requires { ⌜ (length (now message) ≤ longest) × (check ≡ checkByte (now message)) ⌝ }
-    ensures { λ r. ⌜ r ≡ length (framed (now (message .entry))) ⌝ }
-{
-    escaped_all_length(message) + escaped_length(check) + 2
-}
-
 // Whether a framed message fits. Its escapes are counted only if the room is not enough for every message of this length.
 fn fits(message: &[u8], check: u8, room: usize) -> bool
     requires { ⌜ (length (now message) ≤ longest) × (check ≡ checkByte (now message)) ⌝ }
@@ -104,7 +96,7 @@ fn fits(message: &[u8], check: u8, room: usize) -> bool
     if 2 * message.len() + 4 <= room {
         return true;
     }
-    framed_length(message, check) <= room
+    escaped_all_length(message) + escaped_length(check) + 2 <= room
 }
 
 // Writes a framed message to the front of a buffer and returns its length.

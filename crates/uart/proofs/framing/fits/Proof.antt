@@ -5,7 +5,7 @@ use lib.ListN.{length}
 use borrow.Author.Tests.{le-leb}
 use borrow.Author.Needs.{needs}
 use Rattle.uart.specs.Framing.{framed}
-use Rattle.uart.proofs.Escapes.{framed-max}
+use Rattle.uart.proofs.Escapes.{framed-length, framed-max}
 use Rattle.uart.proofs.framing.fits.Statement.{statement}
 use Rattle.uart.proofs.framing.fits.Tie as tie
 
@@ -16,7 +16,11 @@ returns c =
     sym (le-leb (length (framed m)) (start .args .room) (omega (arith, framed-max m (start .args .check) (start .pre .1), c .if1 .taken)))
 
 returns-2 : tie.Need-returns-2
-returns-2 c = rw (c .framed-length .ensures)
+returns-2 c =
+    let start = c .before .before .before .before in
+    rw (c .before .escaped-all-length .ensures .0, c .escaped-length .ensures .0, framed-length (start .args .message .now) (start .args .check) (start .pre .1))
 
 pub fits-spec : {M : Type 1} → statement M
-fits-spec = tie.close (tie.spec (λ c. search needs) (λ c. search needs) returns (λ c κs. c .before .before .pre) returns-2)
+fits-spec =
+    tie.close (tie.spec (λ c. search needs) (λ c. search needs) returns (λ c κs. search needs) (λ c κs. search needs) (λ c. search needs) (λ c. search needs)
+    returns-2)
