@@ -2,8 +2,8 @@
  *
  * Every call returns an answer for every input. Its refusal is 0 or, from the
  * top, the first of this list that applies. A refused call returns 0 for every
- * other number (except `step` with 81 to 84), false for every flag and the
- * node unchanged, and writes no buffer.
+ * other number (except `step` with 81 to 84), false for every bool and the node
+ * or receiver unchanged, and writes no buffer.
  *
  *    1  the node record or the receiver record is not sound; settings or an
  *       address out of range; a node set that names address 0, or no node
@@ -156,9 +156,9 @@ typedef struct grelfint_receive_answer {
     uint8_t event; /* 0 all bytes taken and no frame yet, 1 a frame, 2 a frame
                     * that was dropped */
     uint8_t cause; /* why it was dropped, the first of:
-                    *   1  more bytes than the limit
+                    *   1  more bytes than the limit, check byte not counted
                     *   2  a flag right after an escape
-                    *   3  fewer than 6 bytes
+                    *   3  fewer than 6 bytes, check byte not counted
                     *   4  wrong check byte
                     * 0 with event 0 or 1 */
     size_t taken;  /* bytes that were used; at least 1 of a part that is not
@@ -281,9 +281,11 @@ grelfint_compile_answer grelfint_compile_selected_default(
 grelfint_receiver grelfint_uart_receiver(bool gateway);
 
 /* Receives the next bytes of the serial line, any number of them, up to the
- * first flag that completes or drops a frame. Hand in the bytes after `taken`
- * next, with the receiver of the answer; how the stream is cut into calls
- * changes neither frames nor drops. examples/serial.c has the loop.
+ * first flag that completes or drops a frame. Each flag ends a frame and opens
+ * the next; bytes before the first flag and flags with nothing between them are
+ * skipped. Hand in the bytes after `taken` next, with the receiver of the
+ * answer; how the stream is cut into calls changes neither frames nor drops.
+ * examples/serial.c has the loop.
  * Answer: refusal; event; cause; bytes taken; frame and its length; receiver.
  * Refusals: 1 (taken is then 0: a loop has to end). Written: nothing. */
 grelfint_receive_answer grelfint_uart_receive(

@@ -132,12 +132,12 @@ impl Frame {
     }
 }
 
-/// What an escape stood before, if not before a flag.
+/// What an escape and the byte after it, which is no flag, stood for.
 #[derive(Clone, Copy, PartialEq, Eq, PartialOrd, Ord, Debug)]
 pub enum Escaped {
     Flag,
     Escape,
-    /// A second escape.
+    /// Two escapes in a row.
     Doubled,
     /// A byte that need not be escaped.
     Other,

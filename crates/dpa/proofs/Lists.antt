@@ -7,7 +7,13 @@ use native.Mathlib.Omega.{arith}
 use lib.ListN.{length, take, drop, set, length-append, length-drop, take-append-drop, drop-of-length-le}
 use lib.Seq.{sets, sets-eq, take-all, take-at, drop-at, take-length, drop-drop, drop-set-lt, length-take-le}
 use borrow.Rule.Slice.PartMut.{midOf, postOf, putMid}
-use Rattle.dpa.specs.Lists.{overwriteFront}
+use Rattle.dpa.specs.Lists.{overwriteFront, fold}
+
+-- a fold over two lists in a row
+pub fold-append : {S : Type 0} (f : S → ℕ → S) (s : S) (xs ys : List ℕ) → fold f s (xs ++ ys) ≡ fold f (fold f s xs) ys
+unfolding fold
+fold-append f s [] ys = refl
+fold-append f s (x ∷ xs) ys = fold-append f (f s x) xs ys
 
 -- the slice from a place to the end
 pub slice-to-end : {A : Type 0} (a : ℕ) (s : List A) → take (length s - a) (drop a s) ≡ drop a s

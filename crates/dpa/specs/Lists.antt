@@ -12,6 +12,11 @@ overwriteFront xs ys = xs ++ drop (length xs) ys
 abbrev pub slice : List ℕ → ℕ → ℕ → List ℕ
 slice xs start n = take n (drop start xs)
 
+-- f for each byte of a list in order, from s on
+unfoldable pub fold : {S : Type 0} → (S → ℕ → S) → S → List ℕ → S
+fold f s [] = s
+fold f s (b ∷ bs) = fold f (f s b) bs
+
 -- every element is a byte
 abbrev pub Bytes : List ℕ → Type 0
 Bytes s = (i : ℕ) → getD s i 0 < 256

@@ -10,7 +10,7 @@ use lib.Dec.{ltb}
 use borrow.Author.Tests.{lt-ltb, le-ltb}
 use Rattle.dpa.proofs.Bool.{by-cond}
 use Rattle.dpa.proofs.Headers.{fits-sizes}
-use Rattle.dpa.specs.Answer.{LengthResult, resultInBuffer}
+use Rattle.dpa.specs.Answer.{LengthResult, RefusedKeeps, resultInBuffer}
 use Rattle.dpa.specs.Lists.{overwriteFront}
 use Rattle.dpa.specs.Frame.{headerSize, longestResponse, pdataOf, frameFits}
 use Rattle.timing.specs.declared.slot.Network.{Network}
@@ -55,15 +55,12 @@ module _ (f : List ℕ) (d h b : ℕ) (net : Network) (o : List ℕ) where
       Whole c = c .refusal ≡ 0 → c .length ≡ confirmationLength
 
   -- a refused call returns length 0 and leaves the buffer unchanged
-  pub refused-unchanged : (confirmOf f d h b net o .refusal ≡ 0 → ⊥) → (confirmOf f d h b net o .length ≡ 0) × (confirmOf f d h b net o .out ≡ o)
+  pub refused-unchanged : RefusedKeeps o (confirmOf f d h b net o)
   unfolding confirmOf
   refused-unchanged =
-      by-cond Kept (frameFits (length f)) _ _
-      (λ e. by-cond Kept (ltb (length o) longestResponse) _ _ (λ t. λ z. (refl, refl)) (λ t. λ z. absurd (z refl)))
+      by-cond (RefusedKeeps o) (frameFits (length f)) _ _
+      (λ e. by-cond (RefusedKeeps o) (ltb (length o) longestResponse) _ _ (λ t. λ z. (refl, refl)) (λ t. λ z. absurd (z refl)))
       (λ e. λ z. (refl, refl))
-    where
-      Kept : LengthResult → Type 0
-      Kept c = (c .refusal ≡ 0 → ⊥) → (c .length ≡ 0) × (c .out ≡ o)
 
   -- bytes after the confirmation are unchanged, refused or not
   pub later-bytes-kept : drop confirmationLength (confirmOf f d h b net o .out) ≡ drop confirmationLength o

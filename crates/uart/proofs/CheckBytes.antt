@@ -1,7 +1,7 @@
--- Laws of the check byte: it is linear, so that a block of bytes can be added at once; and it detects a change of one byte.
+-- Laws of the check byte: it is linear, so that a block of bytes can be added at once; the table of the code; its loops.
 use mathlib.Core.Path.{_≡_, refl, sym, ap, _∙_}
 use mathlib.Core.Bool.{cond}
-use mathlib.Core.List.{List, [], _∷_, _++_}
+use mathlib.Core.List.{List, [], _∷_}
 use Prim.Native.Nat.{ℕ, zero, suc, _+_, _*_, _/_, _%_, _^_, _-_, _≤_, _<_}
 use native.Mathlib.Omega.{arith}
 use native.Mathlib.Numerals.{add-one}
@@ -9,8 +9,10 @@ use lib.Bits.{bitXor, xor-shr, xor-mod, xor-comm, xor-self, xor-zero-r, xor-shif
 use lib.Dec.{eqb}
 use lib.ListN.{length, getD, take, drop, length-drop, take-append-drop}
 use lib.Seq.{drop-cons, drop-length, drop-drop}
+use Rattle.dpa.specs.Lists.{fold}
 use Rattle.uart.specs.CheckByte.{polynomial, shift, shifts, crcByte, crcBytes}
 use Rattle.uart.specs.ShiftTable.{blockLength, tableFrom, shiftEntry, shiftTable}
+use Rattle.dpa.proofs.Lists.{fold-append}
 use Rattle.uart.proofs.Xor.{by-bit, xor-assoc}
 
 -- ---- linearity
@@ -55,7 +57,7 @@ shifts-add (suc n) m a = let z : suc n + m ≡ suc (n + m) = omega arith in rw z
 
 -- the CRC over no bytes
 pub crc-none : (crc : ℕ) → crcBytes crc [] ≡ crc
-unfolding crcBytes
+unfolding fold
 crc-none crc = refl
 
 -- eight shifts more
@@ -67,7 +69,7 @@ past x bs e =
 
 -- a CRC before some bytes is shifted past them and added to their own
 pub crc-split : (crc : ℕ) (bs : List ℕ) → crcBytes crc bs ≡ bitXor (shifts (8 * length bs) crc) (crcBytes 0 bs)
-unfolding crcBytes crcByte shifts
+unfolding crcByte shifts fold
 crc-split crc [] = sym (xor-zero-r crc)
 crc-split crc (b ∷ bs) =
     let n = 8 * suc (length bs) in
@@ -76,19 +78,13 @@ crc-split crc (b ∷ bs) =
 
 -- the first byte is shifted past the others and added to their CRC
 pub crc-cons : (crc b : ℕ) (bs : List ℕ) → crcBytes crc (b ∷ bs) ≡ bitXor (shifts (8 * suc (length bs)) (bitXor crc b)) (crcBytes 0 bs)
-unfolding crcBytes crcByte
+unfolding crcByte fold
 crc-cons crc b bs = past (bitXor crc b) bs (crc-split (shifts 8 (bitXor crc b)) bs)
-
--- bytes in two parts
-pub crc-append : (crc : ℕ) (xs ys : List ℕ) → crcBytes crc (xs ++ ys) ≡ crcBytes (crcBytes crc xs) ys
-unfolding crcBytes
-crc-append crc [] ys = refl
-crc-append crc (x ∷ xs) ys = crc-append (crcByte crc x) xs ys
 
 -- the CRC over the bytes from place i on, k bytes later
 pub crc-later : (bs : List ℕ) (crc crc′ i k : ℕ) → crc′ ≡ crcBytes crc (take k (drop i bs)) → crcBytes crc′ (drop (i + k) bs) ≡ crcBytes crc (drop i bs)
 crc-later bs crc crc′ i k e =
-    rw (e, ← drop-drop k i bs) (sym (crc-append crc (take k (drop i bs)) (drop k (drop i bs))) ∙ ap (crcBytes crc) (take-append-drop k (drop i bs)))
+    rw (e, ← drop-drop k i bs) (sym (fold-append crcByte crc (take k (drop i bs)) (drop k (drop i bs))) ∙ ap (crcBytes crc) (take-append-drop k (drop i bs)))
 
 -- ---- the table
 
@@ -125,7 +121,7 @@ table-digits n b low high h l el eh =
 
 -- the CRC over the bytes from place i on, one byte later
 pub crc-next : (bs : List ℕ) (crc i : ℕ) → i < length bs → crcBytes crc (drop i bs) ≡ crcBytes (shifts 8 (bitXor crc (getD bs i 0))) (drop (i + 1) bs)
-unfolding crcBytes crcByte
+unfolding crcByte fold
 crc-next bs crc i h = rw (add-one, drop-cons bs i 0 h)
 
 -- the sum of the bytes up to place i, one byte later
@@ -140,7 +136,7 @@ sum-next bs sum i h =
 -- the first byte of a block, and the sum of the others
 pub sum-all : (bs : List ℕ) (crc sum n : ℕ) → n ≡ length bs → 1 ≤ n → bitXor sum (crcBytes 0 (drop (length bs) bs)) ≡ crcBytes 0 (drop 1 bs)
     → bitXor (shifts (8 * n) (bitXor crc (getD bs 0 0))) sum ≡ crcBytes crc bs
-unfolding crcBytes
+unfolding fold
 sum-all [] crc sum n l h e = absurd (omega arith)
 sum-all (b ∷ bs) crc sum n l h e =
     let s : sum ≡ crcBytes 0 bs = sym (xor-zero-r sum) ∙ ap (λ (xs : List ℕ). bitXor sum (crcBytes 0 xs)) (sym (drop-length (b ∷ bs))) ∙ e in

@@ -6,11 +6,11 @@ use Prim.Native.Nat.{ℕ, suc, _+_, _-_, _≤_, _<_, min}
 use native.Mathlib.Omega.{arith}
 use native.Mathlib.Nat.{zero-min}
 use native.Mathlib.Numerals.{add-one}
-use borrow.Author.Tests.{lt-ltb, le-ltb, ltb-true, ltb-false, eq-eqb, ne-eqb, eqb-true, eqb-false, not-true}
+use borrow.Author.Tests.{lt-ltb, ltb-true, ltb-false, eq-eqb, ne-eqb, eqb-true, eqb-false, not-true}
 use lib.Dec.{eqb, ltb}
-use lib.ListN.{length, getD, take, drop, set, length-append, length-take, length-drop, List·getD-append}
-use lib.Seq.{take-all, take-nil, take-append-le, drop-cons, set-append-seam, append-snoc}
-use Rattle.dpa.specs.Lists.{overwriteFront, All}
+use lib.ListN.{length, getD, take, drop, set, take-append-drop, length-append, length-take, length-drop, List·getD-append}
+use lib.Seq.{length-take-le, take-all, take-at, take-nil, take-append-le, drop-cons, set-append-seam, append-snoc}
+use Rattle.dpa.specs.Lists.{overwriteFront, All, fold}
 use Rattle.dpa.proofs.Bool.{by-cond, by-test, and-left, and-right}
 use Rattle.uart.specs.declared.receiver.Receiver.{Receiver}
 use Rattle.uart.specs.CheckByte.{checkByte}
@@ -191,15 +191,57 @@ module _ (limit : ℕ) (ok : limitOk limit ≡ true) where
   -- bytes without a flag only add to what is held
   pub no-flag-heard : (t : Content) (old : List ℕ) → length old ≡ placeCount → (bs : List ℕ) → All (λ (b : ℕ). b ≡ flag → ⊥) bs
       → heardFrom (holding limit t old) bs ≡ heard [] (holding limit (addBytes t bs) old)
-  unfolding heardFrom addBytes
+  unfolding heardFrom fold
   no-flag-heard t old places [] a = refl
   no-flag-heard t old places (b ∷ bs) a =
       rw (no-flag-event (holding limit t old) b (a .0), holding-next old places t b (a .0), no-flag-heard (addByte t b) old places bs (a .1))
       refl
 
+-- ---- any sound receiver in a frame
+
+-- The content of a receiver in a frame. A frame that is too long has lost its later bytes: any one more stands for them.
+abbrev pub contentOf : Receiver → Content
+contentOf r =
+    content
+    (cond (ltb (r .limit + 1) (r .count)) (take (r .limit + 1) (r .bytes) ++ (0 ∷ [])) (take (r .count) (r .bytes)))
+    (eqb (r .phase) afterEscape)
+
+-- the front of a list written over itself
+overwrite-self : (n : ℕ) (xs : List ℕ) → n ≤ length xs → overwriteFront (take n xs) xs ≡ xs
+overwrite-self n xs h = rw (length-take-le n xs h) (take-append-drop n xs)
+
+-- a sound receiver in a frame holds its content
+pub sound-holding : (r : Receiver) → receiverOk r ≡ true → (r .phase ≡ beforeFlag → ⊥) → r ≡ holding (r .limit) (contentOf r) (r .bytes)
+unfolding holding
+sound-holding r e p =
+    let f = receiver-facts r e in
+    let l = limit-range (r .limit) (f .limit-ok) in
+    by-test (ltb (r .limit + 1) (r .count))
+    (λ t.
+    let h = ltb-true (r .limit + 1) (r .count) t in
+    let front = take (r .limit + 1) (r .bytes) in
+    let n : length front ≡ r .limit + 1 = length-take-le (r .limit + 1) (r .bytes) (omega arith) in
+    let c : min (length (front ++ (0 ∷ []))) (r .limit + 2) ≡ r .count = omega (arith, length-append front (0 ∷ [])) in
+    rw (t, c, take-at front (0 ∷ []) (r .limit + 1) n, overwrite-self (r .limit + 1) (r .bytes) (omega arith), in-phase (r .phase) (f .phases) p) refl)
+    (λ t.
+    let h = ltb-false (r .limit + 1) (r .count) t in
+    let front = take (r .count) (r .bytes) in
+    let n : length front ≡ r .count = length-take-le (r .count) (r .bytes) (omega arith) in
+    let c : min (length front) (r .limit + 2) ≡ r .count = omega arith in
+    rw (t, c, take-all (r .limit + 1) front (omega arith), overwrite-self (r .count) (r .bytes) (omega arith), in-phase (r .phase) (f .phases) p) refl)
+  where
+    in-phase : (q : ℕ) → q ≤ afterEscape → (q ≡ beforeFlag → ⊥) → cond (eqb q afterEscape) afterEscape inFrame ≡ q
+    in-phase q h z = by-cond (λ (x : ℕ). x ≡ q) (eqb q afterEscape) _ _ (λ t. sym (eqb-true _ _ t)) (λ t. let y = eqb-false q afterEscape t in omega (arith, z))
+
+-- so it hears the frames and drops of the stream, with this content in front
+pub sound-heard : (r : Receiver) (bs : List ℕ) → receiverOk r ≡ true → (r .phase ≡ beforeFlag → ⊥) → heardFrom r bs .events ≡ eventsAfter (r .limit) (contentOf r) bs
+sound-heard r bs e p =
+    let f = receiver-facts r e in
+    ap (λ (x : Receiver). heardFrom x bs .events) (sound-holding r e p) ∙ stream-heard (r .limit) (f .limit-ok) (contentOf r) (r .bytes) (f .places) bs
+
 -- ---- whole streams
 
--- Any receiver: a flag ends what came before it; from there on the frames and drops of the stream are heard.
+-- Any sound receiver: a flag ends what came before it; from there on the frames and drops of the stream are heard.
 pub after-flag : (r : Receiver) (bs : List ℕ) → receiverOk r ≡ true
     → heardFrom r (flag ∷ bs) .events ≡ listed (byteEvent r flag) ++ eventsAfter (r .limit) nothingYet bs
 unfolding heardFrom
@@ -213,7 +255,7 @@ unfolding begun
 not-begun r p = rw (eq-eqb (r .phase) beforeFlag p) refl
 
 -- a receiver before its first flag hears the frames and drops of the stream
-fresh-heard : (r : Receiver) (bs : List ℕ) → receiverOk r ≡ true → r .phase ≡ beforeFlag → heardFrom r bs .events ≡ streamEvents (r .limit) bs
+pub fresh-heard : (r : Receiver) (bs : List ℕ) → receiverOk r ≡ true → r .phase ≡ beforeFlag → heardFrom r bs .events ≡ streamEvents (r .limit) bs
 unfolding streamEvents heardFrom
 fresh-heard r [] e p = refl
 fresh-heard r (b ∷ bs) e p =

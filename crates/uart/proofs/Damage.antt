@@ -7,10 +7,10 @@ use native.Mathlib.Omega.{arith}
 use lib.Bits.{bitXor, xor-comm, xor-self, xor-zero-r, xor-lt}
 use lib.Pow.{pow-pos, pow-lt}
 use lib.Dec.{eqb, ltb}
-use lib.ListN.{length, getD, take, set, length-append, length-set}
-use lib.Seq.{take-set-le, take-set-lt, take-at, getD-at, getD-take, getD-set-same, getD-set-other, length-take-le}
+use lib.ListN.{length, getD, take, set, length-set}
+use lib.Seq.{take-set-le, take-set-lt, getD-take, getD-set-same, getD-set-other, length-take-le}
 use borrow.Author.Tests.{ltb-true, eqb-true, eqb-false, eq-eqb}
-use Rattle.dpa.specs.Lists.{Bytes, allBelow}
+use Rattle.dpa.specs.Lists.{Bytes, allBelow, fold}
 use Rattle.dpa.proofs.Bool.{all-below-elim, by-test}
 use Rattle.dpa.proofs.Bytes.{bytes-nil, bytes-cons, bytes-append, bytes-take}
 use Rattle.uart.specs.declared.receiver.Receiver.{Receiver}
@@ -20,6 +20,7 @@ use Rattle.uart.specs.Receiver.{receiverOk, Event, dropped, eventFor, by
 use Rattle.uart.specs.Stream.{Heard, wrongCheckByte, content, contentEvent, listed, heardFrom}
 use Rattle.uart.proofs.Xor.{xor-zero-same, xor-cancel}
 use Rattle.uart.proofs.CheckBytes.{shifts-linear}
+use Rattle.uart.proofs.Escapes.{with-check-length, with-check-right}
 use Rattle.uart.proofs.Contents.{cause-event}
 use Rattle.uart.proofs.RoundTrips.{between-heard}
 
@@ -56,7 +57,7 @@ crc-byte crc b h k = shifts-byte (bitXor crc b) (xor-lt 8 crc b h k)
 
 -- and so it is after any bytes
 crc-bytes : (bs : List ℕ) (crc : ℕ) → Bytes bs → crc < 256 → crcBytes crc bs < 256
-unfolding crcBytes
+unfolding fold
 crc-bytes [] crc bytes h = h
 crc-bytes (b ∷ bs) crc bytes h = crc-bytes bs (crcByte crc b) (λ i. bytes (suc i)) (crc-byte crc b h (bytes 0))
 
@@ -67,7 +68,7 @@ byte-same crc a b h ha hb e = xor-cancel crc a b (shifts-same (bitXor crc a) (bi
 
 -- and a different CRC stays different over the same bytes
 crc-same : (bs : List ℕ) (a b : ℕ) → Bytes bs → a < 256 → b < 256 → crcBytes a bs ≡ crcBytes b bs → a ≡ b
-unfolding crcBytes crcByte
+unfolding crcByte fold
 crc-same [] a b bytes ha hb e = e
 crc-same (x ∷ xs) a b bytes ha hb e =
     let h = bytes 0 in
@@ -77,7 +78,7 @@ crc-same (x ∷ xs) a b bytes ha hb e =
 
 -- one different byte makes the CRC different
 crc-changed : (bs : List ℕ) (crc i b : ℕ) → Bytes bs → crc < 256 → b < 256 → i < length bs → crcBytes crc (set bs i b) ≡ crcBytes crc bs → b ≡ getD bs i 0
-unfolding crcBytes
+unfolding fold
 crc-changed [] crc i b bytes h k l e = absurd (omega arith)
 crc-changed (x ∷ xs) crc zero b bytes h k l e =
     byte-same crc b x h k (bytes 0) (crc-same xs (crcByte crc b) (crcByte crc x) (λ i. bytes (suc i)) (crc-byte crc b h k) (crc-byte crc x h (bytes 0)) e)
@@ -110,13 +111,11 @@ module _ (r : Receiver) (m : List ℕ) (sound : receiverOk r ≡ true) (bytes : 
   unfolding eventFor
   damaged-byte i b h k new =
       let w = withCheckByte m in
-      let l : length w ≡ length m + 1 = length-append m (checkByte m ∷ []) in
+      let l : length w ≡ length m + 1 = with-check-length m in
       let l′ : length (set w i b) ≡ length m + 1 = length-set w i b ∙ l in
       let n : length (set w i b) - 1 ≡ length m = omega arith in
-      let right : checkByte (take (length m) w) ≡ getD w (length m) 0
-      = ap checkByte (take-at m (checkByte m ∷ []) (length m) refl) ∙ sym (getD-at m (checkByte m) [] 0 (length m) refl) in
       let wrong : checkByte (take (length (set w i b) - 1) (set w i b)) ≡ getD (set w i b) (length (set w i b) - 1) 0 → ⊥
-      = rw n (check-changed w (length m) i b l with-check-bytes k h new right) in
+      = rw n (check-changed w (length m) i b l with-check-bytes k h new (with-check-right m)) in
       let v : contentEvent (r .limit) (content (set w i b) false) ≡ dropped 4
       = cause-event (r .limit) (content (set w i b) false) 4 (wrongCheckByte refl (omega arith) refl (omega arith) wrong) (λ z. omega arith) in
       ap (λ (x : Heard). x .events) (between-heard r (set w i b) sound) ∙ ap (λ (x : Event). listed (byteEvent r flag) ++ listed x) v

@@ -1,17 +1,17 @@
--- Laws of escaped bytes.
+-- Laws of escaped bytes, of the loop that writes them, and of a framed message.
 use mathlib.Core.Path.{_≡_, refl, sym, ap, _∙_}
 use mathlib.Core.Bool.{true, false}
 use mathlib.Core.List.{List, [], _∷_, _++_, append-assoc, append-nil}
 use Prim.Native.Nat.{ℕ, _+_, _*_, _≤_, _<_}
 use native.Mathlib.Omega.{arith}
 use native.Mathlib.Numerals.{add-one}
-use lib.ListN.{length, getD, drop, set, length-append, drop-of-length-le}
-use lib.Seq.{drop-cons, sets, length-sets}
+use lib.ListN.{length, getD, take, drop, set, length-append, drop-of-length-le}
+use lib.Seq.{drop-cons, take-append-seam, getD-append-seam, sets, length-sets}
 use Rattle.dpa.specs.Lists.{overwriteFront}
 use Rattle.dpa.proofs.Bool.{by-cond}
 use Rattle.dpa.proofs.Lists.{sets-append, sets-front}
 use Rattle.uart.specs.CheckByte.{checkByte}
-use Rattle.uart.specs.Framing.{flag, escape, flipped, reserved, escaped, escapedAll, framed}
+use Rattle.uart.specs.Framing.{flag, escape, flipped, reserved, escaped, escapedAll, withCheckByte, framed}
 
 -- a reserved byte is written as two bytes
 pub escaped-reserved : (b : ℕ) → reserved b ≡ true → escaped b ≡ escape ∷ flipped b ∷ []
@@ -96,6 +96,18 @@ module _ {m old out : List ℕ} {at w i : ℕ} (u : Unwritten m old at out w i) 
       (omega (arith, ap length none, u .end), ap (sets out w) (sym none) ∙ u .bytes)
 
 -- ---- a framed message
+
+-- the check byte is one more byte
+pub with-check-length : (m : List ℕ) → length (withCheckByte m) ≡ length m + 1
+with-check-length m = length-append m (checkByte m ∷ [])
+
+-- the message in front of its check byte
+pub with-check-message : (m : List ℕ) → take (length m) (withCheckByte m) ≡ m
+with-check-message m = take-append-seam m (checkByte m ∷ [])
+
+-- the last byte is the check byte of those before it
+pub with-check-right : (m : List ℕ) → checkByte (take (length m) (withCheckByte m)) ≡ getD (withCheckByte m) (length m) 0
+with-check-right m = ap checkByte (with-check-message m) ∙ sym (getD-append-seam m (checkByte m) [] 0)
 
 module _ (m : List ℕ) (c : ℕ) (e : c ≡ checkByte m) where
   -- its parts: flag, message, check byte, flag

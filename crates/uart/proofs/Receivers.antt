@@ -1,4 +1,4 @@
--- Laws of the receiver rule: a receiver that keeps it still does after a byte, after a stream and after a call.
+-- Laws of the receiver rule: a receiver that keeps it still does after a byte and after a call.
 use mathlib.Core.Path.{_≡_, refl, sym, ap, _∙_}
 use mathlib.Core.List.{List, [], _∷_}
 use mathlib.Core.Bool.{Bool, true, false, cond, _&&_, _||_}

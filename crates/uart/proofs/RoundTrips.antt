@@ -1,5 +1,6 @@
--- A framed message has no flag inside and comes out of every receiver as it went in; one over the limit is dropped as too long.
-use mathlib.Core.Path.{_≡_, refl, sym, ap, _∙_}
+-- A framed message has no flag inside. From 6 bytes up to the limit it comes out of every sound receiver as it went in; over the limit it is
+-- dropped as too long.
+use mathlib.Core.Path.{_≡_, refl, ap, _∙_}
 use mathlib.Core.List.{List, [], _∷_, _++_, append-nil}
 use mathlib.Core.Bool.{Bool, true, false}
 use Prim.Native.Nat.{ℕ, zero, suc, _+_, _-_, _≤_, _<_}
@@ -7,15 +8,17 @@ use native.Mathlib.Omega.{arith}
 use borrow.Author.Tests.{ne-eqb, eqb-true, eqb-false}
 use lib.Dec.{eqb}
 use lib.ListN.{length, getD, take, length-append, List·getD-append}
-use lib.Seq.{take-all, take-at, take-append-le, getD-at, append-snoc}
-use Rattle.dpa.specs.Lists.{overwriteFront, All}
+use lib.Seq.{take-all, take-append-le, append-snoc}
+use Rattle.dpa.specs.Lists.{overwriteFront, All, fold}
 use Rattle.dpa.proofs.All.{all-append, all-at}
 use Rattle.dpa.proofs.Bool.{by-test}
+use Rattle.dpa.proofs.Lists.{fold-append}
 use Rattle.uart.specs.declared.receiver.Receiver.{Receiver}
 use Rattle.uart.specs.CheckByte.{checkByte}
 use Rattle.uart.specs.Framing.{flag, escape, flipped, reserved, escaped, escapedAll, withCheckByte, betweenFlags, framed, shortest}
 use Rattle.uart.specs.Receiver.{inFrame, receiverFrom, receiverOk, frame, dropped, eventFor, byteEvent}
 use Rattle.uart.specs.Stream.{Content, CauseOf, tooLong, good, content, nothingYet, addByte, addBytes, contentEvent, listed, heard, heardFrom}
+use Rattle.uart.proofs.Escapes.{with-check-length, with-check-message, with-check-right}
 use Rattle.uart.proofs.Receivers.{receiver-facts}
 use Rattle.uart.proofs.Streams.{heard-append}
 use Rattle.uart.proofs.Contents.{cause-event, holding, holding-flag, holding-event, ended-record, no-flag-heard}
@@ -51,15 +54,9 @@ framed-flags m (suc i) h k =
     let j : i < length inner = omega arith in
     rw (List·getD-append inner (flag ∷ []) 0 i j) (all-at (λ (b : ℕ). b ≡ flag → ⊥) inner 0 i (inner-no-flag (withCheckByte m)) j)
 
--- bytes added in two parts
-add-append : (t : Content) (xs ys : List ℕ) → addBytes t (xs ++ ys) ≡ addBytes (addBytes t xs) ys
-unfolding addBytes
-add-append t [] ys = refl
-add-append t (x ∷ xs) ys = add-append (addByte t x) xs ys
-
 -- an escaped byte adds the byte
 add-escaped : (bytes : List ℕ) (b : ℕ) → addBytes (content bytes false) (escaped b) ≡ content (bytes ++ (b ∷ [])) false
-unfolding addByte addBytes
+unfolding addByte fold
 add-escaped bytes b =
     escaped-cases (λ (x : ℕ) (e : List ℕ). addBytes (content bytes false) e ≡ content (bytes ++ (x ∷ [])) false) refl refl
     (λ x h k. rw (ne-eqb x escape k) refl)
@@ -67,10 +64,10 @@ add-escaped bytes b =
 
 -- an escaped message adds the message, after any bytes
 add-message : (m bytes : List ℕ) → addBytes (content bytes false) (escapedAll m) ≡ content (bytes ++ m) false
-unfolding escapedAll addBytes
+unfolding escapedAll fold
 add-message [] bytes = rw append-nil refl
 add-message (b ∷ bs) bytes =
-    add-append (content bytes false) (escaped b) (escapedAll bs)
+    fold-append addByte (content bytes false) (escaped b) (escapedAll bs)
     ∙ ap (λ (t : Content). addBytes t (escapedAll bs)) (add-escaped bytes b)
     ∙ add-message bs (bytes ++ (b ∷ []))
     ∙ ap (λ (xs : List ℕ). content xs false) (append-snoc bytes b bs)
@@ -95,21 +92,16 @@ between-heard r bytes e =
     refl
 
 module _ (r : Receiver) (m : List ℕ) (e : receiverOk r ≡ true) where
-  -- the check byte is one more byte
-  with-check : length (withCheckByte m) ≡ length m + 1
-  with-check = length-append m (checkByte m ∷ [])
-
   -- a message of 6 bytes up to the limit comes out as it went in
   pub round-trip : shortest ≤ length m → length m ≤ r .limit
       → heardFrom r (framed m) ≡ heard (listed (byteEvent r flag) ++ (frame m ∷ [])) (receiverFrom (r .limit) inFrame 0 (overwriteFront (withCheckByte m) (r .bytes)))
   unfolding eventFor
   round-trip h k =
-      let n = with-check in
-      let z : length m ≡ length (withCheckByte m) - 1 = omega arith in
-      let t = take-at m (checkByte m ∷ []) (length (withCheckByte m) - 1) z in
-      let g = getD-at m (checkByte m) [] 0 (length (withCheckByte m) - 1) z in
-      let c : CauseOf (r .limit) (content (withCheckByte m) false) 0 = good refl (omega arith) refl (omega arith) (ap checkByte t ∙ sym g) in
-      let v : contentEvent (r .limit) (content (withCheckByte m) false) ≡ frame m = cause-event (r .limit) _ 0 c (λ e. omega arith) ∙ ap frame t in
+      let n = with-check-length m in
+      let z : length (withCheckByte m) - 1 ≡ length m = omega arith in
+      let c : CauseOf (r .limit) (content (withCheckByte m) false) 0 = good refl (omega arith) refl (omega arith) (rw z (with-check-right m)) in
+      let v : contentEvent (r .limit) (content (withCheckByte m) false) ≡ frame m
+      = cause-event (r .limit) _ 0 c (λ e. omega arith) ∙ ap frame (rw z (with-check-message m)) in
       between-heard r (withCheckByte m) e ∙ rw (v, take-all (r .limit + 1) (withCheckByte m) (omega arith)) refl
 
   -- a message over the limit is dropped as too long
@@ -117,6 +109,6 @@ module _ (r : Receiver) (m : List ℕ) (e : receiverOk r ≡ true) where
       → heardFrom r (framed m) ≡ heard (listed (byteEvent r flag) ++ (dropped 1 ∷ [])) (receiverFrom (r .limit) inFrame 0 (overwriteFront (take (r .limit + 1) m) (r .bytes)))
   unfolding eventFor
   over-limit h =
-      let n = with-check in
+      let n = with-check-length m in
       let v : contentEvent (r .limit) (content (withCheckByte m) false) ≡ dropped 1 = cause-event (r .limit) _ 1 (tooLong refl (omega arith)) (λ e. omega arith) in
       between-heard r (withCheckByte m) e ∙ rw (v, take-append-le (r .limit + 1) m (checkByte m ∷ []) (omega arith)) refl

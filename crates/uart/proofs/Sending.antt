@@ -7,7 +7,7 @@ use lib.Dec.{ltb, leb}
 use lib.ListN.{length, drop}
 use lib.Seq.{drop-append-seam}
 use borrow.Author.Tests.{lt-ltb, le-ltb}
-use Rattle.dpa.specs.Answer.{LengthResult, resultInBuffer}
+use Rattle.dpa.specs.Answer.{LengthResult, RefusedKeeps, resultInBuffer}
 use Rattle.dpa.specs.Lists.{overwriteFront}
 use Rattle.dpa.proofs.Bool.{by-cond}
 use Rattle.uart.specs.Framing.{framed, shortest, longest, frameOf}
@@ -37,15 +37,12 @@ module _ (m o : List ℕ) where
       framed-answered e k o′ ek eo = rw (ek, eo, le-ltb (length m) shortest long-enough, le-ltb longest (length m) short-enough, e)
 
   -- a refused call answers length 0 and leaves the buffer unchanged
-  pub refused-frame : (frameOf m o .refusal ≡ 0 → ⊥) → (frameOf m o .length ≡ 0) × (frameOf m o .out ≡ o)
+  pub refused-frame : RefusedKeeps o (frameOf m o)
   unfolding frameOf
   refused-frame =
-      by-cond Kept (ltb (length m) shortest) _ _ (λ e z. (refl, refl)) λ e.
-      by-cond Kept (ltb longest (length m)) _ _ (λ l z. (refl, refl)) λ l.
-      by-cond Kept (leb (length (framed m)) (length o)) _ _ (λ f z. absurd (z refl)) (λ f z. (refl, refl))
-    where
-      Kept : LengthResult → Type 0
-      Kept c = (c .refusal ≡ 0 → ⊥) → (c .length ≡ 0) × (c .out ≡ o)
+      by-cond (RefusedKeeps o) (ltb (length m) shortest) _ _ (λ e z. (refl, refl)) λ e.
+      by-cond (RefusedKeeps o) (ltb longest (length m)) _ _ (λ l z. (refl, refl)) λ l.
+      by-cond (RefusedKeeps o) (leb (length (framed m)) (length o)) _ _ (λ f z. absurd (z refl)) (λ f z. (refl, refl))
 
   -- bytes after the framed message are unchanged, refused or not
   pub later-bytes-kept : drop (frameOf m o .length) (frameOf m o .out) ≡ drop (frameOf m o .length) o

@@ -1,7 +1,7 @@
 -- How a stream is cut into parts does not matter, and what each call of `receive` takes and answers.
 use mathlib.Core.Path.{_≡_, refl, sym, ap, subst}
-use mathlib.Core.List.{List, [], _∷_, _++_, append-assoc}
-use mathlib.Core.Bool.{Bool, true, false, _&&_}
+use mathlib.Core.List.{List, [], _∷_, _++_, append-assoc, flatten}
+use mathlib.Core.Bool.{Bool, true, _&&_}
 use Prim.Native.Nat.{ℕ, zero, suc, _+_, _-_, _≤_}
 use native.Mathlib.Omega.{arith}
 use borrow.Author.Tests.{ne-eqb, ltb-false}
@@ -13,7 +13,7 @@ use Rattle.uart.specs.declared.receiver.Receiver.{Receiver}
 use Rattle.uart.specs.CheckByte.{checkByte}
 use Rattle.uart.specs.Framing.{flag, shortest, longest}
 use Rattle.uart.specs.Receiver.{afterEscape, receiverOk, dropCause, eventFor, frameEvent, begun, Event, none, frame, dropped, byteEvent, nextReceiver, Received, isNone, receiveFrom, eventAnswer, receivedAnswer, receiveOf}
-use Rattle.uart.specs.Stream.{listed, heardBefore, heardFrom, answerEvent, heardByCalls, heardByParts, joined}
+use Rattle.uart.specs.Stream.{listed, heardBefore, heardFrom, answerEvent, heardByCalls, heardByParts}
 use Rattle.uart.proofs.Receivers.{limit-range, receiver-facts, next-limit, next-sound, receive-sound, call-answer, answer-fields}
 
 -- ---- bytes up to the first event
@@ -151,10 +151,10 @@ calls-heard (suc n) r (b ∷ bs) h e =
     rw (ne-eqb (suc (length bs)) 0 (λ z. omega arith), call-answer r (b ∷ bs) e, answer-event x, z .0, z .1, calls-heard n (x .receiver) left fewer (receive-sound r (b ∷ bs) e))
     (sym (receive-heard r (b ∷ bs)))
 
--- a stream in parts is heard as the whole stream is
-pub cut : (r : Receiver) (parts : List (List ℕ)) → receiverOk r ≡ true → heardByParts r parts ≡ heardFrom r (joined parts)
-unfolding heardByParts joined heardFrom
-cut r [] e = refl
-cut r (p ∷ ps) e =
-    rw (calls-heard (length p) r p (omega arith) e, cut (heardFrom r p .receiver) ps (heard-sound r p e))
-    (sym (heard-append r p (joined ps)))
+-- a stream in parts is heard as the joined stream is
+pub parts-heard : (r : Receiver) (parts : List (List ℕ)) → receiverOk r ≡ true → heardByParts r parts ≡ heardFrom r (flatten parts)
+unfolding heardByParts flatten heardFrom
+parts-heard r [] e = refl
+parts-heard r (p ∷ ps) e =
+    rw (calls-heard (length p) r p (omega arith) e, parts-heard (heardFrom r p .receiver) ps (heard-sound r p e))
+    (sym (heard-append r p (flatten ps)))

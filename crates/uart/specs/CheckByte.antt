@@ -1,9 +1,10 @@
 -- Document 000, 2.3.2: the check byte, a 1-Wire CRC that starts from FF hex.
 use Prim.Native.Nat.{ℕ, zero, suc, _/_, _%_}
-use mathlib.Core.List.{List, [], _∷_}
+use mathlib.Core.List.{List}
 use mathlib.Core.Bool.{cond}
 use lib.Dec.{eqb}
 use lib.Bits.{bitXor}
+use Rattle.dpa.specs.Lists.{fold}
 
 -- the polynomial x^8 + x^5 + x^4 + 1 without x^8, bit 7 for x^0 and bit 0 for x^7
 abbrev pub polynomial : ℕ
@@ -27,9 +28,9 @@ unfoldable pub crcByte : ℕ → ℕ → ℕ
 crcByte crc byte = shifts 8 (bitXor crc byte)
 
 -- all bytes of a list, in order
-unfoldable pub crcBytes : ℕ → List ℕ → ℕ
-crcBytes crc [] = crc
-crcBytes crc (b ∷ bs) = crcBytes (crcByte crc b) bs
+abbrev pub crcBytes : ℕ → List ℕ → ℕ
+crcBytes crc bytes = fold crcByte crc bytes
 
+-- the check byte of a message
 abbrev pub checkByte : List ℕ → ℕ
 checkByte bytes = crcBytes initialCrc bytes

@@ -56,7 +56,7 @@ shortest = 6
 abbrev pub longest : ℕ
 longest = 64
 
--- `frame`: a message of less than 6 or more than 64 bytes: 2; a buffer that the framed message does not fit: 11
+-- `frame`: a message of fewer than 6 or more than 64 bytes: 2; a buffer that the framed message does not fit: 11
 unfoldable pub frameOf : List ℕ → List ℕ → LengthResult
 frameOf m o =
     cond (ltb (length m) shortest) (resultInBuffer 2 [] o)

@@ -12,7 +12,7 @@ unfoldable pub tableFrom : (ℕ → ℕ) → ℕ → ℕ → List ℕ
 tableFrom f i zero = []
 tableFrom f i (suc n) = f i ∷ tableFrom f (suc i) n
 
--- entry k: for each number of bytes that follow, the low digits, then the high ones
+-- entry k: what is left of digit k % 16, low if k / 16 is even, else high, when its byte and the k / 32 bytes after it are shifted out
 abbrev pub shiftEntry : ℕ → ℕ
 shiftEntry k = shifts (8 * (k / 32 + 1)) (k % 16 * 16 ^ (k / 16 % 2))
 

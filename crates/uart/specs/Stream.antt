@@ -6,6 +6,7 @@ use mathlib.Core.List.{List, [], _∷_, _++_}
 use mathlib.Core.Bool.{Bool, true, false, cond, _&&_, not}
 use lib.ListN.{length, getD, take, drop}
 use lib.Dec.{eqb}
+use Rattle.dpa.specs.Lists.{fold}
 use Rattle.uart.specs.declared.receiver.Receiver.{Receiver}
 use Rattle.uart.specs.declared.receiver.ReceiveAnswer.{ReceiveAnswer}
 use Rattle.uart.specs.CheckByte.{checkByte}
@@ -33,9 +34,8 @@ addByte t b =
     (content (t .bytes ++ (b ∷ [])) false))
 
 -- all bytes of a list
-unfoldable pub addBytes : Content → List ℕ → Content
-addBytes t [] = t
-addBytes t (b ∷ bs) = addBytes (addByte t b) bs
+abbrev pub addBytes : Content → List ℕ → Content
+addBytes t bytes = fold addByte t bytes
 
 -- what the flag after a content ends; one with no byte at all is skipped
 unfoldable pub contentEvent : ℕ → Content → Event
@@ -43,7 +43,7 @@ contentEvent limit t =
     cond (not (t .cut) && eqb (length (t .bytes)) 0) none
     (frameEvent limit (length (t .bytes)) (t .cut) (t .bytes))
 
--- what cause k says about the content of a frame, 0 for a good one; bytes are counted with the check byte
+-- what cause k says about the content of a frame, 0 for a good one; bytes are counted with the check byte (an empty content is no frame)
 pub data CauseOf (limit : ℕ) (t : Content) (k : ℕ) : Type 0 where
   tooLong : k ≡ 1 → limit + 1 < length (t .bytes) → CauseOf limit t k
   cutAfterEscape : k ≡ 2 → length (t .bytes) ≤ limit + 1 → t .cut ≡ true → CauseOf limit t k
@@ -113,8 +113,3 @@ unfoldable pub heardByParts : Receiver → List (List ℕ) → Heard
 heardByParts r [] = heard [] r
 heardByParts r (p ∷ ps) =
     heardBefore (heardByCalls (length p) r p .events) (heardByParts (heardByCalls (length p) r p .receiver) ps)
-
--- parts joined into one stream
-unfoldable pub joined : List (List ℕ) → List ℕ
-joined [] = []
-joined (p ∷ ps) = p ++ joined ps

@@ -8,7 +8,7 @@ ghost use Rattle.uart.specs.ShiftTable.{blockLength, shiftTable};
 
 const INITIAL_CRC: u8 = 0xFF;
 
-// Bytes that are added at once. They do not wait for each other, as they do one by one.
+// Bytes of a block. Their lookups do not wait for each other.
 const BLOCK: usize = 4;
 
 // What is left of a hexadecimal digit when its byte and n more are shifted out. For each n from 0 on: of the low digits 0 to F, then of the

@@ -1,6 +1,5 @@
 // Framing: a message between two flags, with its check byte.
 use crate::check_byte::check_byte;
-use crate::receiver::LONGEST;
 use dpa::answer::LengthAnswer;
 use dpa::refusal;
 ghost use mathlib.Core.Path.{_≡_};
@@ -21,8 +20,10 @@ pub const ESCAPE: u8 = 0x7D;
 
 const ESCAPE_BIT: u8 = 0x20;
 
-// The shortest message, without its check byte.
+// The shortest and the longest message, in bytes without the check byte.
 pub const SHORTEST: usize = 6;
+
+pub const LONGEST: usize = 64;
 
 pub fn flipped(byte: u8) -> u8
     ensures { λ r. ⌜ r ≡ flipped byte ⌝ }

@@ -2,6 +2,7 @@
 use crate::check_byte::check_byte;
 use crate::framing::ESCAPE;
 use crate::framing::FLAG;
+use crate::framing::LONGEST;
 use crate::framing::SHORTEST;
 use crate::framing::flipped;
 use crate::receiver::AFTER_ESCAPE;
@@ -10,10 +11,10 @@ use crate::receiver::EVENT_DROPPED;
 use crate::receiver::EVENT_FRAME;
 use crate::receiver::EVENT_NONE;
 use crate::receiver::IN_FRAME;
-use crate::receiver::LONGEST;
 use crate::receiver::PLACES;
 use crate::receiver::ReceiveAnswer;
 use crate::receiver::Receiver;
+use crate::receiver::receiver_from;
 use crate::receiver::receiver_ok;
 use dpa::number::wide;
 use dpa::refusal;
@@ -34,7 +35,7 @@ const SHORT: u8 = 3;
 
 const CHECK_BYTE: u8 = 4;
 
-const GOOD: u8 = 0;
+const NO_CAUSE: u8 = 0;
 
 // Whether an escape or a byte came since the last flag.
 fn begun(phase: u8, count: u8) -> bool
@@ -84,7 +85,7 @@ fn no_frame(refusal: u8, event: u8, cause: u8, taken: usize, receiver: Receiver)
     }
 }
 
-// Why the frame that a flag ends is dropped.
+// Why the frame that a flag ends is dropped; no cause for a good one.
 fn drop_cause(limit: u8, count: u8, cut: bool, bytes: &[u8]) -> u8
     requires { ⌜ (limit ≤ longest) × (length (now bytes) ≡ placeCount) ⌝ }
     ensures { λ r. ⌜ r ≡ dropCause limit count cut (now (bytes .entry)) ⌝ }
@@ -102,7 +103,7 @@ fn drop_cause(limit: u8, count: u8, cut: bool, bytes: &[u8]) -> u8
     if check_byte(&bytes[..last]) != bytes[last] {
         return CHECK_BYTE;
     }
-    GOOD
+    NO_CAUSE
 }
 
 // The answer at a flag that ends a frame.
@@ -111,13 +112,8 @@ fn end_frame(limit: u8, phase: u8, count: u8, bytes: [u8; PLACES], taken: usize)
     ensures { λ r. ⌜ r ≡ eventAnswer (frameEvent limit count (eqb phase afterEscape) bytes) taken (receiverFrom limit inFrame 0 bytes) ⌝ }
 {
     let cause = drop_cause(limit, count, phase == AFTER_ESCAPE, &bytes);
-    let receiver = Receiver {
-        limit,
-        phase: IN_FRAME,
-        count: 0,
-        bytes,
-    };
-    if cause != GOOD {
+    let receiver = receiver_from(limit, IN_FRAME, 0, bytes);
+    if cause != NO_CAUSE {
         return no_frame(refusal::NONE, EVENT_DROPPED, cause, taken, receiver);
     }
     let size = wide(count) - 1;
@@ -126,7 +122,7 @@ fn end_frame(limit: u8, phase: u8, count: u8, bytes: [u8; PLACES], taken: usize)
     ReceiveAnswer {
         refusal: refusal::NONE,
         event: EVENT_FRAME,
-        cause: GOOD,
+        cause: NO_CAUSE,
         taken,
         length: size,
         frame,
@@ -139,7 +135,7 @@ pub fn receive(receiver: Receiver, bytes: &[u8]) -> ReceiveAnswer
     ensures { λ r. ⌜ r ≡ receiveOf receiver (now (bytes .entry)) ⌝ }
 {
     if !receiver_ok(receiver) {
-        return no_frame(refusal::NODE, EVENT_NONE, GOOD, 0, receiver);
+        return no_frame(refusal::NODE, EVENT_NONE, NO_CAUSE, 0, receiver);
     }
     let limit = receiver.limit;
     let mut phase = receiver.phase;
@@ -172,11 +168,6 @@ pub fn receive(receiver: Receiver, bytes: &[u8]) -> ReceiveAnswer
         phase = IN_FRAME;
         count = count + 1;
     }
-    let after = Receiver {
-        limit,
-        phase,
-        count,
-        bytes: held,
-    };
-    no_frame(refusal::NONE, EVENT_NONE, GOOD, i, after)
+    let after = receiver_from(limit, phase, count, held);
+    no_frame(refusal::NONE, EVENT_NONE, NO_CAUSE, i, after)
 }

@@ -1,15 +1,14 @@
 // The record of a receiver, its rule, and the answer to a call.
+use crate::framing::LONGEST;
 ghost use mathlib.Core.Path.{_≡_};
-ghost use Rattle.uart.specs.Receiver.{newReceiver, limitOk, receiverOk};
+ghost use Rattle.uart.specs.Receiver.{receiverFrom, newReceiver, limitOk, receiverOk};
 
 // The longest message, without its check byte: at a gateway, which gets responses, and at a node, which gets requests.
 pub const GATEWAY_LIMIT: u8 = 64;
 
 pub const NODE_LIMIT: u8 = 62;
 
-// The longest message as an array length, and the places of a record: one more, for the check byte.
-pub const LONGEST: usize = 64;
-
+// The places of a record: one more than the longest message has bytes, for the check byte.
 pub const PLACES: usize = LONGEST + 1;
 
 // Phases of a receiver: before the first flag, in a frame, after an escape.
@@ -19,8 +18,8 @@ pub const IN_FRAME: u8 = 1;
 
 pub const AFTER_ESCAPE: u8 = 2;
 
-// Counts the bytes of the frame that is under way, with its check byte; the count stops at limit + 2. Byte k is in bytes[k] if k is at most
-// the limit.
+// The count is of the bytes of the frame that is under way, with its check byte; it stops at limit + 2. Byte k is in bytes[k] if k is at
+// most the limit.
 #[repr(C)]
 pub struct Receiver {
     pub limit: u8,
@@ -48,25 +47,26 @@ pub struct ReceiveAnswer {
     pub receiver: Receiver,
 }
 
+pub fn receiver_from(limit: u8, phase: u8, count: u8, bytes: [u8; PLACES]) -> Receiver
+    ensures { λ r. ⌜ r ≡ receiverFrom limit phase count bytes ⌝ }
+{
+    Receiver {
+        limit,
+        phase,
+        count,
+        bytes,
+    }
+}
+
 // A receiver that waits for its first flag.
 pub fn new_receiver(gateway: bool) -> Receiver
     ensures { λ r. ⌜ r ≡ newReceiver gateway ⌝ }
 {
     let bytes = [0; PLACES];
     if gateway {
-        return Receiver {
-            limit: GATEWAY_LIMIT,
-            phase: BEFORE_FLAG,
-            count: 0,
-            bytes,
-        };
+        return receiver_from(GATEWAY_LIMIT, BEFORE_FLAG, 0, bytes);
     }
-    Receiver {
-        limit: NODE_LIMIT,
-        phase: BEFORE_FLAG,
-        count: 0,
-        bytes,
-    }
+    receiver_from(NODE_LIMIT, BEFORE_FLAG, 0, bytes)
 }
 
 fn limit_ok(limit: u8) -> bool

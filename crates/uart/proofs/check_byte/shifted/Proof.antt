@@ -1,10 +1,8 @@
 -- `check_byte::shifted` meets its contract.
-use Prim.Native.Nat.{_<_}
 use mathlib.Core.Path.{_≡_, ap, _∙_}
 use native.Mathlib.Omega.{arith}
-use lib.ListN.{length, getD}
+use lib.ListN.{length}
 use borrow.Author.Needs.{needs}
-use Rattle.uart.specs.ShiftTable.{tableFrom, shiftTable}
 use Rattle.uart.proofs.CheckBytes.{table-digits, table-length}
 use Rattle.uart.proofs.check_byte.shifted.Statement.{statement}
 use Rattle.uart.proofs.check_byte.shifted.Tie as tie

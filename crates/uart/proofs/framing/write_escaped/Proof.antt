@@ -1,12 +1,11 @@
 -- `framing::write_escaped` meets its contract.
-use Prim.Native.Nat.{_+_}
 use mathlib.Core.Bool.{true, false}
 use mathlib.Core.Path.{_≡_, refl, sym, ap, _∙_}
 use native.Mathlib.Numerals.{add-one}
 use native.Mathlib.Omega.{arith}
 use lib.ListN.{length, length-set}
 use borrow.Author.Needs.{needs}
-use Rattle.uart.specs.Framing.{reserved, escaped}
+use Rattle.uart.specs.Framing.{reserved}
 use Rattle.uart.proofs.Escapes.{escaped-reserved, escaped-plain}
 use Rattle.uart.proofs.framing.write_escaped.Statement.{statement}
 use Rattle.uart.proofs.framing.write_escaped.Tie as tie

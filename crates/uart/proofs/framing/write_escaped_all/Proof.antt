@@ -2,7 +2,6 @@
 use Prim.Native.Nat.{_-_}
 use native.Mathlib.Omega.{arith}
 use lib.ListN.{length}
-use borrow.Author.Needs.{needs}
 use Rattle.uart.proofs.Escapes.{Unwritten, write-start, write-room, write-next, write-end}
 use Rattle.uart.proofs.framing.write_escaped_all.Statement.{statement}
 use Rattle.uart.proofs.framing.write_escaped_all.Tie as tie

@@ -3,7 +3,6 @@ use Prim.Native.Nat.{_+_, _≤_}
 use mathlib.Core.Path.{_≡_, _∙_}
 use native.Mathlib.Omega.{arith}
 use lib.ListN.{length, length-set}
-use borrow.Author.Needs.{needs}
 use Rattle.uart.specs.Framing.{escaped, escapedAll}
 use Rattle.uart.proofs.Escapes.{framed-length, framed-written}
 use Rattle.uart.proofs.framing.write_framed.Statement.{statement}

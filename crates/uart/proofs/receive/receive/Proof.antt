@@ -1,13 +1,13 @@
 -- `receive::receive` meets its contract: proofs/Receiving has the invariant and a law for each way through the loop's body.
 use Prim.Native.Nat.{_-_, _≤_}
 use mathlib.Core.Bool.{true}
-use mathlib.Core.Path.{_≡_, sym, ap, _∙_}
+use mathlib.Core.Path.{_≡_, sym, _∙_}
 use native.Mathlib.Omega.{arith}
 use lib.ListN.{length}
 use borrow.Author.Tests.{not-true, not-false}
 use borrow.Author.Needs.{needs}
 use Rattle.uart.specs.Framing.{longest}
-use Rattle.uart.specs.Receiver.{inFrame, receiverFrom, receiverOk, ReceiverRule}
+use Rattle.uart.specs.Receiver.{receiverFrom, receiverOk}
 use Rattle.uart.proofs.Causes.{event-some}
 use Rattle.uart.proofs.Receivers.{limit-range, refused-call}
 use Rattle.uart.proofs.Receiving.{no-flag-event, idle-event, flag-event, next-flag, idle-flag, next-before, next-escape, next-counted, next-stored, Taken, taken-none, taken-next, taken-event, taken-all}
@@ -97,12 +97,13 @@ loop-again-5 c =
 
 returns-3 : tie.Need-returns-3 Inv-loop μ-loop
 returns-3 c =
-    let loop = c .before .before in
-    c .no-frame2 .ensures ∙ taken-all (loop .loop .inv) (c .before .loop-test .left) (sound (loop .before .before))
+    let made = c .before in
+    let loop = made .before .before in
+    rw (c .no-frame2 .ensures, made .receiver-from .ensures) (taken-all (loop .loop .inv) (made .before .loop-test .left) (sound (loop .before .before)))
 
 pub receive-spec : {M : Type 1} → statement M
 receive-spec =
     tie.close (tie.spec Inv-loop μ-loop (λ c κs. search needs) (λ c κs. search needs) returns loop-holds (λ c. omega arith) (λ c. omega arith) (λ c κs. search needs)
     end-frame-requires returns-2 (λ c. omega arith) loop-again (λ c. omega arith) loop-again-2 (λ c κs. search needs) (λ c. omega arith) loop-again-3
     add-count (λ c. omega arith) loop-again-4 (λ c κs. search needs) (λ c κs. search needs) array-write-held add-count-2 (λ c. omega arith) loop-again-5
-    (λ c κs. search needs) returns-3)
+    (λ c κs. search needs) (λ c κs. search needs) returns-3)
