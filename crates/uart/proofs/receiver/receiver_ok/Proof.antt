@@ -1,7 +1,7 @@
 -- `receiver::receiver_ok` meets its contract. An array of the code has its 65 places.
 use Prim.Native.Nat.{_+_}
-use mathlib.Core.Bool.{true}
-use mathlib.Core.Path.{_≡_, sym, _∙_}
+use mathlib.Core.Bool.{Bool, true, cond}
+use mathlib.Core.Path.{_≡_, sym, ap, _∙_}
 use native.Mathlib.Omega.{arith}
 use lib.Dec.{eqb}
 use lib.ListN.{length, length-map}
@@ -40,35 +40,30 @@ returns-3 c =
     let r = limited .before .before .args .receiver in
     rw (places (limited .before .before), limit-valid limited, le-leb (r .phase) afterEscape (phased .if2 .left), lt-leb (r .count) (r .limit + 2) (c .if3 .taken))
 
-returns-4 : tie.Need-returns-4
+-- what is left to test
+last-test : (c : tie.Else3) → let r = c .before .before .before .before .before .before .before .args .receiver in
+    receiverOk r ≡ cond (eqb (r .phase) beforeFlag) (eqb (r .count) 0) true
 unfolding receiverOk
-returns-4 c =
-    let counted = c .before .before .before in
-    let phased = counted .before .before .before in
+last-test c =
+    let phased = c .before .before .before in
     let limited = phased .before .before in
     let r = limited .before .before .args .receiver in
     rw (
       places (limited .before .before),
       limit-valid limited,
       le-leb (r .phase) afterEscape (phased .if2 .left),
-      le-leb (r .count) (r .limit + 2) (counted .if3 .left),
-      eq-eqb (r .phase) beforeFlag (c .before .if4 .taken),
+      le-leb (r .count) (r .limit + 2) (c .if3 .left),
     )
 
+returns-4 : tie.Need-returns-4
+returns-4 c =
+    let r = c .before .before .before .before .before .before .before .before .before .before .args .receiver in
+    sym (last-test (c .before .before .before) ∙ ap (λ (t : Bool). cond t (eqb (r .count) 0) true) (eq-eqb (r .phase) beforeFlag (c .before .if4 .taken)))
+
 returns-5 : tie.Need-returns-5
-unfolding receiverOk
 returns-5 c =
-    let counted = c .before .before in
-    let phased = counted .before .before .before in
-    let limited = phased .before .before in
-    let r = limited .before .before .args .receiver in
-    rw (
-      places (limited .before .before),
-      limit-valid limited,
-      le-leb (r .phase) afterEscape (phased .if2 .left),
-      le-leb (r .count) (r .limit + 2) (counted .if3 .left),
-      ne-eqb (r .phase) beforeFlag (c .if4 .left),
-    )
+    let r = c .before .before .before .before .before .before .before .before .before .args .receiver in
+    sym (last-test (c .before .before) ∙ ap (λ (t : Bool). cond t (eqb (r .count) 0) true) (ne-eqb (r .phase) beforeFlag (c .if4 .left)))
 
 pub receiver-ok-spec : {M : Type 1} → statement M
 receiver-ok-spec = tie.close (tie.spec (λ c κs. search needs) returns returns-2 add-if3 returns-3 returns-4 returns-5)
