@@ -144,7 +144,7 @@ typedef struct grelfint_compile_answer {
  * it between calls and need not look inside. */
 typedef struct grelfint_receiver {
     uint8_t limit; /* the longest message: 64 at a gateway, 62 at a node */
-    uint8_t phase; /* 0 before the first flag, 1 in a frame, 2 after an escape */
+    uint8_t phase; /* 0 before the first flag, 1 in a frame, 2 after escape */
     uint8_t count; /* bytes of this frame so far, with its check byte; it stops
                     * at limit + 2 */
     uint8_t bytes[GRELFINT_UART_FRAME + 1]; /* byte k of the frame is bytes[k],
