@@ -1,7 +1,8 @@
-//! The serial line's rules tuned for speed, without allocation, behind the C
+//! The serial line's rules tuned for speed, without allocation, with the C
 //! boundary of include/grelfint.h: the benchmark's second yardstick, after
 //! plain_uart.rs. `serial.rs` compares it with the reference.
 use super::ffi::{LengthAnswer, ReceiveAnswer, Receiver};
+use super::plain_uart::sound;
 use std::slice::{from_raw_parts, from_raw_parts_mut};
 
 const FLAG: u8 = 0x7E;
@@ -71,16 +72,6 @@ fn has_special(block: &[u8; BLOCK]) -> bool {
 }
 
 // ---- receiver ----
-#[inline(never)]
-pub extern "C" fn receiver(gateway: bool) -> Receiver {
-    Receiver { limit: if gateway { 64 } else { 62 }, phase: 0, count: 0, bytes: [0; 65] }
-}
-
-#[inline]
-fn sound(r: &Receiver) -> bool {
-    matches!(r.limit, 62 | 64) && r.phase <= 2 && r.count <= r.limit + 2 && (r.phase != 0 || r.count == 0)
-}
-
 /// # Safety
 /// The pointer and the length are a slice.
 #[inline(never)]

@@ -1,5 +1,5 @@
 //! The serial line's rules in ordinary Rust without allocation: byte by byte,
-//! with one table for the check byte, behind the C boundary of
+//! with one table for the check byte, and with the C boundary of
 //! include/grelfint.h. It is the benchmark's yardstick beside fast_uart.rs, which
 //! is tuned for speed. `serial.rs` compares it with the reference.
 use super::ffi::{LengthAnswer, ReceiveAnswer, Receiver};
@@ -41,7 +41,8 @@ pub extern "C" fn receiver(gateway: bool) -> Receiver {
     Receiver { limit: if gateway { 64 } else { 62 }, phase: 0, count: 0, bytes: [0; 65] }
 }
 
-fn sound(r: &Receiver) -> bool {
+#[inline]
+pub fn sound(r: &Receiver) -> bool {
     matches!(r.limit, 62 | 64) && r.phase <= 2 && r.count <= r.limit + 2 && (r.phase != 0 || r.count == 0)
 }
 

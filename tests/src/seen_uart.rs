@@ -1,5 +1,5 @@
 //! Counts of what the calls of the serial line did, to detect random inputs that
-//! miss a case. What a call did is told from its inputs and the reference.
+//! miss a case. What a call did follows from its inputs and the reference.
 use crate::ffi::{ReceiveAnswer, Receiver};
 use crate::random_uart::LIMITS;
 use crate::reference_uart::{check_byte, framed, Piece, Stream, ESCAPE, ESCAPE_BIT, FLAG, LONGEST, SHORTEST};

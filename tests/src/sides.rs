@@ -71,3 +71,14 @@ pub const FAST: Side = Side {
 
 /// Requests only; all other calls are the reference's.
 pub const IN_PLACE: Side = Side { name: "in place", handle_request: in_place::handle_request, ..REFERENCE };
+
+/// Makes each example a test of every side, in a module for each.
+#[macro_export]
+macro_rules! on_every_side {
+    ([$($module:ident: $side:ident,)*] $examples:tt) => { $($crate::on_every_side! { @ $module $side $examples })* };
+    (@ $module:ident $side:ident [$($example:ident,)*]) => {
+        mod $module {
+            $(#[test] fn $example() { super::$example(super::$side) })*
+        }
+    };
+}

@@ -31,7 +31,7 @@ pub const PLAIN: Side = Side {
 
 pub const FAST: Side = Side {
     name: "fast",
-    receiver: |gateway| fast_uart::receiver(gateway),
+    receiver: |gateway| plain_uart::receiver(gateway),
     receive: |receiver, bytes| uart_receive_by(fast_uart::receive, receiver, bytes),
     frame: |message, out| uart_frame_by(fast_uart::frame, message, out),
 };

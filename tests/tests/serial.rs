@@ -3,13 +3,14 @@
 //! the guide's (000, 2.3.2) and one or more for each point of the rules. Then
 //! random calls of the library and of both implementations, compared with the
 //! reference call by call: the whole answer with the record, and whole buffers
-//! with the guard bytes after them. Whatever the cuts, the frames and drops of
+//! with the guard bytes after them. For all cuts, the frames and drops of
 //! all calls, and the last record, are those of the whole stream, which the
 //! reference also reads without a receiver.
 //! Each test prints its seed; `GRELFINT_SEED` sets another. A failure prints all
 //! inputs.
 use grelfint_tests::buffers::{difference, hex, Input};
 use grelfint_tests::ffi::{LengthAnswer, ReceiveAnswer, Receiver};
+use grelfint_tests::on_every_side;
 use grelfint_tests::random::GUARD;
 use grelfint_tests::random_uart::{self as random, LIMITS};
 use grelfint_tests::reference_uart::{
@@ -20,25 +21,7 @@ use grelfint_tests::rng::{seed, Rng};
 use grelfint_tests::seen_uart::{Escaped, Frame, Received, Record, Seen, Sent};
 use grelfint_tests::sides_uart::{Side, FAST, LIBRARY, PLAIN, REFERENCE};
 
-/// Makes each example a test of every side.
-macro_rules! on_every_side {
-    ($($example:ident,)*) => {
-        mod on_library {
-            $(#[test] fn $example() { super::$example(super::LIBRARY) })*
-        }
-        mod on_reference {
-            $(#[test] fn $example() { super::$example(super::REFERENCE) })*
-        }
-        mod on_plain {
-            $(#[test] fn $example() { super::$example(super::PLAIN) })*
-        }
-        mod on_fast {
-            $(#[test] fn $example() { super::$example(super::FAST) })*
-        }
-    };
-}
-
-on_every_side! {
+on_every_side! { [on_library: LIBRARY, on_reference: REFERENCE, on_plain: PLAIN, on_fast: FAST,] [
     guide_example_framed,
     guide_example_received,
     new_receivers,
@@ -68,7 +51,7 @@ on_every_side! {
     longest_line,
     every_length_comes_back,
     damaged_bits,
-}
+] }
 
 // ---- the guide's example (000, 2.3.2) ----
 /// Write bytes 7E and 7D at RAM address 0 of node 2F.
@@ -193,7 +176,7 @@ fn new_receivers(side: Side) {
     assert_eq!((side.receiver)(false), Receiver { limit: 62, phase: 0, count: 0, bytes: [0; 65] });
 }
 
-/// They are skipped, whatever they are, and do not change the record; an escape among them does not reach the flag.
+/// They are all skipped and do not change the record; an escape among them does not reach the flag.
 fn bytes_before_the_first_flag(side: Side) {
     for limit in LIMITS {
         for noise in [&[0x00][..], &[ESCAPE], &[0x5E, 0xFF], &[ESCAPE, 0x5E, 0x2F], &[0x55; 300], &GUIDE_LINE[1..14]] {
@@ -235,7 +218,7 @@ fn each_flag_ends_a_frame_and_opens_the_next(side: Side) {
     }
 }
 
-/// Bytes after the flag are not taken, whatever they are.
+/// Bytes after the flag are not taken, not even flags.
 fn stops_at_each_frame_and_drop(side: Side) {
     let line = [&GUIDE_LINE[..], &[1, 2, FLAG, FLAG], &GUIDE_LINE[1..], &[ESCAPE, FLAG, 9, 9]].concat();
     for limit in LIMITS {
@@ -379,7 +362,7 @@ fn check_byte_by_masks(side: Side) {
     }
 }
 
-/// Where several causes hold, the first is told.
+/// Where several causes hold, the first is given.
 fn first_cause(side: Side) {
     for limit in LIMITS {
         let over = plain(limit as usize + 1);
@@ -485,7 +468,7 @@ fn empty_parts(side: Side) {
     }
 }
 
-/// All state is in the record: of two receivers, the second a byte behind the first, each gets the frame.
+/// All state is in the record: of two receivers, the second a byte later than the first, each gets the frame.
 fn two_receivers_by_turns(side: Side) {
     for limit in LIMITS {
         let mut first = Line::new(side, limit);
@@ -503,7 +486,7 @@ fn two_receivers_by_turns(side: Side) {
     }
 }
 
-/// Refusal 1, zeros, and the record as it came: for each clause of the rule alone, whatever the bytes are.
+/// Refusal 1, zeros, and the record as it came: for each clause of the rule alone, with any bytes.
 fn broken_records(side: Side) {
     for (limit, phase, count) in [
         (0, 1, 0),

@@ -8,29 +8,12 @@
 //! batch and confirmation examples (000).
 use grelfint_tests::board::{book_of, code_check_pdata, frame_of, selective_pdata, set_checksum, Board, Lengths};
 use grelfint_tests::ffi::{CompileAnswer, FrcAnswer, Lamp, Node, NodeSet, RequestAnswer};
+use grelfint_tests::on_every_side;
 use grelfint_tests::reference::{self, CodeType, EXTERNAL_SIZE};
 use grelfint_tests::sides::{Side, FAST, IN_PLACE, LIBRARY, REFERENCE};
 use std::slice::from_ref;
 
-/// Makes each example a test of every side.
-macro_rules! on_every_side {
-    ($($example:ident,)*) => {
-        mod on_library {
-            $(#[test] fn $example() { super::$example(super::LIBRARY) })*
-        }
-        mod on_reference {
-            $(#[test] fn $example() { super::$example(super::REFERENCE) })*
-        }
-        mod on_fast {
-            $(#[test] fn $example() { super::$example(super::FAST) })*
-        }
-        mod on_in_place {
-            $(#[test] fn $example() { super::$example(super::IN_PLACE) })*
-        }
-    };
-}
-
-on_every_side! {
+on_every_side! { [on_library: LIBRARY, on_reference: REFERENCE, on_fast: FAST, on_in_place: IN_PLACE,] [
     external_read_at_the_end,
     level_100_is_accepted_101_is_not,
     one_bad_entry_changes_no_lamp,
@@ -100,7 +83,7 @@ on_every_side! {
     guide_batch_example,
     guide_batch_selects_by_profile,
     guide_pulse_batch,
-}
+] }
 
 // ---- document 01: worked examples, and related rules ----
 fn external_read_at_the_end(side: Side) {

@@ -132,7 +132,7 @@ holding-event limit t old = at (t .cut)
         (λ e. let z = eqb-true n 0 e in rw (e, eq-eqb (min n (limit + 2)) 0 (omega arith)) refl)
         (λ e. let z = eqb-false n 0 e in rw (e, ne-eqb (min n (limit + 2)) 0 (omega arith)) (held-event limit false (t .bytes) old))
 
--- a byte stored behind the bytes at the front
+-- a byte stored after the bytes at the front
 set-front : (bytes old : List ℕ) (d : ℕ) → length bytes < length old
     → set (overwriteFront bytes old) (length bytes) d ≡ overwriteFront (bytes ++ (d ∷ [])) old
 set-front bytes old d h = rw (drop-cons old (length bytes) 0 h, set-append-seam, append-snoc, length-append, add-one) refl

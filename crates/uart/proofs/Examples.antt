@@ -41,9 +41,9 @@ unfolding newReceiver begun byteEvent dataByte stored nextReceiver heardFrom
 nothing-received = refl
 
 -- a flag after an escape; five bytes and their check byte; a wrong check byte
-pub causes-told : hears false (flag ∷ escape ∷ flag ∷ (framed (replicate 5 1) ++ (0 ∷ 0 ∷ 0 ∷ 0 ∷ 0 ∷ 0 ∷ 0 ∷ flag ∷ []))) ≡ dropped 2 ∷ dropped 3 ∷ dropped 4 ∷ []
+pub causes-given : hears false (flag ∷ escape ∷ flag ∷ (framed (replicate 5 1) ++ (0 ∷ 0 ∷ 0 ∷ 0 ∷ 0 ∷ 0 ∷ 0 ∷ flag ∷ []))) ≡ dropped 2 ∷ dropped 3 ∷ dropped 4 ∷ []
 unfolding shift shifts crcByte fold reserved escaped escapedAll newReceiver dropCause eventFor begun byteEvent dataByte stored nextReceiver heardFrom
-causes-told = refl
+causes-given = refl
 
 -- the longest message of a node and of a gateway, and one byte more
 pub limits-received :

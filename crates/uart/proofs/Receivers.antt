@@ -129,7 +129,7 @@ receive-sound r (b ∷ bs) e =
     (λ q. receive-sound (nextReceiver r b) bs (next-sound r b e))
     (λ q. next-sound r b e)
 
--- an answer tells the bytes taken and the receiver; its event is 0 only if there was none
+-- an answer has the bytes taken and the receiver; its event is 0 only if there was none
 pub answer-fields : (x : Received)
     → (receivedAnswer x .taken ≡ x .taken) × (receivedAnswer x .receiver ≡ x .receiver) × (receivedAnswer x .event ≡ 0 → isNone (x .event) ≡ true)
 answer-fields x = at (x .event)
