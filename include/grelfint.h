@@ -1,11 +1,11 @@
-/* grelfint: lamp node, scene compiler, gateway timing and serial line.
+/* grelfint: lamp node, scene compiler, gateway and serial line.
  *
  * Every call returns an answer for every input. Its refusal is 0 or, from the
  * top, the first of this list that applies. A refused call returns 0 for every
- * other number (except `step` with 81 to 84), false for every bool and the node
- * or receiver unchanged, and writes no buffer.
+ * other number (except `step` with 81 to 84), false for every bool and the
+ * node, receiver or gateway unchanged, and writes no buffer.
  *
- *    1  the node record or the receiver record is not sound; settings or an
+ *    1  the node, receiver or gateway record is not sound; settings or an
  *       address out of range; a node set that names address 0, or no node
  *    2  the frame has fewer than 6 or more than 62 bytes; a message for the
  *       serial line has fewer than 6 or more than 64
@@ -21,6 +21,11 @@
  *    9  fewer than 4,096 bytes for a compiled scene
  *   10  a view of neither memory
  *   11  the framed message does not fit into the buffer
+ *   12  at a gateway: an address that is not 1 to 239; one that is already
+ *       bonded, to add; one that is not bonded, to remove or to send to (all
+ *       nodes, 0x00FF, need no bond)
+ *   13  eight requests are waiting
+ *   14  a time before the last one given, or above 2^40
  *   15  a view of more bytes than one request can transfer
  *   16  a view that starts or ends outside its memory
  *
@@ -32,6 +37,11 @@
  * seconds or runs at level 0; and all lamps from the lamp count on are zero.
  * A receiver record is sound if its limit is 62 or 64, its phase at most 2, its
  * count at most limit + 2, and its count 0 in phase 0.
+ * A gateway record is sound if neither address 0 nor 240 to 255 is bonded; its
+ * network is 0 or 1 and its count at most 8; each of the first `count` places
+ * has a length of 6 to 62, NADR 1 to 239 or 255 in its frame, and zeros after
+ * the frame; all later places are zero; `last` is at most 2^40, and `next` at
+ * most last + 116,735, the longest wait.
  *
  * Each pointer to a buffer is followed by the length of that buffer. Pointers
  * must not be null, even if the length is 0. A buffer that a call writes must
@@ -56,6 +66,9 @@ extern "C" {
 #define GRELFINT_RESPONSE 64   /* minimum for a response or confirmation */
 #define GRELFINT_COMPILED 4096 /* minimum for a compiled scene */
 #define GRELFINT_NODE_SET 30   /* bytes: a bit for each address, 0 to 239 */
+#define GRELFINT_FRAME 62      /* the longest request */
+#define GRELFINT_BONDS 32      /* bytes: a bit for each address, 0 to 255 */
+#define GRELFINT_DESK 8        /* requests that a gateway can hold */
 #define GRELFINT_UART_FRAME 64   /* the longest message on the serial line */
 #define GRELFINT_UART_FRAMED 132 /* room for every framed message: 2 flags, and
                                   * 65 bytes of which each may be escaped */
@@ -168,6 +181,67 @@ typedef struct grelfint_receive_answer {
     grelfint_receiver receiver; /* for the next call */
 } grelfint_receive_answer;
 
+/* A request that waits at a gateway. */
+typedef struct grelfint_waiting {
+    uint16_t delay;        /* the node's own, in ms */
+    uint8_t length;        /* bytes of the request */
+    uint8_t hops;          /* of the request */
+    uint8_t response_hops; /* of the response */
+    uint8_t frame[GRELFINT_FRAME]; /* the request, then zeros */
+} grelfint_waiting;
+
+/* The requests of a gateway on their way to the network. Times are in ms, from
+ * any moment that the caller chooses. */
+typedef struct grelfint_desk {
+    uint64_t last;     /* the time of the last send or release, refused ones not
+                        * counted */
+    uint64_t next;     /* the earliest time of the next release */
+    uint8_t network;   /* 0 STD, 1 STD+LP */
+    uint8_t dpa_value; /* for the confirmations */
+    uint8_t count;     /* requests that wait */
+    grelfint_waiting places[GRELFINT_DESK]; /* these requests, the oldest first;
+                                             * then zeros */
+} grelfint_desk;
+
+/* A gateway, from grelfint_gateway_start. A caller stores it between calls and
+ * need not look inside. */
+typedef struct grelfint_gateway {
+    uint8_t bonds[GRELFINT_BONDS]; /* bit a % 8 of byte a / 8 is set if node a
+                                    * is bonded */
+    grelfint_desk desk;
+} grelfint_gateway;
+
+typedef struct grelfint_bond_answer {
+    uint8_t refusal;
+    uint8_t count; /* bonded nodes after the call */
+    grelfint_gateway gateway;
+} grelfint_bond_answer;
+
+typedef struct grelfint_count_answer {
+    uint8_t refusal;
+    uint8_t count; /* bonded nodes */
+} grelfint_count_answer;
+
+typedef struct grelfint_bitmap_answer {
+    uint8_t refusal;
+    uint8_t bitmap[GRELFINT_BONDS]; /* as in grelfint_gateway */
+} grelfint_bitmap_answer;
+
+typedef struct grelfint_gateway_answer {
+    uint8_t refusal;
+    grelfint_gateway gateway;
+} grelfint_gateway_answer;
+
+typedef struct grelfint_release_answer {
+    uint8_t refusal;
+    bool released;       /* false if it is too early or if no request waits; the
+                          * next three fields are then zeros */
+    size_t length;       /* bytes of the confirmation (11) */
+    size_t frame_length; /* bytes of the released request */
+    uint8_t frame[GRELFINT_FRAME]; /* the request, then zeros */
+    grelfint_gateway gateway;      /* for the next call */
+} grelfint_release_answer;
+
 /* Starts a node with these settings; every lamp and RAM byte is 0.
  * Answer: refusal; node. Refusals: 1 (the node is then all zeros).
  * Written: nothing. */
@@ -273,6 +347,62 @@ grelfint_compile_answer grelfint_compile_selected(
 grelfint_compile_answer grelfint_compile_selected_default(
     const uint8_t *book, size_t book_length, size_t scene,
     grelfint_node_set nodes,
+    uint8_t *out, size_t out_length);
+
+/* Starts a gateway without bonds and without requests, at time 0. `lp`: true
+ * for an STD+LP network, false for STD; `dpa_value` goes into the
+ * confirmations.
+ * Answer: the gateway. Refusals: none. Written: nothing. */
+grelfint_gateway grelfint_gateway_start(bool lp, uint8_t dpa_value);
+
+/* Adds the bond of a node.
+ * Answer: refusal; number of bonded nodes; gateway. Refusals: 1, 12 (address
+ * not 1 to 239, or already bonded). Written: nothing. */
+grelfint_bond_answer grelfint_bond(grelfint_gateway gateway, uint16_t address);
+
+/* Removes the bond of a node. Requests to it that already wait stay.
+ * Answer: refusal; number of bonded nodes; gateway. Refusals: 1, 12 (not
+ * bonded). Written: nothing. */
+grelfint_bond_answer grelfint_unbond(
+    grelfint_gateway gateway, uint16_t address);
+
+/* Removes all bonds. Requests that wait stay.
+ * Answer: refusal; number of bonded nodes (0); gateway. Refusals: 1.
+ * Written: nothing. */
+grelfint_bond_answer grelfint_clear_bonds(grelfint_gateway gateway);
+
+/* The number of bonded nodes.
+ * Answer: refusal; count. Refusals: 1. Written: nothing. */
+grelfint_count_answer grelfint_bond_count(grelfint_gateway gateway);
+
+/* The bonded nodes, a bit for each address.
+ * Answer: refusal; bitmap. Refusals: 1. Written: nothing. */
+grelfint_bitmap_answer grelfint_bond_bitmap(grelfint_gateway gateway);
+
+/* Hands a request frame to a gateway, which keeps it until it is released,
+ * after those that came before. `hops` and `response_hops` are those of the
+ * request and of the response, `delay` is the node's own, in ms; `time` is the
+ * present, in ms.
+ * Answer: refusal; gateway. Refusals: 1, 2, 12 (NADR is neither a bonded node
+ * nor 0x00FF), 13, 14. Written: nothing. */
+grelfint_gateway_answer grelfint_send(
+    grelfint_gateway gateway,
+    const uint8_t *frame, size_t frame_length,
+    uint8_t hops, uint8_t response_hops, uint16_t delay, uint64_t time);
+
+/* Releases the oldest request that waits, if `time`, the present in ms, is not
+ * before the earliest send time after the request that was released last: the
+ * time of its release plus grelfint_earliest_send with the longest response (56
+ * bytes of PData). The first request may be released at any time. If it is too
+ * early or if no request waits, `released` is false and only the time is taken.
+ * examples/gateway.c has the loop.
+ * Answer: refusal; released; length of the confirmation; the request and its
+ * length; gateway. Refusals: 1, 3 (`out` under 64 bytes, even if nothing is
+ * released), 14.
+ * Written: the first `length` bytes of `out`: the confirmation, as by
+ * grelfint_confirm. Later bytes are unchanged. */
+grelfint_release_answer grelfint_release(
+    grelfint_gateway gateway, uint64_t time,
     uint8_t *out, size_t out_length);
 
 /* A receiver that waits for its first flag: at a gateway (messages of up to 64

@@ -1,9 +1,11 @@
 /* Worked examples of document 01, broken lists and bad steps (document 02,
  * change 1/12), keep with a time (change 2/12), selective batches and scenes for
- * chosen nodes (change 3/12), checksums of code images (change 4/12), and the
- * serial line (change 5/12), called through include/grelfint.h. To see how one
- * compiled scene reaches chosen nodes, read `one_scene_for_chosen_nodes`; how a
- * request travels over a serial line, `one_request_over_the_serial_line`.
+ * chosen nodes (change 3/12), checksums of code images (change 4/12), the serial
+ * line (change 5/12), and the gateway (change 6/12), called through
+ * include/grelfint.h. To see how one compiled scene reaches chosen nodes, read
+ * `one_scene_for_chosen_nodes`; how a request travels over a serial line,
+ * `one_request_over_the_serial_line`; how requests wait at a gateway,
+ * `two_requests_at_the_desk`.
  * From the repository's root:
  *
  *   rt staticlib grelfint && mkdir -p target/tests
@@ -50,6 +52,30 @@ _Static_assert(offsetof(grelfint_receive_answer, length) == 16, "length of a fra
 _Static_assert(offsetof(grelfint_receive_answer, frame) == 24, "frame");
 _Static_assert(offsetof(grelfint_receive_answer, receiver) == 88, "receiver of an answer");
 _Static_assert(sizeof(grelfint_receive_answer) == 160, "a receiver's answer");
+_Static_assert(sizeof(grelfint_waiting) == 68, "waiting request");
+_Static_assert(offsetof(grelfint_waiting, length) == 2, "length of a waiting request");
+_Static_assert(offsetof(grelfint_waiting, hops) == 3, "hops");
+_Static_assert(offsetof(grelfint_waiting, response_hops) == 4, "response hops");
+_Static_assert(offsetof(grelfint_waiting, frame) == 5, "frame of a waiting request");
+_Static_assert(offsetof(grelfint_desk, next) == 8, "next");
+_Static_assert(offsetof(grelfint_desk, network) == 16, "network");
+_Static_assert(offsetof(grelfint_desk, dpa_value) == 17, "DpaValue");
+_Static_assert(offsetof(grelfint_desk, count) == 18, "count");
+_Static_assert(offsetof(grelfint_desk, places) == 20, "places");
+_Static_assert(sizeof(grelfint_desk) == 568, "desk");
+_Static_assert(offsetof(grelfint_gateway, desk) == 32, "desk of a gateway");
+_Static_assert(sizeof(grelfint_gateway) == 600, "gateway");
+_Static_assert(offsetof(grelfint_bond_answer, count) == 1, "count of an answer");
+_Static_assert(offsetof(grelfint_bond_answer, gateway) == 8, "gateway of a bond's answer");
+_Static_assert(sizeof(grelfint_count_answer) == 2, "a count's answer");
+_Static_assert(sizeof(grelfint_bitmap_answer) == 33, "a bitmap's answer");
+_Static_assert(offsetof(grelfint_gateway_answer, gateway) == 8, "gateway of a send's answer");
+_Static_assert(offsetof(grelfint_release_answer, released) == 1, "released");
+_Static_assert(offsetof(grelfint_release_answer, length) == 8, "length of a confirmation");
+_Static_assert(offsetof(grelfint_release_answer, frame_length) == 16, "length of a released frame");
+_Static_assert(offsetof(grelfint_release_answer, frame) == 24, "released frame");
+_Static_assert(offsetof(grelfint_release_answer, gateway) == 88, "gateway of a release's answer");
+_Static_assert(sizeof(grelfint_release_answer) == 688, "a release's answer");
 
 static grelfint_node node;
 static uint8_t eeprom[GRELFINT_EEPROM];
@@ -553,7 +579,7 @@ static void frc(void)
     check("not implemented", grelfint_frc(node, 0x12, second, sizeof second, 2, 2).value == 1);
 }
 
-static void gateway(void)
+static void confirmations(void)
 {
     const uint8_t frame[6] = {0x0A, 0, 7, 1, 0xFF, 0xFF};
     const uint8_t want[12] = {0x0A, 0, 7, 1, 0xFF, 0xFF, 0xFF, 7, 6, 4, 6, 0xEE};
@@ -923,6 +949,275 @@ static void one_request_over_the_serial_line(void)
     }
 }
 
+/* A gateway and the output buffer of its releases. Each call below starts from
+ * the gateway that the last one left. */
+static grelfint_gateway gateway;
+static uint8_t confirmation[GRELFINT_RESPONSE + 8];
+
+/* A gateway in an STD network with node 5 bonded. */
+static void start_with_node_5(void)
+{
+    gateway = grelfint_bond(grelfint_gateway_start(false, 7), 5).gateway;
+}
+
+/* Fields, not bytes: a record has padding. */
+static bool same_place(const grelfint_waiting *a, const grelfint_waiting *b)
+{
+    return a->delay == b->delay && a->length == b->length && a->hops == b->hops &&
+           a->response_hops == b->response_hops && memcmp(a->frame, b->frame, sizeof a->frame) == 0;
+}
+
+static bool same_gateway(const grelfint_gateway *a, const grelfint_gateway *b)
+{
+    size_t i;
+
+    for (i = 0; i < GRELFINT_DESK; i++)
+        if (!same_place(&a->desk.places[i], &b->desk.places[i]))
+            return false;
+    return memcmp(a->bonds, b->bonds, sizeof a->bonds) == 0 && a->desk.last == b->desk.last &&
+           a->desk.next == b->desk.next && a->desk.network == b->desk.network &&
+           a->desk.dpa_value == b->desk.dpa_value && a->desk.count == b->desk.count;
+}
+
+/* Adds or removes a bond; refused, the gateway stays as it was. */
+static void bond(const char *name, bool add, uint16_t address, uint8_t refusal, uint8_t count)
+{
+    grelfint_bond_answer answer = add ? grelfint_bond(gateway, address) : grelfint_unbond(gateway, address);
+
+    check(name, answer.refusal == refusal && answer.count == count &&
+                    (refusal == 0 || same_gateway(&answer.gateway, &gateway)));
+    gateway = answer.gateway;
+}
+
+/* The bonds and their number; each byte of the bitmap that is not one of the
+ * three is 0. */
+static void bonds_are(const char *name, uint8_t count, uint8_t byte_0, uint8_t byte_1, uint8_t byte_29)
+{
+    uint8_t want[GRELFINT_BONDS] = {byte_0, byte_1};
+    grelfint_count_answer counted = grelfint_bond_count(gateway);
+    grelfint_bitmap_answer answer = grelfint_bond_bitmap(gateway);
+
+    want[29] = byte_29;
+    check(name, counted.refusal == 0 && counted.count == count);
+    check(name, answer.refusal == 0 && memcmp(answer.bitmap, want, sizeof want) == 0);
+}
+
+static void gateway_bonds(void)
+{
+    static const uint16_t none[] = {0, 240, 254, 255, 256, 257, 0x01EF, 0xFFFF};
+    grelfint_bond_answer cleared;
+    size_t i;
+
+    gateway = grelfint_gateway_start(true, 9);
+    check("started", gateway.desk.network == 1 && gateway.desk.dpa_value == 9 && gateway.desk.count == 0 &&
+                         gateway.desk.last == 0 && gateway.desk.next == 0);
+    bonds_are("no bonds", 0, 0, 0, 0);
+    for (i = 0; i < sizeof none / sizeof none[0]; i++) {
+        bond("cannot be bonded", true, none[i], 12, 0);
+        bond("cannot be removed", false, none[i], 12, 0);
+    }
+    bond("lowest", true, 1, 0, 1);
+    bond("highest", true, 239, 0, 2);
+    bond("between", true, 12, 0, 3);
+    bonds_are("bitmap", 3, 0x02, 0x10, 0x80);
+    bond("bonded already", true, 12, 12, 0);
+    bond("removed", false, 12, 0, 2);
+    bond("removed already", false, 12, 12, 0);
+    bonds_are("after removing", 2, 0x02, 0, 0x80);
+    cleared = grelfint_clear_bonds(gateway);
+    gateway = cleared.gateway;
+    check("cleared", cleared.refusal == 0 && cleared.count == 0);
+    bonds_are("after clearing", 0, 0, 0, 0);
+}
+
+/* Sends a frame to the desk; refused, the gateway stays as it was. */
+static void to_desk(const char *name, const uint8_t *frame, size_t length, uint8_t hops, uint8_t response_hops,
+                    uint16_t delay, uint64_t time, uint8_t refusal)
+{
+    grelfint_gateway_answer answer = grelfint_send(gateway, frame, length, hops, response_hops, delay, time);
+
+    check(name, answer.refusal == refusal && (refusal == 0 || same_gateway(&answer.gateway, &gateway)));
+    gateway = answer.gateway;
+}
+
+/* Releases at this time: this frame with this confirmation, or with a length of
+ * 0 nothing, and then nothing is written. */
+static void release(const char *name, uint64_t time, const uint8_t *frame, size_t length, const uint8_t *confirmed,
+                    size_t confirmed_length)
+{
+    uint8_t want[sizeof confirmation], want_frame[GRELFINT_FRAME] = {0};
+    grelfint_release_answer answer;
+
+    memset(confirmation, 0xEE, sizeof confirmation);
+    memset(want, 0xEE, sizeof want);
+    if (length > 0) {
+        memcpy(want_frame, frame, length);
+        memcpy(want, confirmed, confirmed_length);
+    }
+    answer = grelfint_release(gateway, time, confirmation, GRELFINT_RESPONSE);
+    check(name, answer.refusal == 0 && answer.released == (length > 0) && answer.length == confirmed_length &&
+                    answer.frame_length == length && memcmp(answer.frame, want_frame, sizeof want_frame) == 0 &&
+                    answer.gateway.desk.last == time && memcmp(confirmation, want, sizeof want) == 0);
+    gateway = answer.gateway;
+}
+
+static void release_refused(const char *name, uint64_t time, size_t room, uint8_t refusal)
+{
+    static const uint8_t zeros[GRELFINT_FRAME];
+    uint8_t untouched[sizeof confirmation];
+    grelfint_release_answer answer;
+
+    memset(untouched, 0xEE, sizeof untouched);
+    memset(confirmation, 0xEE, sizeof confirmation);
+    answer = grelfint_release(gateway, time, confirmation, room);
+    check(name, answer.refusal == refusal && !answer.released && answer.length == 0 && answer.frame_length == 0 &&
+                    memcmp(answer.frame, zeros, sizeof zeros) == 0 && same_gateway(&answer.gateway, &gateway) &&
+                    memcmp(confirmation, untouched, sizeof untouched) == 0);
+}
+
+/* Document 01's hops and delay, with the longest response: (2 + 1) x 40 + 20 +
+ * (3 + 1) x 60 = 380 ms. Then a broadcast, which waits for no response:
+ * (2 + 1) x 50 + 20 = 170 ms. */
+static void two_requests_at_the_desk(void)
+{
+    static const uint8_t to_node[] = {5, 0, 0x71, 0, 0xFF, 0xFF, 1, 0, 0, 0, 10};
+    static const uint8_t to_all[6 + 17] = {0xFF, 0, 2, 5, 0xFF, 0xFF};
+
+    start_with_node_5();
+    to_desk("to node 5", to_node, sizeof to_node, 2, 3, 20, 1000, 0);
+    to_desk("to all nodes", to_all, sizeof to_all, 2, 3, 20, 1000, 0);
+    check("two waiting", gateway.desk.count == 2 && gateway.desk.places[0].length == sizeof to_node &&
+                             gateway.desk.places[1].length == sizeof to_all);
+    release("the first at any time", 1000, to_node, sizeof to_node,
+            BYTES(5, 0, 0x71, 0, 0xFF, 0xFF, 0xFF, 7, 2, 4, 3));
+    release("too early", 1379, NO_BYTES, NO_BYTES);
+    release("in time", 1380, to_all, sizeof to_all, BYTES(0xFF, 0, 2, 5, 0xFF, 0xFF, 0xFF, 7, 2, 5, 0));
+    check("next", gateway.desk.next == 1380 + 170);
+    release("none waiting", 5000, NO_BYTES, NO_BYTES);
+}
+
+/* Nine requests of different lengths: the ninth has to wait for a place. */
+static void full_desk(void)
+{
+    uint8_t frame[GRELFINT_FRAME] = {5, 0, 5, 1, 0xFF, 0xFF, 0};
+    uint8_t i;
+
+    start_with_node_5();
+    for (i = 0; i < 8; i++)
+        to_desk("one of eight", frame, 8u + i, 0, 0, 0, 0, 0);
+    to_desk("the ninth", frame, 8 + 8, 0, 0, 0, 0, 13);
+    gateway = grelfint_clear_bonds(gateway).gateway; /* withdraws nothing */
+    for (i = 0; i < 8; i++) {
+        release("in order", 100u * i, frame, 8u + i, BYTES(5, 0, 5, 1, 0xFF, 0xFF, 0xFF, 7, 0, 4, 0));
+        if (i == 0) {
+            to_desk("no bond", frame, 8 + 8, 0, 0, 0, 0, 12);
+            gateway = grelfint_bond(gateway, 5).gateway;
+            to_desk("a place again", frame, 8 + 8, 0, 0, 0, 0, 0);
+        }
+    }
+    release("the ninth, released", 800, frame, 8 + 8, BYTES(5, 0, 5, 1, 0xFF, 0xFF, 0xFF, 7, 0, 4, 0));
+}
+
+static void gateway_refusals(void)
+{
+    static const uint8_t frame[63] = {5, 0, 0x71, 0, 0xFF, 0xFF}, other[6] = {6}, all[6] = {0xFF};
+    static const uint8_t high_byte[6] = {5, 1}, all_with_high_byte[6] = {0xFF, 0xFF};
+    const uint64_t latest = (uint64_t)1 << 40;
+    size_t i;
+
+    start_with_node_5();
+    to_desk("5 bytes", frame, 5, 0, 0, 0, 0, 2);
+    to_desk("63 bytes", frame, 63, 0, 0, 0, 0, 2);
+    to_desk("not bonded", other, 6, 0, 0, 0, 0, 12);
+    to_desk("high byte", high_byte, 6, 0, 0, 0, 0, 12);
+    to_desk("high byte of all", all_with_high_byte, 6, 0, 0, 0, 0, 12);
+    to_desk("above 2^40", frame, 6, 0, 0, 0, latest + 1, 14);
+    to_desk("6 bytes", frame, 6, 0, 0, 0, 100, 0);
+    to_desk("before the last time", frame, 6, 0, 0, 0, 99, 14);
+    to_desk("62 bytes", frame, 62, 0, 0, 0, 100, 0);
+    release_refused("no room", 100, 63, 3);
+    release_refused("no room, before the last time", 99, 0, 3);
+    release_refused("release before the last time", 99, 64, 14);
+    release_refused("release above 2^40", latest + 1, 64, 14);
+    for (i = 2; i < 8; i++)
+        to_desk("no bond needed", all, 6, 0, 0, 0, 100, 0);
+    to_desk("length before bond", other, 5, 0, 0, 0, 99, 2);
+    to_desk("bond before room", other, 6, 0, 0, 0, 99, 12);
+    to_desk("room before time", all, 6, 0, 0, 0, 99, 13);
+
+    /* at 2^40 the next release would be later */
+    release("at 2^40", latest, frame, 6, BYTES(5, 0, 0x71, 0, 0xFF, 0xFF, 0xFF, 7, 0, 4, 0));
+    check("next above 2^40", gateway.desk.next == latest + 100);
+    release("never again", latest, NO_BYTES, NO_BYTES);
+}
+
+/* No call accepts this record; each returns it unchanged. */
+static void refused_by_all(const char *name, grelfint_gateway broken)
+{
+    static const uint8_t frame[6] = {5, 0, 0x71, 0x3E, 0xFF, 0xFF}, zeros[GRELFINT_BONDS];
+    const grelfint_gateway before = gateway;
+    grelfint_bond_answer cleared = grelfint_clear_bonds(broken);
+    grelfint_count_answer counted = grelfint_bond_count(broken);
+    grelfint_bitmap_answer bitmap = grelfint_bond_bitmap(broken);
+
+    gateway = broken;
+    bond(name, true, 6, 1, 0);
+    bond(name, false, 5, 1, 0);
+    check(name, cleared.refusal == 1 && cleared.count == 0 && same_gateway(&cleared.gateway, &broken));
+    check(name, counted.refusal == 1 && counted.count == 0);
+    check(name, bitmap.refusal == 1 && memcmp(bitmap.bitmap, zeros, sizeof zeros) == 0);
+    to_desk(name, frame, sizeof frame, 0, 0, 0, 500, 1);
+    release_refused(name, 500, GRELFINT_RESPONSE, 1);
+    gateway = before;
+}
+
+/* Each clause of the rule about gateways, broken alone. */
+static void gateway_records(void)
+{
+    static const uint8_t frame[GRELFINT_FRAME] = {5, 0, 0x71, 0, 0x71};
+    grelfint_gateway full, sound;
+    size_t i;
+
+    start_with_node_5();
+    to_desk("first", frame, 10, 0, 0, 0, 500, 0);
+    to_desk("second", frame, 62, 0, 0, 0, 500, 0);
+    sound = full = gateway;
+    for (i = 2; i < 8; i++)
+        full.desk.places[i] = full.desk.places[0];
+    full.desk.count = 8;
+
+#define BROKEN(record, field, value)               \
+    do {                                           \
+        grelfint_gateway broken = (record);        \
+        broken.field = (value);                    \
+        refused_by_all("broken: " #field, broken); \
+    } while (0)
+
+    BROKEN(sound, bonds[0], 1);
+    BROKEN(sound, bonds[30], 1);
+    BROKEN(sound, bonds[31], 0x80);
+    BROKEN(sound, desk.network, 2);
+    BROKEN(full, desk.count, 9);
+    BROKEN(sound, desk.places[0].length, 5);
+    BROKEN(sound, desk.places[1].length, 63);
+    BROKEN(sound, desk.places[0].frame[0], 0);
+    BROKEN(sound, desk.places[0].frame[0], 240);
+    BROKEN(sound, desk.places[1].frame[1], 1);
+    BROKEN(sound, desk.places[0].frame[10], 1);
+    BROKEN(sound, desk.places[0].frame[61], 1);
+    BROKEN(sound, desk.places[2].delay, 1);
+    BROKEN(sound, desk.places[3].length, 6);
+    BROKEN(sound, desk.places[5].hops, 1);
+    BROKEN(sound, desk.places[6].response_hops, 1);
+    BROKEN(sound, desk.places[7].frame[61], 1);
+    BROKEN(sound, desk.last, ((uint64_t)1 << 40) + 1);
+    BROKEN(sound, desk.next, 500 + 116736);
+#undef BROKEN
+    gateway.desk.next = 500 + 116735;
+    release("the longest wait", 116734 + 500, NO_BYTES, NO_BYTES);
+    release("the longest wait is over", 116735 + 500, frame, 10, BYTES(5, 0, 0x71, 0, 0x71, 0, 0xFF, 7, 0, 4, 0));
+}
+
 int main(void)
 {
     lamps();
@@ -936,7 +1231,7 @@ int main(void)
     broken_lists();
     selective_batches();
     frc();
-    gateway();
+    confirmations();
     scenes();
     bad_steps();
     chosen_scenes();
@@ -946,6 +1241,11 @@ int main(void)
     serial_records();
     serial_lengths();
     one_request_over_the_serial_line();
+    gateway_bonds();
+    two_requests_at_the_desk();
+    full_desk();
+    gateway_refusals();
+    gateway_records();
     if (failed > 0) {
         printf("%d passed, %d failed\n", passed, failed);
         return 1;

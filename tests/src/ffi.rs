@@ -153,6 +153,87 @@ impl ReceiveAnswer {
     }
 }
 
+/// A request that waits at a gateway.
+#[repr(C)]
+#[derive(Clone, Copy, Debug, PartialEq, Eq)]
+pub struct Waiting {
+    pub delay: u16,
+    pub length: u8,
+    pub hops: u8,
+    pub response_hops: u8,
+    pub frame: [u8; 62],
+}
+
+impl Waiting {
+    pub const ZERO: Waiting = Waiting { delay: 0, length: 0, hops: 0, response_hops: 0, frame: [0; 62] };
+}
+
+#[repr(C)]
+#[derive(Clone, Copy, Debug, PartialEq, Eq)]
+pub struct Desk {
+    pub last: u64,
+    pub next: u64,
+    pub network: u8,
+    pub dpa_value: u8,
+    pub count: u8,
+    pub places: [Waiting; 8],
+}
+
+/// Its bonds: bit a % 8 of byte a / 8 for address a.
+#[repr(C)]
+#[derive(Clone, Copy, Debug, PartialEq, Eq)]
+pub struct Gateway {
+    pub bonds: [u8; 32],
+    pub desk: Desk,
+}
+
+#[repr(C)]
+#[derive(Clone, Copy, Debug, PartialEq, Eq)]
+pub struct BondAnswer {
+    pub refusal: u8,
+    pub count: u8,
+    pub gateway: Gateway,
+}
+
+#[repr(C)]
+#[derive(Clone, Copy, Debug, PartialEq, Eq)]
+pub struct CountAnswer {
+    pub refusal: u8,
+    pub count: u8,
+}
+
+#[repr(C)]
+#[derive(Clone, Copy, Debug, PartialEq, Eq)]
+pub struct BitmapAnswer {
+    pub refusal: u8,
+    pub bitmap: [u8; 32],
+}
+
+#[repr(C)]
+#[derive(Clone, Copy, Debug, PartialEq, Eq)]
+pub struct GatewayAnswer {
+    pub refusal: u8,
+    pub gateway: Gateway,
+}
+
+#[repr(C)]
+#[derive(Clone, Copy, Debug, PartialEq, Eq)]
+pub struct ReleaseAnswer {
+    pub refusal: u8,
+    pub released: bool,
+    pub length: usize,
+    pub frame_length: usize,
+    pub frame: [u8; 62],
+    pub gateway: Gateway,
+}
+
+impl ReleaseAnswer {
+    /// Nothing is released: every number and every byte of the frame 0.
+    pub fn zeros(gateway: Gateway) -> ReleaseAnswer {
+        ReleaseAnswer { refusal: 0, released: false, length: 0, frame_length: 0, frame: [0; 62], gateway }
+    }
+}
+
 /// The type of `grelfint_handle_request`.
 pub type HandleRequest =
     unsafe extern "C" fn(Node, *const u8, usize, *mut u8, usize, *mut u8, usize, *mut u8, usize) -> RequestAnswer;
@@ -168,6 +249,18 @@ pub type UartReceive = unsafe extern "C" fn(Receiver, *const u8, usize) -> Recei
 
 /// The type of `grelfint_uart_frame`.
 pub type UartFrame = unsafe extern "C" fn(*const u8, usize, *mut u8, usize) -> LengthAnswer;
+
+/// The type of `grelfint_bond` and `grelfint_unbond`.
+pub type Bond = unsafe extern "C" fn(Gateway, u16) -> BondAnswer;
+
+/// The type of `grelfint_bond_count`.
+pub type BondCount = unsafe extern "C" fn(Gateway) -> CountAnswer;
+
+/// The type of `grelfint_send`.
+pub type Send = unsafe extern "C" fn(Gateway, *const u8, usize, u8, u8, u16, u64) -> GatewayAnswer;
+
+/// The type of `grelfint_release`.
+pub type Release = unsafe extern "C" fn(Gateway, u64, *mut u8, usize) -> ReleaseAnswer;
 
 mod raw {
     use super::*;
@@ -257,6 +350,22 @@ mod raw {
             out: *mut u8,
             out_length: usize,
         ) -> CompileAnswer;
+        pub fn grelfint_gateway_start(lp: bool, dpa_value: u8) -> Gateway;
+        pub fn grelfint_bond(gateway: Gateway, address: u16) -> BondAnswer;
+        pub fn grelfint_unbond(gateway: Gateway, address: u16) -> BondAnswer;
+        pub fn grelfint_clear_bonds(gateway: Gateway) -> BondAnswer;
+        pub fn grelfint_bond_count(gateway: Gateway) -> CountAnswer;
+        pub fn grelfint_bond_bitmap(gateway: Gateway) -> BitmapAnswer;
+        pub fn grelfint_send(
+            gateway: Gateway,
+            frame: *const u8,
+            frame_length: usize,
+            hops: u8,
+            response_hops: u8,
+            delay: u16,
+            time: u64,
+        ) -> GatewayAnswer;
+        pub fn grelfint_release(gateway: Gateway, time: u64, out: *mut u8, out_length: usize) -> ReleaseAnswer;
         pub fn grelfint_uart_receiver(gateway: bool) -> Receiver;
         pub fn grelfint_uart_receive(receiver: Receiver, bytes: *const u8, bytes_length: usize) -> ReceiveAnswer;
         pub fn grelfint_uart_frame(
@@ -273,6 +382,11 @@ pub const COMPILE: Compile = raw::grelfint_compile;
 pub const COMPILE_SELECTED: CompileSelected = raw::grelfint_compile_selected;
 pub const UART_RECEIVE: UartReceive = raw::grelfint_uart_receive;
 pub const UART_FRAME: UartFrame = raw::grelfint_uart_frame;
+pub const BOND: Bond = raw::grelfint_bond;
+pub const UNBOND: Bond = raw::grelfint_unbond;
+pub const BOND_COUNT: BondCount = raw::grelfint_bond_count;
+pub const SEND: Send = raw::grelfint_send;
+pub const RELEASE: Release = raw::grelfint_release;
 
 // SAFETY, for each wrapper: every slice outlives the call, mutable ones have
 // no alias, and the lengths passed are those of the slices.
@@ -426,4 +540,64 @@ pub fn uart_frame_by(function: UartFrame, message: &[u8], out: &mut [u8]) -> Len
 
 pub fn uart_frame(message: &[u8], out: &mut [u8]) -> LengthAnswer {
     uart_frame_by(UART_FRAME, message, out)
+}
+
+pub fn gateway_start(lp: bool, dpa_value: u8) -> Gateway {
+    unsafe { raw::grelfint_gateway_start(lp, dpa_value) }
+}
+
+#[inline(always)]
+pub fn bond_by(function: Bond, gateway: Gateway, address: u16) -> BondAnswer {
+    unsafe { function(gateway, address) }
+}
+
+pub fn bond(gateway: Gateway, address: u16) -> BondAnswer {
+    bond_by(BOND, gateway, address)
+}
+
+pub fn unbond(gateway: Gateway, address: u16) -> BondAnswer {
+    bond_by(UNBOND, gateway, address)
+}
+
+pub fn clear_bonds(gateway: Gateway) -> BondAnswer {
+    unsafe { raw::grelfint_clear_bonds(gateway) }
+}
+
+#[inline(always)]
+pub fn bond_count_by(function: BondCount, gateway: Gateway) -> CountAnswer {
+    unsafe { function(gateway) }
+}
+
+pub fn bond_count(gateway: Gateway) -> CountAnswer {
+    bond_count_by(BOND_COUNT, gateway)
+}
+
+pub fn bond_bitmap(gateway: Gateway) -> BitmapAnswer {
+    unsafe { raw::grelfint_bond_bitmap(gateway) }
+}
+
+#[inline(always)]
+pub fn send_by(
+    function: Send,
+    gateway: Gateway,
+    frame: &[u8],
+    hops: u8,
+    response_hops: u8,
+    delay: u16,
+    time: u64,
+) -> GatewayAnswer {
+    unsafe { function(gateway, frame.as_ptr(), frame.len(), hops, response_hops, delay, time) }
+}
+
+pub fn send(gateway: Gateway, frame: &[u8], hops: u8, response_hops: u8, delay: u16, time: u64) -> GatewayAnswer {
+    send_by(SEND, gateway, frame, hops, response_hops, delay, time)
+}
+
+#[inline(always)]
+pub fn release_by(function: Release, gateway: Gateway, time: u64, out: &mut [u8]) -> ReleaseAnswer {
+    unsafe { function(gateway, time, out.as_mut_ptr(), out.len()) }
+}
+
+pub fn release(gateway: Gateway, time: u64, out: &mut [u8]) -> ReleaseAnswer {
+    release_by(RELEASE, gateway, time, out)
 }

@@ -4,7 +4,7 @@ use lib.ListN.{length}
 use borrow.Author.Tests.{le-ltb}
 use Rattle.dpa.specs.Frame.{frameFits}
 use Rattle.dpa.specs.Lists.{allBelow}
-use Rattle.dpa.specs.Settings.{stepOk, settingsOk}
+use Rattle.dpa.specs.Settings.{stepOk, addressOk, settingsOk}
 use Rattle.dpa.specs.NodeSet.{selects, selectsAny, nodeSetOk, byteOf, bytesOf}
 use Rattle.lights.specs.Bits.{bits, bitmap}
 use Rattle.lights.specs.Lamp.{actualLevel, lampOk, lampZero, lampFits}
@@ -19,7 +19,7 @@ use Rattle.book.specs.Book.{chained, bookOk, sceneOf}
 use Rattle.book.specs.Step.{stepTimeOk, lampFault, byteFault, stepFault}
 use Rattle.book.specs.Entry.{powerBytes, entryData, pnumOf, pcmdOf}
 use Rattle.book.specs.Join.{follows}
-use Rattle.scene.specs.Call.{minOutput, addressOk, compileScene, compileTo}
+use Rattle.scene.specs.Call.{minOutput, compileScene, compileTo}
 use Rattle.acceptance.specs.Examples.{WorkedExamples, OwnExamples}
 
 -- those of document 01

@@ -11,7 +11,7 @@ use lib.Seq.{drop-append-seam}
 use borrow.Author.Tests.{eq-eqb, ne-eqb, eqb-true, eqb-false, le-leb, lt-leb, leb-true, leb-false, lt-ltb, ltb-true, ltb-false, not-true, not-false}
 use Rattle.dpa.specs.Frame.{broadcastNadr}
 use Rattle.dpa.specs.NodeSet.{nodeSetOk, Selectable}
-use Rattle.dpa.specs.Settings.{lastAddress, nodeAddress}
+use Rattle.dpa.specs.Settings.{lastAddress, nodeAddress, addressOk}
 use Rattle.dpa.proofs.NodeSets.{set-ok-exact}
 use Rattle.dpa.proofs.Bool.{and-left, and-right, by-cond, by-test}
 use Rattle.dpa.specs.Lists.{All}
@@ -23,7 +23,7 @@ use Rattle.book.specs.Step.{stepFault, goodStep, firstBadFrom}
 use Rattle.dpa.proofs.All.{all-weaken}
 use Rattle.book.proofs.Faults.{Good, no-bad, fault-range}
 use Rattle.scene.specs.Compile.{sceneRequests, selectedRequests}
-use Rattle.scene.specs.Call.{CompileResult, output, minOutput, refusedWith, outputInBuffer, addressOk, compileSteps, compileScene, compileTo, compileFor, compileSelected}
+use Rattle.scene.specs.Call.{CompileResult, output, minOutput, refusedWith, outputInBuffer, compileSteps, compileScene, compileTo, compileFor, compileSelected}
 use Rattle.scene.proofs.Outputs.{Faultless, target-refused, target-valid, compile-written, compile-refused}
 use Rattle.acceptance.specs.SceneTheorem.{Addressable, NoFault, SceneRule, StepRefusal, FirstBad, Refusals}
 

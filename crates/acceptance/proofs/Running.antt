@@ -9,6 +9,7 @@ use lib.Dec.{eqb}
 use lib.ListN.{length, drop, length-append}
 use lib.Seq.{take-append-seam}
 use borrow.Author.Tests.{eq-eqb, ne-eqb, eqb-true, eqb-false}
+use Rattle.dpa.specs.Settings.{addressOk}
 use Rattle.dpa.proofs.Bool.{by-cond}
 use Rattle.memory.specs.declared.block.Memory.the-variants.{Eeprom, External}
 use Rattle.memory.specs.Block.{sizeOf}
@@ -18,7 +19,7 @@ use Rattle.handler.proofs.Soundness.{request-sound}
 use Rattle.book.specs.Book.{sceneOf}
 use Rattle.book.specs.Machine.{machine}
 use Rattle.scene.specs.Compile.{sceneRequests}
-use Rattle.scene.specs.Call.{CompileResult, output, requestsIn, outputOf, outputInBuffer, addressOk, compileFor}
+use Rattle.scene.specs.Call.{CompileResult, output, requestsIn, outputOf, outputInBuffer, compileFor}
 use Rattle.acceptance.specs.SceneTheorem.{Addressable, Given, afterCalls}
 use Rattle.acceptance.specs.RunScene.{zeroBuffer, CompleteOutput, SceneResult, result, afterCompile, runScene}
 use Rattle.acceptance.proofs.Refusals.{addressable, accepted-answer, compile-refusals}

@@ -11,6 +11,7 @@ use Rattle.dpa.specs.Frame.{broadcastNadr, anyHwpid}
 use Rattle.dpa.specs.NodeSet.{selects, nodeSetOk, Selectable}
 use Rattle.dpa.specs.Pnum.{osPnum}
 use Rattle.dpa.specs.declared.settings.Settings.{Settings}
+use Rattle.dpa.specs.Settings.{addressOk}
 use Rattle.dpa.proofs.NodeSets.{set-ok-exact}
 use Rattle.batch.specs.Batch.{item, listBytes, Reading}
 use Rattle.batch.proofs.RoundTrip.{round-trip, list-nonempty}
@@ -23,7 +24,7 @@ use Rattle.book.specs.Step.{noFault, stepFault}
 use Rattle.book.specs.Machine.{wellFormed}
 use Rattle.book.proofs.Faults.{fault-meaning, good-formed}
 use Rattle.scene.specs.Compile.{sceneRequests, selectedRequests}
-use Rattle.scene.specs.Call.{addressOk, compileTo}
+use Rattle.scene.specs.Call.{compileTo}
 use Rattle.scene.proofs.Batches.{batch-limits, selected-limits}
 use Rattle.scene.proofs.Outputs.{buffer-back}
 use Rattle.acceptance.specs.SceneTheorem.{Addressable, NoFault, SceneRule, MatchesMachine, StaysUnchanged, ClaimOfScene, AddressedTheorem, SelectedTheorem, NotSelectedTheorem, Condition3}

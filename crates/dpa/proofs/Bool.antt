@@ -1,12 +1,13 @@
 -- Laws of tests and of choices by a test.
-use mathlib.Core.Path.{_≡_, refl, sym, ap, _∙_}
-use mathlib.Core.Bool.{Bool, true, false, cond, _&&_, Bool·beq}
-use Prim.Native.Nat.{ℕ, zero, suc, _+_, _<_}
+use mathlib.Core.Path.{_≡_, refl, sym, ap, ap₂, _∙_}
+use mathlib.Core.Bool.{Bool, true, false, cond, _&&_, _||_, Bool·beq}
+use Prim.Native.Nat.{ℕ, zero, suc, _+_, _≤_, _<_}
+use native.Mathlib.Nat.{add-zero, add-suc}
 use native.Mathlib.Omega.{arith}
 use native.Mathlib.Numerals.{add-one}
 use lib.Dec.{eqb}
-use borrow.Author.Tests.{eqb-true, eqb-false}
-use Rattle.dpa.specs.Lists.{allBelow}
+use borrow.Author.Tests.{eqb-true, eqb-false, ne-eqb}
+use Rattle.dpa.specs.Lists.{allBelow, numberBelow}
 
 -- the first test of a true conjunction is true
 pub and-left : (a b : Bool) → (a && b) ≡ true → a ≡ true
@@ -27,12 +28,27 @@ pub and-right-false : (a b : Bool) → b ≡ false → (a && b) ≡ false
 and-right-false true b e = e
 and-right-false false b e = refl
 
+-- a true disjunction whose second test is false has a true first one
+pub or-left : (a b : Bool) → b ≡ false → (a || b) ≡ true → a ≡ true
+or-left true b n e = refl
+or-left false b n e = sym n ∙ e
+
+-- a true disjunction whose first test is false has a true second one
+pub or-right : (a b : Bool) → a ≡ false → (a || b) ≡ true → b ≡ true
+or-right true b n e = cc
+or-right false b n e = e
+
 -- Bools that compare as equal are equal
 pub beq-eq : (a b : Bool) → Bool·beq a b ≡ true → a ≡ b
 beq-eq true true e = refl
 beq-eq true false e = sym e
 beq-eq false true e = e
 beq-eq false false e = refl
+
+-- a test that cannot be true is false
+pub never-true : (b : Bool) → (b ≡ true → ⊥) → b ≡ false
+never-true true h = absurd (h refl)
+never-true false h = refl
 
 -- P holds for `cond b x y` if it holds for x when b is true and for y when b is false
 pub by-cond : {A : Type 0} (P : A → Type 0) (b : Bool) (x y : A) → (b ≡ true → P x) → (b ≡ false → P y) → P (cond b x y)
@@ -105,3 +121,46 @@ all-below-fails (suc n) f e found =
     earlier : (a b : Bool) → b ≡ true → (a && b) ≡ false → a ≡ false
     earlier true b t e = let z : _≡_ {A = ℕ} 0 1 = cc in absurd (omega arith)
     earlier false b t e = refl
+
+-- Laws of `numberBelow`
+
+-- tests that agree on each number below n hold for as many of them
+pub number-same : (n : ℕ) (f g : ℕ → Bool) → ((k : ℕ) → k < n → f k ≡ g k) → numberBelow n f ≡ numberBelow n g
+unfolding numberBelow
+number-same zero f g h = refl
+number-same (suc n) f g h =
+    ap₂ (λ (x : ℕ) (b : Bool). x + cond b 1 0) (number-same n f g (λ k l. h k (omega arith))) (h n (omega arith))
+
+-- a test that holds for no number below n
+pub number-none : (n : ℕ) (f : ℕ → Bool) → ((k : ℕ) → k < n → f k ≡ false) → numberBelow n f ≡ 0
+unfolding numberBelow
+number-none zero f h = refl
+number-none (suc n) f h = ap₂ (λ (x : ℕ) (b : Bool). x + cond b 1 0) (number-none n f (λ k l. h k (omega arith))) (h n (omega arith))
+
+-- the first number apart
+pub number-shift : (n : ℕ) (f : ℕ → Bool) → numberBelow (suc n) f ≡ cond (f 0) 1 0 + numberBelow n (λ k. f (suc k))
+unfolding numberBelow
+number-shift zero f = omega arith
+number-shift (suc n) f = omega (arith, number-shift n f)
+
+-- the first m numbers apart
+pub number-add : (m n : ℕ) (f : ℕ → Bool) → numberBelow (m + n) f ≡ numberBelow m f + numberBelow n (λ k. f (m + k))
+unfolding numberBelow
+number-add m zero f = rw (add-zero m, add-zero (numberBelow m f))
+number-add m (suc n) f = rw (add-suc m n) (omega (arith, number-add m n f))
+
+-- no more than n of the numbers below n
+pub number-max : (n : ℕ) (f : ℕ → Bool) → numberBelow n f ≤ n
+unfolding numberBelow
+number-max zero f = omega arith
+number-max (suc n) f = by-cond (λ (x : ℕ). numberBelow n f + x ≤ suc n) (f n) 1 0 (λ t. omega (arith, number-max n f)) (λ t. omega (arith, number-max n f))
+
+-- a test that also holds for a number a below n, for which it did not
+pub number-added : (n : ℕ) (f : ℕ → Bool) (a : ℕ) → a < n → f a ≡ false → numberBelow n (λ k. eqb k a || f k) ≡ numberBelow n f + 1
+unfolding numberBelow
+number-added zero f a h e = absurd (omega arith)
+number-added (suc n) f a h e =
+    by-test (eqb n a)
+    (λ t. let m : n ≡ a = eqb-true n a t in
+    rw (number-same n (λ k. eqb k a || f k) f (λ k l. ap (λ (x : Bool). x || f k) (ne-eqb k a (λ z. omega arith))), t, ap f m ∙ e) (omega arith))
+    (λ t. let m = eqb-false n a t in rw (number-added n f a (omega arith) e, t) (omega arith))

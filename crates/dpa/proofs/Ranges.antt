@@ -27,6 +27,10 @@ step-positive s l e = omega (arith, eqb-false s 0 (not-true (eqb s 0) (and-left 
 pub step-remainder : (s : ℕ) → s < 256 → stepOk s ≡ true → 100 % s ≡ 0
 step-remainder s l e = eqb-true _ _ (and-right (not (eqb s 0)) _ (sym (step-divides s l) ∙ e))
 
+-- an address that a node can have is 1 to 239
+pub node-range : (a : ℕ) → nodeAddress a ≡ true → (1 ≤ a) × (a ≤ lastAddress)
+node-range a e = (leb-true 1 a (and-left _ (leb a lastAddress) e), leb-true a lastAddress (and-right (leb 1 a) _ e))
+
 module _ (s : Settings) (e : settingsOk s ≡ true) where
   first-four : (nodeAddress (s .address) && leb 1 (s .«lamp_count») && leb (s .«lamp_count») maxLamps) ≡ true
   unfolding settingsOk
@@ -43,8 +47,8 @@ module _ (s : Settings) (e : settingsOk s ≡ true) where
   unfolding settingsOk
   settings-facts =
       record {
-        address-min = leb-true _ _ (and-left _ (leb (s .address) lastAddress) first-two);
-        address-max = leb-true _ _ (and-right (leb 1 (s .address)) _ first-two);
+        address-min = node-range (s .address) first-two .0;
+        address-max = node-range (s .address) first-two .1;
         count-min = leb-true _ _ (and-right (nodeAddress (s .address)) _ first-three);
         count-max = leb-true _ _ (and-right (nodeAddress (s .address) && leb 1 (s .«lamp_count»)) _ first-four);
         step-valid =

@@ -1,7 +1,7 @@
 -- Lists of bytes, and conditions on all elements or indices.
-use Prim.Native.Nat.{ℕ, zero, suc, _<_}
+use Prim.Native.Nat.{ℕ, zero, suc, _+_, _<_}
 use mathlib.Core.List.{List, [], _∷_, _++_}
-use mathlib.Core.Bool.{Bool, true, _&&_}
+use mathlib.Core.Bool.{Bool, true, cond, _&&_}
 use lib.ListN.{length, take, drop, getD}
 
 -- ys with its first bytes replaced by xs
@@ -25,6 +25,11 @@ Bytes s = (i : ℕ) → getD s i 0 < 256
 unfoldable pub allBelow : ℕ → (ℕ → Bool) → Bool
 allBelow zero f = true
 allBelow (suc n) f = allBelow n f && f n
+
+-- how many numbers below n satisfy f
+unfoldable pub numberBelow : ℕ → (ℕ → Bool) → ℕ
+numberBelow zero f = 0
+numberBelow (suc n) f = numberBelow n f + cond (f n) 1 0
 
 -- P holds for every element
 abbrev pub All : {A : Type 0} → (A → Type 0) → List A → Type 0

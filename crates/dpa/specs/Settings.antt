@@ -4,6 +4,7 @@ use mathlib.Core.Path.{_≡_}
 use mathlib.Core.Bool.{Bool, true, _&&_, _||_}
 use lib.Dec.{leb, eqb}
 use Rattle.dpa.specs.declared.settings.Settings.{Settings}
+use Rattle.dpa.specs.Frame.{broadcastNadr}
 
 -- the valid dimming steps
 unfoldable pub stepOk : ℕ → Bool
@@ -20,6 +21,10 @@ maxLamps = 32
 -- an address that a node can have: 1 to 239
 abbrev pub nodeAddress : ℕ → Bool
 nodeAddress a = leb 1 a && leb a lastAddress
+
+-- an address that a request can have: a node's, or the broadcast address
+unfoldable pub addressOk : ℕ → Bool
+addressOk a = eqb a broadcastNadr || nodeAddress a
 
 -- a node address, a lamp count of 1 to 32, a valid dimming step; any HWPID and DpaValue
 unfoldable pub settingsOk : Settings → Bool

@@ -1,6 +1,6 @@
 // Why a call refuses its arguments. If several apply, the first of this list is returned.
 pub const NONE: u8 = 0;
-// The node record or the record of a receiver breaks its rule, settings or an address are out of range, or a node set names address 0
+// The record of a node, a receiver or a gateway breaks its rule, settings or an address are out of range, or a node set names address 0
 // or no node.
 pub const NODE: u8 = 1;
 // The frame is shorter than its header, or longer than the longest request; on the serial line, than the longest response.
@@ -29,6 +29,12 @@ pub const OUTPUT: u8 = 9;
 pub const VIEW: u8 = 10;
 // The output buffer is too small for the framed message.
 pub const FRAMED: u8 = 11;
+// An address that no node can have, one that is bonded already, or one that is not bonded.
+pub const ADDRESS: u8 = 12;
+// The desk holds as many requests as it can.
+pub const FULL: u8 = 13;
+// A time before the last one given, or too late.
+pub const TIME: u8 = 14;
 // A view is longer than the longest block of a request.
 pub const BLOCK: u8 = 15;
 // A view starts or ends outside the memory.

@@ -1,6 +1,7 @@
 // The settings that a node is started with.
+use crate::frame::Frame;
 ghost use mathlib.Core.Path.{_≡_};
-ghost use Rattle.dpa.specs.Settings.{stepOk, settingsOk};
+ghost use Rattle.dpa.specs.Settings.{stepOk, nodeAddress, addressOk, settingsOk};
 
 // The highest address that a node can have.
 pub const LAST_ADDRESS: u16 = 239;
@@ -15,6 +16,26 @@ pub struct Settings {
     pub dpa_value: u8,
     pub lamp_count: u8,
     pub step: u8,
+}
+
+// Whether a node can have this address.
+pub fn node_address(address: u16) -> bool
+    ensures { λ r. ⌜ r ≡ nodeAddress address ⌝ }
+{
+    if address < 1 {
+        return false;
+    }
+    address <= LAST_ADDRESS
+}
+
+// Whether a request can have this address: a node's, or the broadcast address.
+pub fn address_ok(address: u16) -> bool
+    ensures { λ r. ⌜ r ≡ addressOk address ⌝ }
+{
+    if address == Frame::BROADCAST {
+        return true;
+    }
+    node_address(address)
 }
 
 // Whether a dimming step is valid: the valid steps are the divisors of 100.

@@ -7,11 +7,12 @@ use native.Mathlib.Omega.{arith}
 use lib.ListN.{length, getD, take, drop}
 use lib.Dec.{leb, ltb, eqb}
 use borrow.Author.Tests.{le-leb, leb-true, leb-false, lt-ltb, ltb-false, eqb-true, eqb-false}
+use Rattle.dpa.specs.Lists.{numberBelow}
 use Rattle.dpa.specs.Settings.{maxLamps}
 use Rattle.dpa.specs.Reply.{Harmless, Reply, reply, errorReply}
 use Rattle.dpa.proofs.Bool.{both, by-cond, by-test}
 use Rattle.dpa.specs.declared.settings.Settings.{Settings}
-use Rattle.lights.specs.Bits.{bitmapSize, count, bitmap, isOne, selected, numberBelow}
+use Rattle.lights.specs.Bits.{bitmapSize, count, bitmap, isOne, selected}
 use Rattle.lights.specs.Lamp.{off, lampFits, LampRule, actualLevel}
 use Rattle.lights.specs.Lights.{commandPcmd, enumeratePcmd, keepPower, PowerEntries, allValid, malformed, powerEntries, malformedError, kept, lampsAfter, levelsBefore, levelsReply, changeLamps, enumerateLamps, lightsRequest, wellFormed, changesOf, changesLamps, commandOf}
 use Rattle.lights.proofs.Lamps.{fits-test, fits-rule, fits-above, zero-facts}

@@ -1,6 +1,6 @@
 -- Which lamps a bitmap selects, and how many.
 use mathlib.Core.Path.{_≡_, refl, sym, ap, ap₂, _∙_}
-use mathlib.Core.Bool.{Bool, cond}
+use mathlib.Core.Bool.{Bool}
 use mathlib.Core.List.{List, [], _∷_, _++_}
 use Prim.Native.Nat.{ℕ, zero, suc, _+_, _-_, _/_, _%_, _^_, _≤_, _<_}
 use native.Mathlib.Nat.{div-div-eq-div-mul, pow-suc, mul-comm}
@@ -11,9 +11,9 @@ use lib.Dec.{ltb}
 use lib.Count.{ones}
 use borrow.Author.Tests.{ltb-true, ltb-false}
 use Rattle.dpa.specs.Settings.{maxLamps}
-use Rattle.dpa.specs.Lists.{Bytes}
-use Rattle.dpa.proofs.Bool.{by-test}
-use Rattle.lights.specs.Bits.{bits, count, bitmap, maskOf, isOne, selected, numberBelow}
+use Rattle.dpa.specs.Lists.{Bytes, numberBelow}
+use Rattle.dpa.proofs.Bool.{by-test, number-same, number-shift}
+use Rattle.lights.specs.Bits.{bits, count, bitmap, maskOf, isOne, selected}
 use Rattle.lights.proofs.Bits.{bits-length, mask-max, bits-mask, ones-count}
 
 -- bit i of a number
@@ -69,17 +69,6 @@ bitmap-at xs k h =
 pub selected-bit : (xs : List ℕ) (k : ℕ) → k < maxLamps → isOne (getD (bitmap xs) k 0) ≡ selected xs k
 unfolding selected
 selected-bit xs k h = ap isOne (bitmap-at xs k h)
-
-number-same : (n : ℕ) (f g : ℕ → Bool) → ((k : ℕ) → k < n → f k ≡ g k) → numberBelow n f ≡ numberBelow n g
-unfolding numberBelow
-number-same zero f g h = refl
-number-same (suc n) f g h =
-    ap₂ (λ (x : ℕ) (b : Bool). x + cond b 1 0) (number-same n f g (λ k l. h k (omega arith))) (h n (omega arith))
-
-number-shift : (n : ℕ) (f : ℕ → Bool) → numberBelow (suc n) f ≡ cond (f 0) 1 0 + numberBelow n (λ k. f (suc k))
-unfolding numberBelow
-number-shift zero f = omega arith
-number-shift (suc n) f = omega (arith, number-shift n f)
 
 -- the ones among the first k bits
 number-count : (bs : List ℕ) (k : ℕ) → k ≤ length bs → numberBelow k (λ i. isOne (getD bs i 0)) ≡ count (take k bs)

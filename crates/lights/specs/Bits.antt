@@ -1,7 +1,7 @@
 -- Document 01, "Lights 71": the bitmap of a request. Bit 0 of byte 0 is lamp 0.
 use Prim.Native.Nat.{ℕ, zero, suc, _+_, _-_, _*_, _/_, _%_, _^_}
 use mathlib.Core.List.{List, [], _∷_, _++_}
-use mathlib.Core.Bool.{Bool, true, false, cond}
+use mathlib.Core.Bool.{Bool, true, false}
 use lib.ListN.{getD}
 use lib.Count.{trailingZeros}
 use Rattle.dpa.specs.Number.{wordAt}
@@ -43,11 +43,6 @@ abbrev pub isOne : ℕ → Bool
 isOne zero = false
 isOne (suc b) = true
 
--- lamp k is selected: bit k mod 8 of byte k / 8 is 1 (proofs/Selected: `bitmap-at`)
+-- lamp k is selected: bit k mod 8 of byte k / 8 is 1 (proofs/Selected: `bitmap-at`, `count-selected`, `mask-selected`)
 unfoldable pub selected : List ℕ → ℕ → Bool
 selected xs k = isOne (getD xs (k / 8) 0 / 2 ^ (k % 8) % 2)
-
--- how many numbers below n satisfy f (proofs/Selected: `count-selected`, `mask-selected`)
-unfoldable pub numberBelow : ℕ → (ℕ → Bool) → ℕ
-numberBelow zero f = 0
-numberBelow (suc n) f = numberBelow n f + cond (f n) 1 0

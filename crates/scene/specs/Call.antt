@@ -1,13 +1,12 @@
 -- Document 01, "Scenes" and "Frames", with document 02, changes 1 and 3: the compile calls, their refusals and their output.
-use mathlib.Core.Bool.{Bool, cond, not, _||_}
+use mathlib.Core.Bool.{Bool, cond, not}
 use mathlib.Core.List.{List, [], _∷_, _++_}
 use Prim.Native.Nat.{ℕ, suc}
-use lib.Dec.{ltb, leb, eqb}
+use lib.Dec.{ltb, leb}
 use lib.ListN.{length, getD, take, drop}
-use Rattle.dpa.specs.Frame.{broadcastNadr}
 use Rattle.dpa.specs.Lists.{overwriteFront}
 use Rattle.dpa.specs.NodeSet.{nodeSetOk}
-use Rattle.dpa.specs.Settings.{nodeAddress}
+use Rattle.dpa.specs.Settings.{addressOk}
 use Rattle.book.specs.declared.step.Step.{Step}
 use Rattle.book.specs.declared.step.StepsCheck.{StepsCheck}
 use Rattle.book.specs.declared.step.StepsCheck.the-variants.{AllGood, Bad}
@@ -65,10 +64,6 @@ refusedWith r s out = record { refusal = r; step = s; length = 0; buffer = out }
 -- an output at the front of the buffer; the bytes after it stay
 abbrev pub outputInBuffer : List ℕ → List ℕ → CompileResult
 outputInBuffer o out = record { refusal = 0; step = 0; length = length o; buffer = overwriteFront o out }
-
--- the address of a node, or 255
-unfoldable pub addressOk : ℕ → Bool
-addressOk a = eqb a broadcastNadr || nodeAddress a
 
 -- the fault of the first bad step, with its number; else refusal 9 if the buffer is too small; else the output
 abbrev pub compileSteps : StepsCheck → List (List ℕ) → List ℕ → CompileResult

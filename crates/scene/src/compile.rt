@@ -11,7 +11,7 @@ use dpa::node_set::node_set_ok;
 use dpa::number::wide;
 use dpa::pnum;
 use dpa::refusal;
-use dpa::settings::LAST_ADDRESS;
+use dpa::settings::address_ok;
 use handler::os::BATCH;
 use handler::os::SELECTIVE_BATCH;
 ghost use mathlib.Core.Path.{_≡_};
@@ -21,7 +21,7 @@ ghost use Rattle.dpa.specs.Frame.{anyHwpid};
 ghost use Rattle.book.specs.Book.{stepsMax, stepLength, stepsIn};
 ghost use Rattle.book.specs.Step.{firstBadFrom};
 ghost use Rattle.scene.specs.Compile.{Limits};
-ghost use Rattle.scene.specs.Call.{addressOk, compileSteps, compileScene, compileFor, compileSelected, compileResult};
+ghost use Rattle.scene.specs.Call.{compileSteps, compileScene, compileFor, compileSelected, compileResult};
 ghost use Rattle.scene.specs.Fill.{requestsWith};
 
 // Maximum size of the PData of a batch entry.
@@ -55,19 +55,6 @@ fn refused(refusal: u8, step: u8) -> CompileAnswer
         step,
         length: 0,
     }
-}
-
-// Whether a scene can be compiled for this address: a node's, or the broadcast address.
-fn address_ok(address: u16) -> bool
-    ensures { λ r. ⌜ r ≡ addressOk address ⌝ }
-{
-    if address == Frame::BROADCAST {
-        return true;
-    }
-    if address < 1 {
-        return false;
-    }
-    address <= LAST_ADDRESS
 }
 
 // Compiles the steps of a scene. A bad step is refused before a buffer that is too small.

@@ -11,7 +11,7 @@ use Rattle.dpa.proofs.Bool.{by-cond, by-test}
 use Rattle.timing.specs.declared.slot.Network.{Network}
 use Rattle.timing.specs.declared.slot.Network.the-variants.{Std, StdLp}
 use Rattle.timing.specs.declared.slot.SendAnswer.{SendAnswer}
-use Rattle.timing.specs.Slot.{baseSlot, networkExtra, slotOf, directionTime, earliestOf, sendAnswer, sendOf}
+use Rattle.timing.specs.Slot.{baseSlot, networkExtra, slotOf, directionTime, earliestOf, waitMax, sendAnswer, sendOf}
 
 base-range : (n : ℕ) → (4 ≤ baseSlot n) × (baseSlot n ≤ 6)
 unfolding baseSlot
@@ -49,11 +49,8 @@ direction-grows h k slot l =
     let p : (h + 1) * slot ≤ (k + 1) * slot = mul-le-mul a b in
     omega arith
 
--- the longest wait: 256 slots of 100 ms in each direction, and the longest delay
-abbrev pub waitMax : ℕ
-waitMax = 116735
-
-earliest-max : (hops requestLength delay responseHops responseLength : ℕ) (net : Network) (broadcast : Bool) → hops < 256 → delay < 65536 → responseHops < 256
+-- no wait is longer
+pub earliest-max : (hops requestLength delay responseHops responseLength : ℕ) (net : Network) (broadcast : Bool) → hops < 256 → delay < 65536 → responseHops < 256
     → earliestOf hops requestLength delay responseHops responseLength net broadcast ≤ waitMax
 unfolding earliestOf
 earliest-max hops requestLength delay responseHops responseLength net broadcast h d b =
@@ -61,7 +58,7 @@ earliest-max hops requestLength delay responseHops responseLength net broadcast 
     let q : directionTime responseHops (slotOf responseLength net) ≤ 2560 * 10 = direction-max responseHops (slotOf responseLength net) 10 b (slot-range responseLength net .1) in
     by-cond (λ (w : ℕ). directionTime hops (slotOf requestLength net) + delay + w ≤ waitMax) broadcast _ _ (λ e. omega arith) (λ e. omega arith)
 
--- no wait is longer
+-- nor one that is answered
 pub send-max : (hops requestLength delay responseHops responseLength : ℕ) (net : Network) (broadcast : Bool) → hops < 256 → delay < 65536 → responseHops < 256
     → sendOf hops requestLength delay responseHops responseLength net broadcast .milliseconds ≤ waitMax
 unfolding sendOf

@@ -1,12 +1,17 @@
 -- Document 01, "Confirmation and waiting": timeslots and the earliest next send.
 use Prim.Native.Nat.{ℕ, _+_, _*_}
-use mathlib.Core.Bool.{Bool, cond}
+use mathlib.Core.Bool.{Bool, true, false, cond}
 use lib.Dec.{ltb, leb}
 use Rattle.dpa.specs.Frame.{pdataMax}
 use Rattle.timing.specs.declared.slot.Network.{Network}
 use Rattle.timing.specs.declared.slot.Network.the-variants.{Std, StdLp}
 use Rattle.timing.specs.declared.slot.SlotAnswer.{SlotAnswer}
 use Rattle.timing.specs.declared.slot.SendAnswer.{SendAnswer}
+
+-- the network type by a flag, true for STD+LP
+unfoldable pub networkOf : Bool → Network
+networkOf true = StdLp
+networkOf false = Std
 
 -- the slot by PData length: under 17 bytes, 17 to 40, over 40
 unfoldable pub baseSlot : ℕ → ℕ
@@ -39,6 +44,10 @@ timeslotOf n net =
 unfoldable pub earliestOf : ℕ → ℕ → ℕ → ℕ → ℕ → Network → Bool → ℕ
 earliestOf hops requestLength delay responseHops responseLength net broadcast =
     directionTime hops (slotOf requestLength net) + delay + cond broadcast 0 (directionTime responseHops (slotOf responseLength net))
+
+-- no wait is longer: 256 slots of 100 ms in each direction, and the longest delay (proofs/Slots, `earliest-max`)
+abbrev pub waitMax : ℕ
+waitMax = 116735
 
 abbrev pub sendAnswer : ℕ → ℕ → SendAnswer
 sendAnswer refusal ms = record { refusal = refusal; milliseconds = ms }

@@ -3,12 +3,22 @@ use dpa::frame::Frame;
 use dpa::refusal;
 ghost use mathlib.Core.Path.{_≡_};
 ghost use Prim.Native.Nat.{_≤_};
-ghost use Rattle.timing.specs.Slot.{baseSlot, networkExtra, slotOf, directionTime, directionMax, timeslotOf, sendAnswer, sendOf};
+ghost use Rattle.timing.specs.Slot.{networkOf, baseSlot, networkExtra, slotOf, directionTime, directionMax, timeslotOf, sendAnswer, sendOf};
 
 // The network type.
 pub enum Network {
     Std,
     StdLp,
+}
+
+// C passes the network type as a flag: true is STD+LP.
+pub fn network_of(lp: bool) -> Network
+    ensures { λ r. ⌜ r ≡ networkOf lp ⌝ }
+{
+    if lp {
+        return Network::StdLp;
+    }
+    Network::Std
 }
 
 // PData lengths of a medium slot; shorter PData takes a short slot, longer PData a long one.
@@ -27,6 +37,9 @@ const LONG_SLOT: u8 = 6;
 const LP_EXTRA: u8 = 4;
 
 const SLOT_UNIT_MS: u32 = 10;
+
+// No wait is longer, in ms.
+pub const WAIT_MAX: u64 = 116735;
 
 #[repr(C)]
 pub struct SlotAnswer {

@@ -6,6 +6,10 @@ use dpa::pnum;
 use dpa::settings::Settings;
 use dpa::sizes::EEPROM_SIZE;
 use dpa::sizes::EXTERNAL_SIZE;
+use gateway::bonding::bond;
+use gateway::bonding::gateway_start;
+use gateway::record::Gateway;
+use gateway::sending::release;
 use handler::request::handle_request;
 use libc::STDOUT_FILENO;
 use lights::lamp::Lamp;
@@ -210,7 +214,7 @@ fn broadcast(node: Node, eeprom: &mut [u8], external: &mut [u8]) {
 }
 
 // The confirmation of the DPA guide, and the earliest next send of document 01.
-fn gateway() {
+fn confirmation() {
     let mut out = [0u8; Frame::RESPONSE_LONGEST];
     let frame = b"\x0A\x00\x07\x01\xFF\xFF";
     let confirmed = confirm(frame, 7, 6, 6, Network::Std, &mut out);
@@ -238,6 +242,34 @@ fn serial_line() {
     print_text(b"\n");
 }
 
+// Releases at this time; prints the frame and its confirmation, or nothing.
+fn release_and_print(gateway: Gateway, time: u64) -> Gateway {
+    let mut out = [0u8; Frame::RESPONSE_LONGEST];
+    let released = release(gateway, time, &mut out);
+    let frame = released.frame;
+    print_text(b"release at");
+    print_number(time);
+    print_text(b":");
+    print_hex(&frame, released.frame_length);
+    print_text(b"confirmation");
+    print_hex(&out, released.length);
+    released.gateway
+}
+
+// The request of the confirmation above, twice on a gateway's desk: the second is released 720 ms after the first.
+fn desk() {
+    let bonded = bond(gateway_start(false, 7), 10);
+    print_text(b"bonds");
+    print_number(bonded.count as u64);
+    print_text(b"\n");
+    let frame = b"\x0A\x00\x07\x01\xFF\xFF";
+    let one = gateway::sending::send(bonded.gateway, frame, 6, 6, 20, 1000);
+    let two = gateway::sending::send(one.gateway, frame, 6, 6, 20, 1000);
+    let first = release_and_print(two.gateway, 1000);
+    let early = release_and_print(first, 1719);
+    release_and_print(early, 1720);
+}
+
 fn main() {
     let settings = Settings {
         address: 1,
@@ -261,6 +293,7 @@ fn main() {
     wrong_lengths(read, &mut eeprom, &mut external);
     wrong_ends(read, &mut eeprom, &mut external);
     broadcast(read, &mut eeprom, &mut external);
-    gateway();
+    confirmation();
     serial_line();
+    desk();
 }

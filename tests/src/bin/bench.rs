@@ -4,19 +4,22 @@
 //! speed (src/fast.rs), which has the same C boundary, and requests also against
 //! one in C that changes the node in place (c/in_place.c). On the serial line it
 //! measures the library against ordinary Rust (src/plain_uart.rs) and against
-//! Rust tuned for speed (src/fast_uart.rs), both with the same C boundary.
+//! Rust tuned for speed (src/fast_uart.rs), both with the same C boundary; at the
+//! gateway against ordinary Rust (src/plain_gateway.rs), also with that boundary.
 //! Then measures ways to compute a checksum against the loop that adds byte by
 //! byte with carries.
 //! `BENCH_BURSTS` sets the number of bursts for each figure.
 use grelfint_tests::board::{code_check_pdata, frame_of, Board, Lengths};
 use grelfint_tests::ffi::{
-    handle_request_by, uart_frame_by, uart_receive_by, CompileAnswer, HandleRequest, Node, NodeSet, Receiver,
-    UartFrame, UartReceive, HANDLE_REQUEST, UART_FRAME, UART_RECEIVE,
+    bond_by, bond_count_by, handle_request_by, release_by, send_by, uart_frame_by, uart_receive_by, Bond, BondCount,
+    CompileAnswer, Gateway, GatewayAnswer, HandleRequest, Node, NodeSet, Receiver, Release, Send, UartFrame,
+    UartReceive, BOND, BOND_COUNT, HANDLE_REQUEST, RELEASE, SEND, UART_FRAME, UART_RECEIVE, UNBOND,
 };
 use grelfint_tests::reference::{CodeType, EXTERNAL_SIZE};
+use grelfint_tests::reference_gateway;
 use grelfint_tests::reference_uart::{self, ESCAPE, FLAG, FRAMED, LONGEST};
 use grelfint_tests::sides::{Side, FAST, IN_PLACE, LIBRARY};
-use grelfint_tests::{fast, fast_uart, in_place, plain_uart};
+use grelfint_tests::{fast, fast_uart, in_place, plain_gateway, plain_uart};
 use std::hint::black_box;
 use std::time::Instant;
 
@@ -98,6 +101,13 @@ fn time_receive(function: UartReceive, receiver: Receiver, line: &[u8], calls: u
 fn time_frame(function: UartFrame, message: &[u8], out: &mut [u8], calls: u32) -> f64 {
     time(calls, || {
         black_box(&uart_frame_by(function, black_box(message), out));
+    })
+}
+
+/// Nanoseconds per call on a gateway.
+fn time_on<A>(gateway: &Gateway, calls: u32, mut call: impl FnMut(Gateway) -> A) -> f64 {
+    time(calls, || {
+        black_box(&call(*black_box(gateway)));
     })
 }
 
@@ -303,6 +313,78 @@ fn compare_serial_line(bursts: usize) {
     compare_message("1/4 escaped", bursts, &escaped);
 }
 
+/// A request of 30 bytes to a node.
+fn request_to(address: u16) -> Vec<u8> {
+    frame_of(address, 0x71, 0, 0xFFFF, &[1; 24])
+}
+
+/// A gateway with 80 bonds and four requests, the oldest of which may be released at any time.
+fn busy_gateway() -> Gateway {
+    let mut gateway = reference_gateway::start(false, 7);
+    for address in (1..240).step_by(3) {
+        gateway = reference_gateway::bond(gateway, address).gateway;
+    }
+    for address in [1, 4, 7, 10] {
+        gateway = reference_gateway::send(gateway, &request_to(address), 2, 3, 20, 1000).gateway;
+    }
+    assert_eq!(gateway.desk.count, 4);
+    gateway
+}
+
+fn compare_bonds(bursts: usize, gateway: &Gateway) {
+    let bonds: [[Bond; 2]; 2] = [[BOND, UNBOND], [plain_gateway::bond, plain_gateway::unbond]];
+    let both = |[bond, unbond]: [Bond; 2], gateway| {
+        let bonded = bond_by(bond, gateway, black_box(120));
+        (bonded.refusal, bonded.count, bond_by(unbond, bonded.gateway, black_box(120)))
+    };
+    let [l, p] = bonds.map(|functions| both(functions, *gateway));
+    assert!(l == p && (l.0, l.1, l.2.refusal, l.2.count) == (0, 81, 0, 80) && l.2.gateway == *gateway);
+    compare::<2>("adding a bond and removing it", bursts, |side, calls| {
+        time_on(gateway, calls, |gateway| both(bonds[side], gateway))
+    });
+
+    let counts: [BondCount; 2] = [BOND_COUNT, plain_gateway::bond_count];
+    let [l, p] = counts.map(|function| bond_count_by(function, *gateway));
+    assert!(l == p && l.count == 80, "counting bonds: answers differ");
+    compare::<2>("counting 80 bonds", bursts, |side, calls| {
+        time_on(gateway, calls, |gateway| bond_count_by(counts[side], gateway))
+    });
+}
+
+fn compare_send(name: &str, bursts: usize, gateway: &Gateway, address: u16, refusal: u8) {
+    let sends: [Send; 2] = [SEND, plain_gateway::send];
+    let frame = request_to(address);
+    let send = |function, gateway| -> GatewayAnswer { send_by(function, gateway, black_box(&frame), 2, 3, 20, 2000) };
+    let [l, p] = sends.map(|function| send(function, *gateway));
+    assert!(l == p && l.refusal == refusal, "{name}: answers differ");
+    compare::<2>(name, bursts, |side, calls| time_on(gateway, calls, |gateway| send(sends[side], gateway)));
+}
+
+fn compare_release(name: &str, bursts: usize, gateway: &Gateway, released: bool) {
+    let releases: [Release; 2] = [RELEASE, plain_gateway::release];
+    let mut outs = [[0; 64]; 2];
+    let [l, p] = [0, 1].map(|side| release_by(releases[side], *gateway, 2000, &mut outs[side]));
+    assert!(l == p && (l.refusal, l.released) == (0, released) && outs[0] == outs[1], "{name}: answers differ");
+    compare::<2>(name, bursts, |side, calls| {
+        time_on(gateway, calls, |gateway| release_by(releases[side], gateway, 2000, &mut outs[side]))
+    });
+}
+
+/// A gateway by value with 80 bonds and four requests of 30 bytes.
+fn compare_gateway(bursts: usize) {
+    println!("\ngateway: each call starts from the same one, by value, with 80 bonds and four requests of 30 bytes;");
+    println!("Rust is ordinary Rust (src/plain_gateway.rs)");
+    print_columns("", ["library", "Rust", "", "to Rust", ""]);
+    let due = busy_gateway();
+    let mut early = due;
+    early.desk.next = 2001;
+    compare_bonds(bursts, &due);
+    compare_send("sending a request of 30 bytes", bursts, &due, 13, 0);
+    compare_send("the same to a node without a bond", bursts, &due, 14, 12);
+    compare_release("releasing a request", bursts, &due, true);
+    compare_release("releasing too early", bursts, &early, false);
+}
+
 fn compare_ticks(bursts: usize) {
     let node = board(LIBRARY).node;
     assert_eq!((LIBRARY.tick)(node), (FAST.tick)(node));
@@ -395,5 +477,6 @@ fn main() {
     compare_compilers(bursts);
     compare_ticks(bursts);
     compare_serial_line(bursts);
+    compare_gateway(bursts);
     compare_checksums(bursts);
 }

@@ -1,0 +1,4 @@
+pub mod Desks
+pub mod PlaceTests
+pub mod Queues
+pub mod Shifts

@@ -1,0 +1,31 @@
+-- `queue::desk_after`: the wait after the oldest, and the others moved.
+use mathlib.Core.Path.{sym, ap, ap₂, subst, _∙_}
+use mathlib.Core.List.{List}
+use Prim.Native.Nat.{ℕ, _+_, _-_}
+use native.Mathlib.Omega.{arith}
+use borrow.Author.Needs.{needs}
+use Rattle.desk.specs.declared.record.Waiting.{Waiting}
+use Rattle.desk.specs.Desk.{requestIn, WaitingRule, deskFrom, networkIn, waitAfter}
+use Rattle.desk.proofs.Desks.{desk-facts}
+use Rattle.desk.proofs.queue.desk_after.Statement.{statement}
+use Rattle.desk.proofs.queue.desk_after.Tie as tie
+
+wait-after-requires : tie.Need-wait-after-requires
+wait-after-requires c κs =
+    let start = c .before .before in
+    subst WaitingRule (sym (c .oldest .ensures)) (desk-facts _ (start .pre .0) .waiting 0 (start .pre .1))
+
+returns : tie.Need-returns
+returns c =
+    let waited = c .before .before .before in
+    let start = waited .before .before .before in
+    let d = start .args .desk in
+    let t = start .args .time in
+    ap₂ (λ (n : ℕ) (ps : List Waiting). deskFrom d t (t + n) (d .count - 1) ps)
+    (waited .wait-after .ensures .0 ∙ ap (λ (w : Waiting). waitAfter (networkIn d) (requestIn w)) (waited .before .oldest .ensures))
+    (c .before .moved-down .ensures)
+
+pub desk-after-spec : {M : Type 1} → statement M
+desk-after-spec =
+    tie.close (tie.spec (λ c κs. search needs) wait-after-requires (λ c κs. search needs) (λ c. search needs)
+    (λ c. omega (arith, c .before .before .wait-after .ensures .1, c .before .before .before .before .before .pre)) (λ c. search needs) returns)

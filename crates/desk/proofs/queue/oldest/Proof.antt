@@ -1,0 +1,19 @@
+-- `queue::oldest`: a desk has eight places.
+use mathlib.Core.Path.{_≡_, sym, _∙_}
+use native.Mathlib.Omega.{arith}
+use lib.ListN.{length, length-map}
+use borrow.Author.Needs.{needs}
+use Rattle.desk.specs.Desk.{deskSize, emptyPlace}
+use Rattle.desk.proofs.Shifts.{default-unused}
+use Rattle.desk.proofs.queue.oldest.Statement.{statement}
+use Rattle.desk.proofs.queue.oldest.Tie as tie
+
+size : (c : tie.Start) → length (c .args .desk .places) ≡ deskSize
+size c = sym (length-map (c .args .desk .places) _) ∙ c .good .0 .1 .1 .1 .1 .1 .1 .1 .0 .1 .0 .1
+
+returns : tie.Need-returns
+returns c = default-unused (c .before .before .args .desk .places) 0 _ emptyPlace (omega (arith, size (c .before .before)))
+
+pub oldest-spec : {M : Type 1} → statement M
+oldest-spec =
+    tie.close (tie.spec (λ c. search needs) returns)

@@ -1,0 +1,7 @@
+pub mod BondCalls
+pub mod Bonds
+pub mod Calls
+pub mod Examples
+pub mod Gateways
+pub mod Histories
+pub mod Releases

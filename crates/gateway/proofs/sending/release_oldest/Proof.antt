@@ -1,0 +1,37 @@
+-- `sending::release_oldest`: the first place, confirmed.
+use mathlib.Core.Path.{sym, ap, subst, _∙_}
+use borrow.Author.Needs.{needs}
+use Rattle.desk.specs.Desk.{WaitingRule}
+use Rattle.desk.proofs.Queues.{due-facts}
+use Rattle.gateway.specs.Gateway.{gatewayFrom}
+use Rattle.gateway.proofs.Calls.{gateway-desk}
+use Rattle.gateway.proofs.Releases.{first-rule, oldest-answered}
+use Rattle.gateway.proofs.sending.release_oldest.Statement.{statement}
+use Rattle.gateway.proofs.sending.release_oldest.Tie as tie
+
+confirm-waiting-requires : tie.Need-confirm-waiting-requires
+confirm-waiting-requires c κs =
+    let found = c .before .before in
+    let start = found .before .before .before in
+    let p = start .pre in
+    (subst WaitingRule (sym (found .oldest .ensures)) (first-rule _ _ (start .args .out .now) (p .0) (p .1)), p .3)
+
+desk-after-requires : tie.Need-desk-after-requires
+desk-after-requires c κs =
+    let p = c .before .before .before .before .before .before .before .before .pre in
+    (gateway-desk _ (p .0), due-facts _ _ (p .1) .0, p .2)
+
+returns : tie.Need-returns
+returns c =
+    let confirmed = c .before .before .before .before .before .before in
+    let found = confirmed .before .before .before in
+    let start = found .before .before .before in
+    let a = start .args in
+    let p = start .pre in
+    oldest-answered (a .gateway) (a .time) (a .out .now) (p .0) (p .1) _ (confirmed .confirm-waiting .result) _ _ _ (found .oldest .ensures)
+    (confirmed .confirm-waiting .ensures) (c .before .wide .ensures .0)
+    (c .with-desk .ensures ∙ ap (gatewayFrom (a .gateway .bonds)) (c .before .before .before .desk-after .ensures))
+
+pub release-oldest-spec : {M : Type 1} → statement M
+release-oldest-spec =
+    tie.close (tie.spec (λ c κs. search needs) confirm-waiting-requires desk-after-requires (λ c κs. search needs) (λ c κs. search needs) (λ c. search needs) returns)

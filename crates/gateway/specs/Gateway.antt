@@ -1,0 +1,142 @@
+-- Document 02, change 6: the gateway record, its rule, and the calls. Each call tests for its refusals from the top.
+use Prim.Native.Nat.{ℕ}
+use mathlib.Core.List.{List, []}
+use mathlib.Core.Bool.{Bool, true, false, cond, not, _&&_}
+use lib.ListN.{length}
+use lib.Dec.{eqb, ltb}
+use Rattle.dpa.specs.Frame.{longestResponse, frameFits}
+use Rattle.dpa.specs.Lists.{overwriteFront}
+use Rattle.desk.specs.declared.record.Desk.{Desk}
+use Rattle.gateway.specs.declared.record.Gateway.{Gateway}
+use Rattle.gateway.specs.declared.record.BondAnswer.{BondAnswer}
+use Rattle.gateway.specs.declared.record.CountAnswer.{CountAnswer}
+use Rattle.gateway.specs.declared.record.BitmapAnswer.{BitmapAnswer}
+use Rattle.gateway.specs.declared.record.GatewayAnswer.{GatewayAnswer}
+use Rattle.gateway.specs.declared.record.ReleaseAnswer.{ReleaseAnswer}
+use Rattle.gateway.specs.Bonds.{noBonds, withBond, withoutBond, bondCount, canAdd, canRemove, canSend, bondsOk, BondsRule}
+use Rattle.desk.specs.Desk.{Request, nadrOf, confirmed, deskSize, padded, deskOk, DeskRule, newDesk, networkIn, oldest, timeOk, due, deskAt, deskWith, deskAfter}
+
+abbrev pub gatewayFrom : List ℕ → Desk → Gateway
+gatewayFrom bonds d = record { bonds = bonds; desk = d }
+
+-- the gateway rule
+unfoldable pub gatewayOk : Gateway → Bool
+gatewayOk g = bondsOk (g .bonds) && deskOk (g .desk)
+
+-- the same as facts (proofs/Gateways: `gateway-facts`, `gateway-test`)
+pub record GatewayRule (g : Gateway) : Type 0 where
+  pub bonds : BondsRule (g .bonds)
+  pub desk : DeskRule (g .desk)
+
+-- ---- start
+
+-- `gateway_start`: no bonds, an empty desk, times 0
+abbrev pub newGateway : Bool → ℕ → Gateway
+newGateway lp dpaValue = gatewayFrom noBonds (newDesk lp dpaValue)
+
+-- ---- bonds
+
+-- the answer of a call that is not refused: the number of bonds
+abbrev pub bondsAnswer : Gateway → List ℕ → BondAnswer
+bondsAnswer g bonds = record { refusal = 0; count = bondCount bonds; gateway = gatewayFrom bonds (g .desk) }
+
+abbrev pub bondRefused : ℕ → Gateway → BondAnswer
+bondRefused refusal g = record { refusal = refusal; count = 0; gateway = g }
+
+-- `bond`: a broken record: 1; an address that no node can have, or a bonded one: 12
+unfoldable pub bondOf : Gateway → ℕ → BondAnswer
+bondOf g a =
+    cond (not (gatewayOk g)) (bondRefused 1 g)
+    (cond (not (canAdd (g .bonds) a)) (bondRefused 12 g)
+    (bondsAnswer g (withBond (g .bonds) a)))
+
+-- `unbond`: a broken record: 1; an address that no node can have, or one that is not bonded: 12
+unfoldable pub unbondOf : Gateway → ℕ → BondAnswer
+unbondOf g a =
+    cond (not (gatewayOk g)) (bondRefused 1 g)
+    (cond (not (canRemove (g .bonds) a)) (bondRefused 12 g)
+    (bondsAnswer g (withoutBond (g .bonds) a)))
+
+-- `clear_bonds`: a broken record: 1
+unfoldable pub clearOf : Gateway → BondAnswer
+clearOf g = cond (gatewayOk g) (bondsAnswer g noBonds) (bondRefused 1 g)
+
+-- `bond_count`: a broken record: 1
+unfoldable pub countOf : Gateway → CountAnswer
+countOf g = cond (gatewayOk g) (record { refusal = 0; count = bondCount (g .bonds) }) (record { refusal = 1; count = 0 })
+
+-- `bond_bitmap`: a broken record: 1
+unfoldable pub bitmapOf : Gateway → BitmapAnswer
+bitmapOf g = cond (gatewayOk g) (record { refusal = 0; bitmap = g .bonds }) (record { refusal = 1; bitmap = noBonds })
+
+-- ---- desk
+
+-- why a send is refused: a broken record: 1; not a frame of 6 to 62 bytes: 2; NADR neither that of a bonded node nor 255: 12; eight
+-- requests wait: 13; a time before the last one or over 2 ^ 40: 14
+unfoldable pub sendRefusal : Gateway → List ℕ → ℕ → ℕ
+sendRefusal g frame t =
+    cond (not (gatewayOk g)) 1
+    (cond (not (frameFits (length frame))) 2
+    (cond (not (canSend (g .bonds) (nadrOf frame))) 12
+    (cond (eqb (g .desk .count) deskSize) 13
+    (cond (not (timeOk (g .desk) t)) 14
+    0))))
+
+abbrev pub gatewayAnswer : ℕ → Gateway → GatewayAnswer
+gatewayAnswer refusal g = record { refusal = refusal; gateway = g }
+
+-- `send`
+unfoldable pub sendOf : Gateway → Request → ℕ → GatewayAnswer
+sendOf g r t =
+    cond (eqb (sendRefusal g (r .frame) t) 0)
+    (gatewayAnswer 0 (gatewayFrom (g .bonds) (deskWith (g .desk) r t)))
+    (gatewayAnswer (sendRefusal g (r .frame) t) g)
+
+-- why a release with a buffer of this size is refused: a broken record: 1; under 64 bytes: 3; a time before the last one or over 2 ^ 40: 14
+unfoldable pub releaseRefusal : Gateway → ℕ → ℕ → ℕ
+releaseRefusal g t size =
+    cond (not (gatewayOk g)) 1
+    (cond (ltb size longestResponse) 3
+    (cond (not (timeOk (g .desk) t)) 14
+    0))
+
+-- the answer of a release, and the buffer
+pub record ReleaseResult : Type 0 where
+  pub answer : ReleaseAnswer
+  pub out : List ℕ
+
+abbrev pub releaseResult : ReleaseAnswer → List ℕ → ReleaseResult
+releaseResult a o = record { answer = a; out = o }
+
+-- nothing is released
+abbrev pub notReleased : ℕ → Gateway → List ℕ → ReleaseResult
+notReleased refusal g o =
+    releaseResult
+    (record { refusal = refusal; released = false; length = 0; «frame_length» = 0; frame = padded []; gateway = g })
+    o
+
+-- r is released, with this confirmation
+abbrev pub releasedResult : Request → List ℕ → Gateway → List ℕ → ReleaseResult
+releasedResult r confirmation g o =
+    releaseResult
+    (record {
+      refusal = 0;
+      released = true;
+      length = length confirmation;
+      «frame_length» = length (r .frame);
+      frame = padded (r .frame);
+      gateway = g;
+    })
+    (overwriteFront confirmation o)
+
+-- a release that is not refused; if none waits, or the time is too early, only the time is taken
+unfoldable pub releaseEffect : Gateway → ℕ → List ℕ → ReleaseResult
+releaseEffect g t o =
+    cond (due (g .desk) t)
+    (releasedResult (oldest (g .desk)) (confirmed (networkIn (g .desk)) (g .desk .«dpa_value») (oldest (g .desk)))
+    (gatewayFrom (g .bonds) (deskAfter (g .desk) t)) o)
+    (notReleased 0 (gatewayFrom (g .bonds) (deskAt (g .desk) t)) o)
+
+-- `release`
+unfoldable pub releaseOf : Gateway → ℕ → List ℕ → ReleaseResult
+releaseOf g t o = cond (eqb (releaseRefusal g t (length o)) 0) (releaseEffect g t o) (notReleased (releaseRefusal g t (length o)) g o)

@@ -1,0 +1,152 @@
+-- Document 02, change 6: histories. Calls in a row, each on the record that the last one left, and what is claimed of every such list.
+use Prim.Native.Nat.{ℕ, suc, _+_, _≤_, _<_}
+use mathlib.Core.Path.{_≡_}
+use mathlib.Core.List.{List, [], _∷_, _++_}
+use mathlib.Core.Bool.{Bool, false, cond, _&&_}
+use lib.ListN.{length, getD, take, drop}
+use lib.Dec.{eqb, leb}
+use Rattle.desk.specs.declared.record.Desk.{Desk}
+use Rattle.gateway.specs.declared.record.Gateway.{Gateway}
+use Rattle.desk.specs.Desk.{Request, request, confirmed, networkIn, waitAfter, waitingIn}
+use Rattle.gateway.specs.Gateway.{ReleaseResult, bondOf, unbondOf, clearOf, sendOf, releaseOf}
+
+-- ---- calls
+
+-- a call on a gateway, with its arguments; `release` has the buffer that it is lent
+pub data Call : Type 0 where
+  bond : ℕ → Call
+  unbond : ℕ → Call
+  clear : Call
+  count : Call
+  bitmap : Call
+  send : Request → ℕ → Call
+  release : ℕ → List ℕ → Call
+
+-- numbers of the widths that the arguments of the code have
+abbrev pub InRange : Call → Type 0
+InRange (bond a) = Unit
+InRange (unbond a) = Unit
+InRange clear = Unit
+InRange count = Unit
+InRange bitmap = Unit
+InRange (send r t) = (r .hops < 256) × (r .responseHops < 256) × (r .delay < 65536)
+InRange (release t o) = Unit
+
+-- the gateway after a call
+abbrev pub after : Gateway → Call → Gateway
+after g (bond a) = bondOf g a .gateway
+after g (unbond a) = unbondOf g a .gateway
+after g clear = clearOf g .gateway
+after g count = g
+after g bitmap = g
+after g (send r t) = sendOf g r t .gateway
+after g (release t o) = releaseOf g t o .answer .gateway
+
+-- and after all calls of a history
+unfoldable pub afterAll : Gateway → List Call → Gateway
+afterAll g [] = g
+afterAll g (c ∷ cs) = afterAll (after g c) cs
+
+-- ---- what went in, and what came out
+
+-- the request that a call put on the desk: a send that was not refused
+abbrev pub accepted : Gateway → Call → List Request
+accepted g (bond a) = []
+accepted g (unbond a) = []
+accepted g clear = []
+accepted g count = []
+accepted g bitmap = []
+accepted g (send r t) = cond (eqb (sendOf g r t .refusal) 0) (r ∷ []) []
+accepted g (release t o) = []
+
+-- all of a history
+unfoldable pub acceptedAll : Gateway → List Call → List Request
+acceptedAll g [] = []
+acceptedAll g (c ∷ cs) = accepted g c ++ acceptedAll (after g c) cs
+
+-- what a release hands out: its time, the frame in the answer, the confirmation in the buffer, the desk's next time
+pub record Handout : Type 0 where
+  pub time : ℕ
+  pub frame : List ℕ
+  pub confirmation : List ℕ
+  pub next : ℕ
+
+abbrev pub noHandout : Handout
+noHandout = record { time = 0; frame = []; confirmation = []; next = 0 }
+
+-- as the caller reads it
+abbrev pub handout : ℕ → ReleaseResult → Handout
+handout t x =
+    record {
+      time = t;
+      frame = take (x .answer .«frame_length») (x .answer .frame);
+      confirmation = take (x .answer .length) (x .out);
+      next = x .answer .gateway .desk .next;
+    }
+
+-- a release that says so
+abbrev pub released : Gateway → Call → List Handout
+released g (bond a) = []
+released g (unbond a) = []
+released g clear = []
+released g count = []
+released g bitmap = []
+released g (send r t) = []
+released g (release t o) = cond (releaseOf g t o .answer .released) (handout t (releaseOf g t o) ∷ []) []
+
+-- all of a history
+unfoldable pub releasedAll : Gateway → List Call → List Handout
+releasedAll g [] = []
+releasedAll g (c ∷ cs) = released g c ++ releasedAll (after g c) cs
+
+-- ---- first in, first out
+
+-- a handout is that of request r: its frame byte for byte, the confirmation with its hops, the next time with its hops and its delay
+pub record HandoutOf (d : Desk) (r : Request) (h : Handout) : Type 0 where
+  pub same-frame : h .frame ≡ r .frame
+  pub same-confirmation : h .confirmation ≡ confirmed (networkIn d) (d .«dpa_value») r
+  pub same-next : h .next ≡ h .time + waitAfter (networkIn d) r
+
+-- the requests that wait at the start of a history, then those that it accepts
+abbrev pub queue : Gateway → List Call → List Request
+queue g cs = waitingIn (g .desk) ++ acceptedAll g cs
+
+abbrev pub noRequest : Request
+noRequest = request [] 0 0 0
+
+-- the k-th handout is that of the k-th request; the requests after these still wait
+pub record FirstInFirstOut (g : Gateway) (cs : List Call) : Type 0 where
+  pub no-more : length (releasedAll g cs) ≤ length (queue g cs)
+  pub in-order : (k : ℕ) → k < length (releasedAll g cs) → HandoutOf (g .desk) (getD (queue g cs) k noRequest) (getD (releasedAll g cs) k noHandout)
+  pub rest-waits : waitingIn (afterAll g cs .desk) ≡ drop (length (releasedAll g cs)) (queue g cs)
+
+-- ---- spacing
+
+-- from a release to the next one at least the earliest next send of the first passes; and the first one is not before the desk's next time
+pub record Spaced (g : Gateway) (cs : List Call) : Type 0 where
+  pub first-late : 0 < length (releasedAll g cs) → g .desk .next ≤ getD (releasedAll g cs) 0 noHandout .time
+  pub apart : (k : ℕ) → suc k < length (releasedAll g cs)
+      → getD (releasedAll g cs) k noHandout .time + waitAfter (networkIn (g .desk)) (getD (queue g cs) k noRequest) ≤ getD (releasedAll g cs) (suc k) noHandout .time
+
+-- ---- no starvation
+
+-- a release call that is not refused and gives a time that is late enough
+abbrev pub lateEnough : Gateway → Call → Bool
+lateEnough g (bond a) = false
+lateEnough g (unbond a) = false
+lateEnough g clear = false
+lateEnough g count = false
+lateEnough g bitmap = false
+lateEnough g (send r t) = false
+lateEnough g (release t o) = eqb (releaseOf g t o .answer .refusal) 0 && leb (g .desk .next) t
+
+-- how many a history has
+unfoldable pub lateCalls : Gateway → List Call → ℕ
+lateCalls g [] = 0
+lateCalls g (c ∷ cs) = cond (lateEnough g c) 1 0 + lateCalls (after g c) cs
+
+-- the request at place k waits for k others, at most seven, and is handed out by the (k + 1)-th of these calls at the latest
+pub record NoStarvation (g : Gateway) (cs : List Call) : Type 0 where
+  pub at-most-seven : (k : ℕ) → k < g .desk .count → k ≤ 7
+  pub handed-out : (k : ℕ) → k < g .desk .count → k < lateCalls g cs
+      → (k < length (releasedAll g cs)) × HandoutOf (g .desk) (getD (waitingIn (g .desk)) k noRequest) (getD (releasedAll g cs) k noHandout)

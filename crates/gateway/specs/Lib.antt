@@ -1,0 +1,3 @@
+pub mod Bonds
+pub mod Gateway
+pub mod History

@@ -1,0 +1,141 @@
+// The gateway rule, the start, and the calls on bonds.
+use crate::addresses::bonds_ok;
+use crate::addresses::can_add;
+use crate::addresses::can_remove;
+use crate::addresses::count_bonds;
+use crate::addresses::with_bond;
+use crate::addresses::without_bond;
+use crate::record::BONDS_SIZE;
+use crate::record::BitmapAnswer;
+use crate::record::BondAnswer;
+use crate::record::CountAnswer;
+use crate::record::Gateway;
+use desk::queue::new_desk;
+use desk::rule::desk_ok;
+use dpa::refusal;
+ghost use mathlib.Core.Path.{_≡_};
+ghost use mathlib.Core.Bool.{true};
+ghost use Rattle.gateway.specs.Bonds.{bondsOk};
+ghost use Rattle.gateway.specs.Gateway.{gatewayOk, newGateway, bondsAnswer, bondRefused, bondOf, unbondOf, clearOf, countOf, bitmapOf};
+
+// Returns whether a record follows the gateway rule.
+pub fn gateway_ok(gateway: Gateway) -> bool
+    ensures { λ r. ⌜ r ≡ gatewayOk gateway ⌝ }
+{
+    let bonds = gateway.bonds;
+    if !bonds_ok(bonds) {
+        return false;
+    }
+    let desk = gateway.desk;
+    desk_ok(desk)
+}
+
+// A gateway without bonds and requests.
+pub fn gateway_start(lp: bool, dpa_value: u8) -> Gateway
+    ensures { λ r. ⌜ r ≡ newGateway lp «dpa_value» ⌝ }
+{
+    let desk = new_desk(lp, dpa_value);
+    Gateway {
+        bonds: [0; BONDS_SIZE],
+        desk,
+    }
+}
+
+fn bond_refused(refusal: u8, gateway: Gateway) -> BondAnswer
+    ensures { λ r. ⌜ r ≡ bondRefused refusal gateway ⌝ }
+{
+    BondAnswer {
+        refusal,
+        count: 0,
+        gateway,
+    }
+}
+
+// The answer with other bonds.
+fn bonds_answer(gateway: Gateway, bonds: [u8; BONDS_SIZE]) -> BondAnswer
+    requires { ⌜ bondsOk bonds ≡ true ⌝ }
+    ensures { λ r. ⌜ r ≡ bondsAnswer gateway bonds ⌝ }
+{
+    let count = count_bonds(bonds);
+    let kept = gateway.desk;
+    BondAnswer {
+        refusal: refusal::NONE,
+        count,
+        gateway: Gateway { bonds, desk: kept },
+    }
+}
+
+// Bonds an address.
+pub fn bond(gateway: Gateway, address: u16) -> BondAnswer
+    ensures { λ r. ⌜ r ≡ bondOf gateway address ⌝ }
+{
+    if !gateway_ok(gateway) {
+        return bond_refused(refusal::NODE, gateway);
+    }
+    let bonds = gateway.bonds;
+    if !can_add(&bonds, address) {
+        return bond_refused(refusal::ADDRESS, gateway);
+    }
+    let changed = with_bond(bonds, address);
+    bonds_answer(gateway, changed)
+}
+
+// Removes a bond. Requests that wait stay on the desk.
+pub fn unbond(gateway: Gateway, address: u16) -> BondAnswer
+    ensures { λ r. ⌜ r ≡ unbondOf gateway address ⌝ }
+{
+    if !gateway_ok(gateway) {
+        return bond_refused(refusal::NODE, gateway);
+    }
+    let bonds = gateway.bonds;
+    if !can_remove(&bonds, address) {
+        return bond_refused(refusal::ADDRESS, gateway);
+    }
+    let changed = without_bond(bonds, address);
+    bonds_answer(gateway, changed)
+}
+
+// Removes all bonds. Requests that wait stay on the desk.
+pub fn clear_bonds(gateway: Gateway) -> BondAnswer
+    ensures { λ r. ⌜ r ≡ clearOf gateway ⌝ }
+{
+    if !gateway_ok(gateway) {
+        return bond_refused(refusal::NODE, gateway);
+    }
+    let none = [0; BONDS_SIZE];
+    bonds_answer(gateway, none)
+}
+
+// Returns the number of bonds.
+pub fn bond_count(gateway: Gateway) -> CountAnswer
+    ensures { λ r. ⌜ r ≡ countOf gateway ⌝ }
+{
+    if !gateway_ok(gateway) {
+        return CountAnswer {
+            refusal: refusal::NODE,
+            count: 0,
+        };
+    }
+    let bonds = gateway.bonds;
+    CountAnswer {
+        refusal: refusal::NONE,
+        count: count_bonds(bonds),
+    }
+}
+
+// Returns a bit for each address.
+pub fn bond_bitmap(gateway: Gateway) -> BitmapAnswer
+    ensures { λ r. ⌜ r ≡ bitmapOf gateway ⌝ }
+{
+    if !gateway_ok(gateway) {
+        return BitmapAnswer {
+            refusal: refusal::NODE,
+            bitmap: [0; BONDS_SIZE],
+        };
+    }
+    let bitmap = gateway.bonds;
+    BitmapAnswer {
+        refusal: refusal::NONE,
+        bitmap,
+    }
+}

@@ -1,0 +1,5 @@
+// The gateway's bookkeeping: which addresses are bonded, and a desk where requests wait until they may be sent.
+pub mod addresses;
+pub mod bonding;
+pub mod record;
+pub mod sending;

@@ -1,0 +1,167 @@
+// The calls on the desk: a request is sent to it, and released when the air is free.
+use crate::addresses::can_remove;
+use crate::bonding::gateway_ok;
+use crate::record::Gateway;
+use crate::record::GatewayAnswer;
+use crate::record::ReleaseAnswer;
+use desk::places::place_of;
+use desk::queue::confirm_waiting;
+use desk::queue::desk_after;
+use desk::queue::desk_at;
+use desk::queue::desk_with;
+use desk::queue::oldest;
+use desk::record::Desk;
+use desk::rule::STD_LP;
+use desk::rule::due;
+use desk::rule::is_full;
+use desk::rule::time_ok;
+use dpa::frame::Frame;
+use dpa::number::wide;
+use dpa::refusal;
+ghost use mathlib.Core.Path.{_≡_};
+ghost use mathlib.Core.Bool.{true};
+ghost use mathlib.Core.List.{List};
+ghost use Prim.Native.Nat.{ℕ, _≤_};
+ghost use lib.ListN.{length};
+ghost use Rattle.dpa.specs.Frame.{headerSize, longestResponse};
+ghost use Rattle.gateway.specs.Bonds.{canSend};
+ghost use Rattle.desk.specs.Desk.{request, nadrOf, timeMax, due};
+ghost use Rattle.gateway.specs.Gateway.{gatewayFrom, gatewayOk, sendRefusal, gatewayAnswer, sendOf, releaseRefusal, releaseResult, notReleased, releaseEffect, releaseOf};
+
+fn gateway_answer(refusal: u8, gateway: Gateway) -> GatewayAnswer
+    ensures { λ r. ⌜ r ≡ gatewayAnswer refusal gateway ⌝ }
+{
+    GatewayAnswer { refusal, gateway }
+}
+
+// The gateway with another desk.
+fn with_desk(gateway: Gateway, desk: Desk) -> Gateway
+    ensures { λ r. ⌜ r ≡ gatewayFrom (gateway .bonds) desk ⌝ }
+{
+    let bonds = gateway.bonds;
+    Gateway { bonds, desk }
+}
+
+// Returns whether a frame can be sent: to all nodes, or to a bonded one.
+fn can_send(bonds: &[u8], frame: &[u8]) -> bool
+    requires { ⌜ headerSize ≤ length (now frame) ⌝ }
+    ensures { λ r. ⌜ r ≡ canSend (now (bonds .entry)) (nadrOf (now (frame .entry))) ⌝ }
+{
+    let header = Frame::read(frame);
+    if header.nadr == Frame::BROADCAST {
+        return true;
+    }
+    can_remove(bonds, header.nadr)
+}
+
+// Why a send is refused.
+fn send_refusal(gateway: Gateway, frame: &[u8], time: u64) -> u8
+    ensures { λ r. ⌜ r ≡ sendRefusal gateway (now (frame .entry)) time ⌝ }
+{
+    if !gateway_ok(gateway) {
+        return refusal::NODE;
+    }
+    if !Frame::fits(frame.len()) {
+        return refusal::FRAME;
+    }
+    let bonds = gateway.bonds;
+    let desk = gateway.desk;
+    if !can_send(&bonds, frame) {
+        return refusal::ADDRESS;
+    }
+    if is_full(desk.count) {
+        return refusal::FULL;
+    }
+    if !time_ok(desk.last, time) {
+        return refusal::TIME;
+    }
+    refusal::NONE
+}
+
+// Puts a request on the desk.
+pub fn send(
+    gateway: Gateway,
+    frame: &[u8],
+    hops: u8,
+    response_hops: u8,
+    delay: u16,
+    time: u64,
+) -> GatewayAnswer
+    ensures { λ r. ⌜ r ≡ sendOf gateway (request (now (frame .entry)) hops «response_hops» delay) time ⌝ }
+{
+    let refusal = send_refusal(gateway, frame, time);
+    if refusal != refusal::NONE {
+        return gateway_answer(refusal, gateway);
+    }
+    let place = place_of(frame, hops, response_hops, delay);
+    let desk = gateway.desk;
+    let sent = desk_with(desk, place, time);
+    gateway_answer(refusal::NONE, with_desk(gateway, sent))
+}
+
+// Why a release is refused.
+fn release_refusal(gateway: Gateway, time: u64, size: usize) -> u8
+    ensures { λ r. ⌜ r ≡ releaseRefusal gateway time size ⌝ }
+{
+    if !gateway_ok(gateway) {
+        return refusal::NODE;
+    }
+    if size < Frame::RESPONSE_LONGEST {
+        return refusal::RESPONSE;
+    }
+    let desk = gateway.desk;
+    if !time_ok(desk.last, time) {
+        return refusal::TIME;
+    }
+    refusal::NONE
+}
+
+// The answer of a release that releases nothing.
+fn not_released(refusal: u8, gateway: Gateway) -> ReleaseAnswer
+    ensures { λ r. ⌜ ((o : List ℕ) → releaseResult r o ≡ notReleased refusal gateway o) ⌝ }
+{
+    ReleaseAnswer {
+        refusal,
+        released: false,
+        length: 0,
+        frame_length: 0,
+        frame: [0; Frame::LONGEST],
+        gateway,
+    }
+}
+
+// Releases the oldest request and writes its confirmation.
+fn release_oldest(gateway: Gateway, time: u64, out: &mut [u8]) -> ReleaseAnswer
+    requires { ⌜ (gatewayOk gateway ≡ true) × (due (gateway .desk) time ≡ true) × (time ≤ timeMax) × (longestResponse ≤ length (now out)) ⌝ }
+    ensures { λ r. ⌜ releaseResult r (now (out .exit)) ≡ releaseEffect gateway time (now (out .entry)) ⌝ }
+{
+    let desk = gateway.desk;
+    let waiting = oldest(desk);
+    let length = confirm_waiting(desk.network == STD_LP, desk.dpa_value, waiting, out);
+    let after = desk_after(desk, time);
+    let frame = waiting.frame;
+    ReleaseAnswer {
+        refusal: refusal::NONE,
+        released: true,
+        length,
+        frame_length: wide(waiting.length),
+        frame,
+        gateway: with_desk(gateway, after),
+    }
+}
+
+// Releases the oldest request if its time has come; otherwise only the time is taken.
+pub fn release(gateway: Gateway, time: u64, out: &mut [u8]) -> ReleaseAnswer
+    ensures { λ r. ⌜ releaseResult r (now (out .exit)) ≡ releaseOf gateway time (now (out .entry)) ⌝ }
+{
+    let refusal = release_refusal(gateway, time, out.len());
+    if refusal != refusal::NONE {
+        return not_released(refusal, gateway);
+    }
+    let desk = gateway.desk;
+    if !due(desk.count, desk.next, time) {
+        let waits = desk_at(desk, time);
+        return not_released(refusal::NONE, with_desk(gateway, waits));
+    }
+    release_oldest(gateway, time, out)
+}

@@ -1,0 +1,15 @@
+-- `slot::network_of`: by the flag.
+use Rattle.timing.specs.Slot.{networkOf}
+use Rattle.timing.proofs.slot.network_of.Statement.{statement}
+use Rattle.timing.proofs.slot.network_of.Tie as tie
+
+returns : tie.Need-returns
+unfolding networkOf
+returns c = search
+
+returns-2 : tie.Need-returns-2
+unfolding networkOf
+returns-2 c = search
+
+pub network-of-spec : {M : Type 1} → statement M
+network-of-spec = tie.close (tie.spec returns returns-2)
