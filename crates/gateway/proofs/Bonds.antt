@@ -17,7 +17,7 @@ use Rattle.dpa.proofs.Bool.{and-left, and-right, both, and-right-false, or-left
 use Rattle.dpa.proofs.Ranges.{node-range}
 use Rattle.dpa.proofs.Bytes.{bytes-set, bytes-tested}
 use Rattle.dpa.proofs.NodeSets.{byte-none, selects-first, selects-next, selects-outside, selects-inside, named-min, byte-clear, added-small, selects-added, selects-removed, ones-bits}
-use Rattle.gateway.specs.Bonds.{bondsSize, noBonds, bonded, withBond, withoutBond, bondCount, canAdd, canRemove, bondsOk, BondsRule}
+use Rattle.gateway.specs.Bonds.{canChange, changed, bondsSize, noBonds, bonded, withBond, withoutBond, bondCount, canAdd, canRemove, bondsOk, BondsRule}
 
 -- ---- the rule as a test and as facts
 
@@ -199,6 +199,32 @@ remove-add b a e =
     let new = getD b (a / 8) 0 - 2 ^ (a % 8) in
     let m : 2 ^ (a % 8) ≤ getD b (a / 8) 0 = named-min b a e in
     set-back b (a / 8) new _ (ap (λ (x : ℕ). x + 2 ^ (a % 8)) (getD-set-same b (a / 8) new 0 (selects-inside b a e)) ∙ omega arith)
+
+-- bonds stay sound when an address is added or removed
+pub changed-sound : (add : Bool) (b : List ℕ) (a : ℕ) → bondsOk b ≡ true → canChange add b a ≡ true → bondsOk (changed add b a) ≡ true
+changed-sound true b a = add-sound b a
+changed-sound false b a = remove-sound b a
+
+-- the opposite change is then possible
+pub changed-back : (add : Bool) (b : List ℕ) (a : ℕ) → bondsOk b ≡ true → canChange add b a ≡ true → canChange (not add) (changed add b a) a ≡ true
+changed-back true b a = added-can-remove b a
+changed-back false b a = removed-can-add b a
+
+-- and gives the bonds back
+pub changed-undone : (add : Bool) (b : List ℕ) (a : ℕ) → bondsOk b ≡ true → canChange add b a ≡ true → changed (not add) (changed add b a) a ≡ b
+changed-undone true b a ok e = add-remove b a (node-inside b a ok (add-facts b a e .0))
+changed-undone false b a ok e = remove-add b a (remove-facts b a e .1)
+
+-- an address that no node can have cannot be changed
+pub node-untested : (add : Bool) (b : List ℕ) (a : ℕ) → nodeAddress a ≡ false → canChange add b a ≡ false
+unfolding canAdd canRemove
+node-untested true b a e = rw e
+node-untested false b a e = rw e
+
+-- the byte of a change is one of the bonds
+pub changed-inside : (add : Bool) (b : List ℕ) (a : ℕ) → canChange add b a ≡ true → a / 8 < bondsSize
+changed-inside true b a e = omega (arith, node-range a (add-facts b a e .0))
+changed-inside false b a e = omega (arith, node-range a (remove-facts b a e .0))
 
 -- ---- the number of bonds
 

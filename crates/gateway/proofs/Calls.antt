@@ -15,9 +15,9 @@ use Rattle.desk.specs.declared.record.Desk.{Desk}
 use Rattle.gateway.specs.declared.record.Gateway.{Gateway}
 use Rattle.gateway.specs.declared.record.BondAnswer.{BondAnswer}
 use Rattle.gateway.specs.declared.record.GatewayAnswer.{GatewayAnswer}
-use Rattle.gateway.specs.Bonds.{noBonds, withBond, withoutBond, canAdd, canRemove, canSend, bonded, bondsOk}
+use Rattle.gateway.specs.Bonds.{noBonds, bonded, canRemove, canChange, changed, canSend, bondsOk}
 use Rattle.desk.specs.Desk.{Request, nadrOf, deskSize, deskOk, DeskRule, networkIn, oldest, confirmed, timeOk, due, deskAt, deskWith, deskAfter}
-use Rattle.gateway.specs.Gateway.{gatewayFrom, gatewayOk, bondsAnswer, bondRefused, bondOf, unbondOf, clearOf, sendRefusal, gatewayAnswer, sendOf, releaseRefusal, ReleaseResult, notReleased, releasedResult, releaseEffect, releaseOf}
+use Rattle.gateway.specs.Gateway.{gatewayFrom, gatewayOk, bondsAnswer, bondRefused, changeOf, clearOf, sendRefusal, gatewayAnswer, sendOf, releaseRefusal, ReleaseResult, notReleased, releasedResult, releaseEffect, releaseOf}
 use Rattle.gateway.specs.History.{Call, bond, unbond, clear, count, bitmap, send, release, after, accepted, released, Handout, handout, HandoutOf, lateEnough}
 use Rattle.desk.proofs.Desks.{desk-facts}
 use Rattle.desk.proofs.Queues.{due-facts}
@@ -35,21 +35,13 @@ desk-rule g e = desk-facts (g .desk) (gateway-desk g e)
 
 -- a call on the bonds is refused with the gateway as it is, or answers the changed bonds
 module _ (P : BondAnswer → Type 0) (g : Gateway) (refused : (k : ℕ) → P (bondRefused k g)) where
-  change-cases : (can : Bool) (bonds : List ℕ) → (gatewayOk g ≡ true → can ≡ true → P (bondsAnswer g bonds))
-      → P (cond (not (gatewayOk g)) (bondRefused 1 g) (cond (not can) (bondRefused 12 g) (bondsAnswer g bonds)))
-  change-cases can bonds f =
+  -- the cases of `bond` and `unbond`
+  pub change-cases : (add : Bool) (a : ℕ) → (gatewayOk g ≡ true → canChange add (g .bonds) a ≡ true → P (bondsAnswer g (changed add (g .bonds) a)))
+      → P (changeOf add g a)
+  unfolding changeOf
+  change-cases add a f =
       by-cond P (not (gatewayOk g)) _ _ (λ e. refused 1) λ e.
-      by-cond P (not can) _ _ (λ d. refused 12) (λ d. f (not-false _ e) (not-false _ d))
-
-  -- the cases of `bond`
-  pub bond-cases : (a : ℕ) → (gatewayOk g ≡ true → canAdd (g .bonds) a ≡ true → P (bondsAnswer g (withBond (g .bonds) a))) → P (bondOf g a)
-  unfolding bondOf
-  bond-cases a f = change-cases (canAdd (g .bonds) a) (withBond (g .bonds) a) f
-
-  -- the cases of `unbond`
-  pub unbond-cases : (a : ℕ) → (gatewayOk g ≡ true → canRemove (g .bonds) a ≡ true → P (bondsAnswer g (withoutBond (g .bonds) a))) → P (unbondOf g a)
-  unfolding unbondOf
-  unbond-cases a f = change-cases (canRemove (g .bonds) a) (withoutBond (g .bonds) a) f
+      by-cond P (not (canChange add (g .bonds) a)) _ _ (λ d. refused 12) (λ d. f (not-false _ e) (not-false _ d))
 
   -- the cases of `clear_bonds`
   pub clear-cases : (gatewayOk g ≡ true → P (bondsAnswer g noBonds)) → P (clearOf g)
@@ -65,27 +57,19 @@ abbrev pub KeepsDesk : Gateway → BondAnswer → Type 0
 KeepsDesk g x = x .gateway .desk ≡ g .desk
 
 module _ (g : Gateway) where
-  -- a refused `bond` changes nothing
-  pub bond-refused : (a : ℕ) → BondRefusal g (bondOf g a)
-  bond-refused a = bond-cases (BondRefusal g) g (λ k z. refl) a (λ e d z. absurd (z refl))
+  -- a refused `bond` or `unbond` changes nothing
+  pub change-refused : (add : Bool) (a : ℕ) → BondRefusal g (changeOf add g a)
+  change-refused add a = change-cases (BondRefusal g) g (λ k z. refl) add a (λ e d z. absurd (z refl))
 
-  -- nor does a refused `unbond`
-  pub unbond-refused : (a : ℕ) → BondRefusal g (unbondOf g a)
-  unbond-refused a = unbond-cases (BondRefusal g) g (λ k z. refl) a (λ e d z. absurd (z refl))
-
-  -- nor a refused `clear_bonds`
+  -- nor does a refused `clear_bonds`
   pub clear-refused : BondRefusal g (clearOf g)
   clear-refused = clear-cases (BondRefusal g) g (λ k z. refl) (λ e z. absurd (z refl))
 
-  -- `bond` keeps the desk
-  pub bond-keeps-desk : (a : ℕ) → KeepsDesk g (bondOf g a)
-  bond-keeps-desk a = bond-cases (KeepsDesk g) g (λ k. refl) a (λ e d. refl)
+  -- `bond` and `unbond` keep the desk
+  pub change-keeps-desk : (add : Bool) (a : ℕ) → KeepsDesk g (changeOf add g a)
+  change-keeps-desk add a = change-cases (KeepsDesk g) g (λ k. refl) add a (λ e d. refl)
 
-  -- so does `unbond`
-  pub unbond-keeps-desk : (a : ℕ) → KeepsDesk g (unbondOf g a)
-  unbond-keeps-desk a = unbond-cases (KeepsDesk g) g (λ k. refl) a (λ e d. refl)
-
-  -- and `clear_bonds`
+  -- so does `clear_bonds`
   pub clear-keeps-desk : KeepsDesk g (clearOf g)
   clear-keeps-desk = clear-cases (KeepsDesk g) g (λ k. refl) (λ e. refl)
 
@@ -278,8 +262,8 @@ module _ (P : Desk → List Request → List Handout → Bool → Type 0) (g : G
     → HandoutOf (g .desk) (oldest (g .desk)) h → P (deskAfter (g .desk) (h .time)) [] (h ∷ []) true) where
   pub by-effect : (c : Call) → ((r : Request) (t : ℕ) → c ≡ send r t → Sendable g r t → P (deskWith (g .desk) r t) (r ∷ []) [] false)
       → P (after g c .desk) (accepted g c) (released g c) (lateEnough g c)
-  by-effect (bond a) sent = bond-cases (λ x. P (x .gateway .desk) [] [] false) g (λ k. kept) a (λ e d. kept)
-  by-effect (unbond a) sent = unbond-cases (λ x. P (x .gateway .desk) [] [] false) g (λ k. kept) a (λ e d. kept)
+  by-effect (bond a) sent = change-cases (λ x. P (x .gateway .desk) [] [] false) g (λ k. kept) true a (λ e d. kept)
+  by-effect (unbond a) sent = change-cases (λ x. P (x .gateway .desk) [] [] false) g (λ k. kept) false a (λ e d. kept)
   by-effect clear sent = clear-cases (λ x. P (x .gateway .desk) [] [] false) g (λ k. kept) (λ e. kept)
   by-effect count sent = kept
   by-effect bitmap sent = kept

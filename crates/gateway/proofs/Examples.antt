@@ -13,7 +13,7 @@ use Rattle.timing.specs.Confirm.{responseHopsSent}
 use Rattle.gateway.specs.declared.record.Gateway.{Gateway}
 use Rattle.gateway.specs.Bonds.{bondCount, canAdd, canSend, bondsOk}
 use Rattle.desk.specs.Desk.{newDesk, Request, request, waitAfter, confirmed, allZero, widthsOk, waitingOk, emptyOk, placeOk, placesOk, deskOk, timeOk, due}
-use Rattle.gateway.specs.Gateway.{gatewayOk, newGateway, bondOf, sendRefusal, sendOf, releaseRefusal, releaseEffect, releaseOf, ReleaseResult}
+use Rattle.gateway.specs.Gateway.{gatewayOk, newGateway, changeOf, bondOf, sendRefusal, sendOf, releaseRefusal, releaseEffect, releaseOf, ReleaseResult}
 
 -- an STD network with DpaValue 7 and node 10 bonded
 abbrev withNode10 : Gateway
@@ -32,18 +32,18 @@ abbrev first : ReleaseResult
 first = releaseOf sent 1000 (replicate 64 0)
 
 pub first-confirmed : first .out ≡ (10 ∷ 0 ∷ 7 ∷ 1 ∷ 255 ∷ 255 ∷ 255 ∷ 7 ∷ 6 ∷ 4 ∷ 6 ∷ []) ++ replicate 53 0
-unfolding newDesk bondOf sendOf sendRefusal releaseOf releaseRefusal releaseEffect gatewayOk bondsOk bondCount canAdd canSend deskOk placesOk placeOk widthsOk waitingOk emptyOk allZero allBelow selects addressOk frameFits timeOk due waitAfter confirmed baseSlot networkOf networkExtra slotOf directionTime earliestOf responseHopsSent ones onesIn
+unfolding newDesk changeOf sendOf sendRefusal releaseOf releaseRefusal releaseEffect gatewayOk bondsOk bondCount canAdd canSend deskOk placesOk placeOk widthsOk waitingOk emptyOk allZero allBelow selects addressOk frameFits timeOk due waitAfter confirmed baseSlot networkOf networkExtra slotOf directionTime earliestOf responseHopsSent ones onesIn
 first-confirmed = refl
 
 -- 7 slots of 40 ms, the delay, 7 slots of 60 ms
 pub first-next : first .answer .gateway .desk .next ≡ 1720
-unfolding newDesk bondOf sendOf sendRefusal releaseOf releaseRefusal releaseEffect gatewayOk bondsOk bondCount canAdd canSend deskOk placesOk placeOk widthsOk waitingOk emptyOk allZero allBelow selects addressOk frameFits timeOk due waitAfter confirmed baseSlot networkOf networkExtra slotOf directionTime earliestOf responseHopsSent ones onesIn
+unfolding newDesk changeOf sendOf sendRefusal releaseOf releaseRefusal releaseEffect gatewayOk bondsOk bondCount canAdd canSend deskOk placesOk placeOk widthsOk waitingOk emptyOk allZero allBelow selects addressOk frameFits timeOk due waitAfter confirmed baseSlot networkOf networkExtra slotOf directionTime earliestOf responseHopsSent ones onesIn
 first-next = refl
 
 pub second-early : releaseOf (sendOf (first .answer .gateway) example 1001 .gateway) 1719 (replicate 64 0) .answer .released ≡ false
-unfolding newDesk bondOf sendOf sendRefusal releaseOf releaseRefusal releaseEffect gatewayOk bondsOk bondCount canAdd canSend deskOk placesOk placeOk widthsOk waitingOk emptyOk allZero allBelow selects addressOk frameFits timeOk due waitAfter confirmed baseSlot networkOf networkExtra slotOf directionTime earliestOf responseHopsSent ones onesIn
+unfolding newDesk changeOf sendOf sendRefusal releaseOf releaseRefusal releaseEffect gatewayOk bondsOk bondCount canAdd canSend deskOk placesOk placeOk widthsOk waitingOk emptyOk allZero allBelow selects addressOk frameFits timeOk due waitAfter confirmed baseSlot networkOf networkExtra slotOf directionTime earliestOf responseHopsSent ones onesIn
 second-early = refl
 
 pub second-due : releaseOf (sendOf (first .answer .gateway) example 1001 .gateway) 1720 (replicate 64 0) .answer .released ≡ true
-unfolding newDesk bondOf sendOf sendRefusal releaseOf releaseRefusal releaseEffect gatewayOk bondsOk bondCount canAdd canSend deskOk placesOk placeOk widthsOk waitingOk emptyOk allZero allBelow selects addressOk frameFits timeOk due waitAfter confirmed baseSlot networkOf networkExtra slotOf directionTime earliestOf responseHopsSent ones onesIn
+unfolding newDesk changeOf sendOf sendRefusal releaseOf releaseRefusal releaseEffect gatewayOk bondsOk bondCount canAdd canSend deskOk placesOk placeOk widthsOk waitingOk emptyOk allZero allBelow selects addressOk frameFits timeOk due waitAfter confirmed baseSlot networkOf networkExtra slotOf directionTime earliestOf responseHopsSent ones onesIn
 second-due = refl

@@ -1,7 +1,7 @@
 -- Laws of the gateway: its rule as a test and as facts, and every call keeps it.
 use Prim.Native.Nat.{ℕ}
 use mathlib.Core.Path.{_≡_, subst}
-use mathlib.Core.Bool.{Bool, true}
+use mathlib.Core.Bool.{Bool, true, false}
 use mathlib.Core.List.{List, [], _∷_}
 use Rattle.dpa.specs.Lists.{All}
 use Rattle.dpa.proofs.Bool.{and-left, both}
@@ -11,7 +11,7 @@ use Rattle.desk.specs.Desk.{newDesk, deskOk, DeskRule}
 use Rattle.gateway.specs.Gateway.{gatewayOk, GatewayRule, newGateway}
 use Rattle.gateway.specs.History.{Call, bond, unbond, clear, count, bitmap, send, release, InRange, after, afterAll}
 use Rattle.gateway.proofs.Bonds.{bonds-facts, bonds-test, add-sound, remove-sound, none-sound}
-use Rattle.gateway.proofs.Calls.{desk-rule, bond-cases, unbond-cases, clear-cases, send-cases, release-cases, by-effect}
+use Rattle.gateway.proofs.Calls.{desk-rule, change-cases, clear-cases, send-cases, release-cases, by-effect}
 use Rattle.desk.proofs.Desks.{desk-test, new-rule}
 use Rattle.desk.proofs.Queues.{place-rule, at-rule, with-rule, after-rule, due-facts}
 
@@ -38,8 +38,8 @@ after-desk g c i f =
 
 -- a call keeps the rule of the bonds
 pub after-bonds : (g : Gateway) (c : Call) → bondsOk (g .bonds) ≡ true → bondsOk (after g c .bonds) ≡ true
-after-bonds g (bond a) e = bond-cases (λ x. bondsOk (x .gateway .bonds) ≡ true) g (λ k. e) a (λ s. add-sound (g .bonds) a e)
-after-bonds g (unbond a) e = unbond-cases (λ x. bondsOk (x .gateway .bonds) ≡ true) g (λ k. e) a (λ s. remove-sound (g .bonds) a e)
+after-bonds g (bond a) e = change-cases (λ x. bondsOk (x .gateway .bonds) ≡ true) g (λ k. e) true a (λ s. add-sound (g .bonds) a e)
+after-bonds g (unbond a) e = change-cases (λ x. bondsOk (x .gateway .bonds) ≡ true) g (λ k. e) false a (λ s. remove-sound (g .bonds) a e)
 after-bonds g clear e = clear-cases (λ x. bondsOk (x .gateway .bonds) ≡ true) g (λ k. e) (λ s. none-sound)
 after-bonds g count e = e
 after-bonds g bitmap e = e

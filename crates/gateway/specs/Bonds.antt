@@ -2,7 +2,7 @@
 use Prim.Native.Nat.{ℕ, _+_, _-_, _/_, _%_, _^_}
 use mathlib.Core.Path.{_≡_}
 use mathlib.Core.List.{List, [], _∷_}
-use mathlib.Core.Bool.{Bool, true, not, _&&_, _||_}
+use mathlib.Core.Bool.{Bool, true, cond, not, _&&_, _||_}
 use lib.ListN.{length, getD, set, replicate}
 use lib.Count.{ones}
 use lib.Dec.{eqb, ltb}
@@ -35,13 +35,21 @@ unfoldable pub bondCount : List ℕ → ℕ
 bondCount [] = 0
 bondCount (b ∷ bs) = ones b + bondCount bs
 
--- an address that can be added, one that can be removed, and one that a request can be sent to
+-- an address that can be added, and one that can be removed
 unfoldable pub canAdd : List ℕ → ℕ → Bool
 canAdd bonds a = nodeAddress a && not (bonded bonds a)
 
 unfoldable pub canRemove : List ℕ → ℕ → Bool
 canRemove bonds a = nodeAddress a && bonded bonds a
 
+-- an address that can be added (true) or removed (false), and the bonds after it
+abbrev pub canChange : Bool → List ℕ → ℕ → Bool
+canChange add bonds a = cond add (canAdd bonds a) (canRemove bonds a)
+
+abbrev pub changed : Bool → List ℕ → ℕ → List ℕ
+changed add bonds a = cond add (withBond bonds a) (withoutBond bonds a)
+
+-- an address that a request can be sent to: all nodes, or a bonded one
 unfoldable pub canSend : List ℕ → ℕ → Bool
 canSend bonds a = eqb a broadcastNadr || (nodeAddress a && bonded bonds a)
 

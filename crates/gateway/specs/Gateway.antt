@@ -13,7 +13,7 @@ use Rattle.gateway.specs.declared.record.CountAnswer.{CountAnswer}
 use Rattle.gateway.specs.declared.record.BitmapAnswer.{BitmapAnswer}
 use Rattle.gateway.specs.declared.record.GatewayAnswer.{GatewayAnswer}
 use Rattle.gateway.specs.declared.record.ReleaseAnswer.{ReleaseAnswer}
-use Rattle.gateway.specs.Bonds.{noBonds, withBond, withoutBond, bondCount, canAdd, canRemove, canSend, bondsOk, BondsRule}
+use Rattle.gateway.specs.Bonds.{noBonds, bondCount, canChange, changed, canSend, bondsOk, BondsRule}
 use Rattle.desk.specs.Desk.{Request, nadrOf, confirmed, deskSize, padded, deskOk, DeskRule, newDesk, networkIn, oldest, timeOk, due, deskAt, deskWith, deskAfter}
 
 abbrev pub gatewayFrom : List ℕ → Desk → Gateway
@@ -43,19 +43,21 @@ bondsAnswer g bonds = record { refusal = 0; count = bondCount bonds; gateway = g
 abbrev pub bondRefused : ℕ → Gateway → BondAnswer
 bondRefused refusal g = record { refusal = refusal; count = 0; gateway = g }
 
--- `bond`: a broken record: 1; an address that no node can have, or a bonded one: 12
-unfoldable pub bondOf : Gateway → ℕ → BondAnswer
-bondOf g a =
+-- an address is added (true) or removed (false): a broken record: 1; an address that no node can have, one that is bonded already, or one
+-- that is not bonded: 12
+unfoldable pub changeOf : Bool → Gateway → ℕ → BondAnswer
+changeOf add g a =
     cond (not (gatewayOk g)) (bondRefused 1 g)
-    (cond (not (canAdd (g .bonds) a)) (bondRefused 12 g)
-    (bondsAnswer g (withBond (g .bonds) a)))
+    (cond (not (canChange add (g .bonds) a)) (bondRefused 12 g)
+    (bondsAnswer g (changed add (g .bonds) a)))
 
--- `unbond`: a broken record: 1; an address that no node can have, or one that is not bonded: 12
-unfoldable pub unbondOf : Gateway → ℕ → BondAnswer
-unbondOf g a =
-    cond (not (gatewayOk g)) (bondRefused 1 g)
-    (cond (not (canRemove (g .bonds) a)) (bondRefused 12 g)
-    (bondsAnswer g (withoutBond (g .bonds) a)))
+-- `bond`
+abbrev pub bondOf : Gateway → ℕ → BondAnswer
+bondOf g a = changeOf true g a
+
+-- `unbond`
+abbrev pub unbondOf : Gateway → ℕ → BondAnswer
+unbondOf g a = changeOf false g a
 
 -- `clear_bonds`: a broken record: 1
 unfoldable pub clearOf : Gateway → BondAnswer

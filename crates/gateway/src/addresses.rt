@@ -8,7 +8,7 @@ ghost use mathlib.Core.Path.{_≡_};
 ghost use mathlib.Core.Bool.{true};
 ghost use Prim.Native.Nat.{_%_, _^_, _≤_};
 ghost use lib.Count.{ones};
-ghost use Rattle.gateway.specs.Bonds.{withBond, withoutBond, bondCount, canAdd, canRemove, bondsOk};
+ghost use Rattle.gateway.specs.Bonds.{bondCount, canChange, changed, bondsOk};
 
 // Returns whether only addresses that a node can have are bonded. The bytes after those of a node set have the addresses from 240 on.
 pub fn bonds_ok(bonds: [u8; BONDS_SIZE]) -> bool
@@ -23,24 +23,18 @@ pub fn bonds_ok(bonds: [u8; BONDS_SIZE]) -> bool
     bonds[NODE_SET_SIZE + 1] == 0
 }
 
-// Returns whether an address can be bonded.
-pub fn can_add(bonds: &[u8], address: u16) -> bool
-    ensures { λ r. ⌜ r ≡ canAdd (now (bonds .entry)) address ⌝ }
+// Returns whether an address can be bonded (`add`), or has a bond that can be removed.
+pub fn can_change(add: bool, bonds: &[u8], address: u16) -> bool
+    ensures { λ r. ⌜ r ≡ canChange add (now (bonds .entry)) address ⌝ }
 {
     if !node_address(address) {
         return false;
     }
-    !selects(bonds, address)
-}
-
-// Returns whether an address has a bond that can be removed.
-pub fn can_remove(bonds: &[u8], address: u16) -> bool
-    ensures { λ r. ⌜ r ≡ canRemove (now (bonds .entry)) address ⌝ }
-{
-    if !node_address(address) {
-        return false;
+    let bonded = selects(bonds, address);
+    if add {
+        return !bonded;
     }
-    selects(bonds, address)
+    bonded
 }
 
 // The bit of an address in its byte.
@@ -50,24 +44,17 @@ fn bit_of(address: u16) -> u8
     1 << (address % 8)
 }
 
-// The bonds with one more.
-pub fn with_bond(bonds: [u8; BONDS_SIZE], address: u16) -> [u8; BONDS_SIZE]
-    requires { ⌜ (bondsOk bonds ≡ true) × (canAdd bonds address ≡ true) ⌝ }
-    ensures { λ r. ⌜ r ≡ withBond bonds address ⌝ }
+// The bonds with one more (`add`), or with one less.
+pub fn change(add: bool, bonds: [u8; BONDS_SIZE], address: u16) -> [u8; BONDS_SIZE]
+    requires { ⌜ (bondsOk bonds ≡ true) × (canChange add bonds address ≡ true) ⌝ }
+    ensures { λ r. ⌜ r ≡ changed add bonds address ⌝ }
 {
     let mut changed = bonds;
     let index = wide_word(address / 8);
-    changed[index] = changed[index] + bit_of(address);
-    changed
-}
-
-// The bonds with one less.
-pub fn without_bond(bonds: [u8; BONDS_SIZE], address: u16) -> [u8; BONDS_SIZE]
-    requires { ⌜ (bondsOk bonds ≡ true) × (canRemove bonds address ≡ true) ⌝ }
-    ensures { λ r. ⌜ r ≡ withoutBond bonds address ⌝ }
-{
-    let mut changed = bonds;
-    let index = wide_word(address / 8);
+    if add {
+        changed[index] = changed[index] + bit_of(address);
+        return changed;
+    }
     changed[index] = changed[index] - bit_of(address);
     changed
 }

@@ -1,10 +1,8 @@
 // The gateway rule, the start, and the calls on bonds.
 use crate::addresses::bonds_ok;
-use crate::addresses::can_add;
-use crate::addresses::can_remove;
+use crate::addresses::can_change;
+use crate::addresses::change;
 use crate::addresses::count_bonds;
-use crate::addresses::with_bond;
-use crate::addresses::without_bond;
 use crate::record::BONDS_SIZE;
 use crate::record::BitmapAnswer;
 use crate::record::BondAnswer;
@@ -16,7 +14,7 @@ use dpa::refusal;
 ghost use mathlib.Core.Path.{_≡_};
 ghost use mathlib.Core.Bool.{true};
 ghost use Rattle.gateway.specs.Bonds.{bondsOk};
-ghost use Rattle.gateway.specs.Gateway.{gatewayOk, newGateway, bondsAnswer, bondRefused, bondOf, unbondOf, clearOf, countOf, bitmapOf};
+ghost use Rattle.gateway.specs.Gateway.{gatewayOk, newGateway, bondsAnswer, bondRefused, changeOf, bondOf, unbondOf, clearOf, countOf, bitmapOf};
 
 // Returns whether a record follows the gateway rule.
 pub fn gateway_ok(gateway: Gateway) -> bool
@@ -65,34 +63,33 @@ fn bonds_answer(gateway: Gateway, bonds: [u8; BONDS_SIZE]) -> BondAnswer
     }
 }
 
-// Bonds an address.
-pub fn bond(gateway: Gateway, address: u16) -> BondAnswer
-    ensures { λ r. ⌜ r ≡ bondOf gateway address ⌝ }
+// Adds a bond (`add`), or removes one.
+fn change_bond(add: bool, gateway: Gateway, address: u16) -> BondAnswer
+    ensures { λ r. ⌜ r ≡ changeOf add gateway address ⌝ }
 {
     if !gateway_ok(gateway) {
         return bond_refused(refusal::NODE, gateway);
     }
     let bonds = gateway.bonds;
-    if !can_add(&bonds, address) {
+    if !can_change(add, &bonds, address) {
         return bond_refused(refusal::ADDRESS, gateway);
     }
-    let changed = with_bond(bonds, address);
+    let changed = change(add, bonds, address);
     bonds_answer(gateway, changed)
+}
+
+// Bonds an address.
+pub fn bond(gateway: Gateway, address: u16) -> BondAnswer
+    ensures { λ r. ⌜ r ≡ bondOf gateway address ⌝ }
+{
+    change_bond(true, gateway, address)
 }
 
 // Removes a bond. Requests that wait stay on the desk.
 pub fn unbond(gateway: Gateway, address: u16) -> BondAnswer
     ensures { λ r. ⌜ r ≡ unbondOf gateway address ⌝ }
 {
-    if !gateway_ok(gateway) {
-        return bond_refused(refusal::NODE, gateway);
-    }
-    let bonds = gateway.bonds;
-    if !can_remove(&bonds, address) {
-        return bond_refused(refusal::ADDRESS, gateway);
-    }
-    let changed = without_bond(bonds, address);
-    bonds_answer(gateway, changed)
+    change_bond(false, gateway, address)
 }
 
 // Removes all bonds. Requests that wait stay on the desk.

@@ -1,5 +1,5 @@
 // The calls on the desk: a request is sent to it, and released when the air is free.
-use crate::addresses::can_remove;
+use crate::addresses::can_change;
 use crate::bonding::gateway_ok;
 use crate::record::Gateway;
 use crate::record::GatewayAnswer;
@@ -51,7 +51,7 @@ fn can_send(bonds: &[u8], frame: &[u8]) -> bool
     if header.nadr == Frame::BROADCAST {
         return true;
     }
-    can_remove(bonds, header.nadr)
+    can_change(false, bonds, header.nadr)
 }
 
 // Why a send is refused.

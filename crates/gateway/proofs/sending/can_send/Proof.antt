@@ -17,7 +17,7 @@ returns c = sym (sent-to-all _ _ (sym (address (c .before .before)) ∙ c .if1 .
 returns-2 : tie.Need-returns-2
 returns-2 c =
     let read = c .before .before .before in
-    sent-to-one _ _ _ _ (address read) (c .before .if1 .left) (c .can-remove .ensures)
+    sent-to-one _ _ _ _ (address read) (c .before .if1 .left) (c .can-change .ensures)
 
 pub can-send-spec : {M : Type 1} → statement M
 can-send-spec =
