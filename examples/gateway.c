@@ -1,39 +1,30 @@
 /* A gateway that sends requests to its network: the seven steps of document 003
- * as a loop. The clock, the serial line and node 1 are simulated; they are in
- * the functions before `main`. From the repository's root:
- *
- *   rt staticlib grelfint
- *   cc -Iinclude examples/gateway.c target/staticlib/libgrelfint.a -o gateway
- *   ./gateway */
+ * as a loop. The clock, the serial line and node 1 are simulated. */
 #include <stdio.h>
 
 #include "grelfint.h"
 
-enum { HOPS = 2, RESPONSE_HOPS = 3, DELAY = 20 }; /* from the gateway to node 1, and back */
+enum { HOPS = 2, RESPONSE_HOPS = 3, DELAY = 20 }; /* to node 1, back, and its own delay in ms */
 
-static uint64_t now; /* in ms; a real gateway reads its clock and sleeps */
+static uint64_t now; /* in ms; a real gateway reads its clock */
 static grelfint_node node;
-static uint8_t response[GRELFINT_RESPONSE];
+static uint8_t eeprom[GRELFINT_EEPROM], external[GRELFINT_EXTERNAL], response[GRELFINT_RESPONSE];
 
 static void print(const char *what, const uint8_t *bytes, size_t length)
 {
-    size_t i;
-
     printf("%4u ms  %-12s", (unsigned)now, what);
-    for (i = 0; i < length; i++)
+    for (size_t i = 0; i < length; i++)
         printf(" %02X", bytes[i]);
     printf("\n");
 }
 
-/* Sends over the serial line. Here node 1 receives it at once; the length of its
- * response is returned, 0 for none. */
+/* Writes to the serial line. Here node 1 receives it at once; the length of its response is returned, 0 for none. */
 static size_t write_line(const uint8_t *line, size_t length)
 {
-    static uint8_t eeprom[GRELFINT_EEPROM], external[GRELFINT_EXTERNAL];
     grelfint_receive_answer received = grelfint_uart_receive(grelfint_uart_receiver(false), line, length);
     grelfint_request_answer answer =
-        grelfint_handle_request(node, received.frame, received.length, eeprom, sizeof eeprom, external,
-                                sizeof external, response, sizeof response);
+        grelfint_handle_request(node, received.frame, received.length, eeprom, sizeof eeprom,
+                                external, sizeof external, response, sizeof response);
 
     node = answer.node;
     return answer.length;
@@ -41,7 +32,7 @@ static size_t write_line(const uint8_t *line, size_t length)
 
 int main(void)
 {
-    static const uint8_t requests[][11] = {
+    static const uint8_t requests[3][11] = {
         {1, 0, 0x71, 0, 0xFF, 0xFF, 1, 0, 0, 0, 50},    /* set lamp 0 of node 1 to 50 */
         {0xFF, 0, 0x71, 1, 0xFF, 0xFF, 1, 0, 0, 0, 25}, /* raise lamp 0 of all nodes by 25 */
         {1, 0, 0x71, 2, 0xFF, 0xFF, 1, 0, 0, 0, 5},     /* lower lamp 0 of node 1 by 5 */
@@ -50,32 +41,31 @@ int main(void)
     const bool lp = false; /* an STD network */
     grelfint_gateway gateway = grelfint_bond(grelfint_gateway_start(lp, 7), 1).gateway;
     uint8_t confirmation[GRELFINT_RESPONSE], line[GRELFINT_UART_FRAMED];
-    grelfint_release_answer released;
-    size_t i, length;
 
     node = grelfint_start(settings).node;
-    for (i = 0; i < sizeof requests / sizeof requests[0]; i++) {
+    for (size_t i = 0; i < 3; i++) {
         grelfint_gateway_answer sent =
             grelfint_send(gateway, requests[i], sizeof requests[i], HOPS, RESPONSE_HOPS, DELAY, now);
 
         if (sent.refusal != 0)
-            return sent.refusal; /* 13: eight are waiting; release one and try again */
+            return sent.refusal; /* 13: eight requests wait; release one and try again */
         gateway = sent.gateway;
     }
     while (gateway.desk.count > 0) {
-        /* 1. Wait till the routing of the previous request is finished: until then nothing is released. */
-        for (;; now++) {
-            released = grelfint_release(gateway, now, confirmation, sizeof confirmation);
-            if (released.refusal != 0)
-                return released.refusal;
-            gateway = released.gateway;
-            if (released.released)
-                break;
+        grelfint_release_answer released = grelfint_release(gateway, now, confirmation, sizeof confirmation);
+
+        if (released.refusal != 0)
+            return released.refusal;
+        gateway = released.gateway;
+        /* 1. Wait till the routing of the previous request is finished. */
+        if (!released.released) {
+            now = gateway.desk.next; /* a real gateway sleeps until then */
+            continue;
         }
         /* 2. The interface is ready, and nothing is left to read: step 6 has read the last response. */
         /* 3. Send the request. */
+        size_t length = grelfint_uart_frame(released.frame, released.frame_length, line, sizeof line).length;
         print("request", released.frame, released.frame_length);
-        length = grelfint_uart_frame(released.frame, released.frame_length, line, sizeof line).length;
         length = write_line(line, length);
         /* 4. The confirmation; its time is that of the release. */
         print("confirmation", confirmation, released.length);
@@ -86,7 +76,7 @@ int main(void)
             now += (confirmation[10] + 1u) * grelfint_timeslot(length - 8, lp).slot * 10u;
             print("response", response, length);
         }
-        /* 7. The earliest time for the next request is in the desk, with the longest response. */
+        /* 7. The earliest time for the next request is gateway.desk.next; it allows for the longest response. */
     }
     printf("lamp 0 of node 1: %u\n", node.lamps[0].level);
     return 0;
