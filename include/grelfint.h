@@ -22,8 +22,8 @@
  *   10  a view of neither memory
  *   11  the framed message does not fit into the buffer
  *   12  at a gateway: an address that is not 1 to 239; one that is already
- *       bonded, to add; one that is not bonded, to remove or to send to (all
- *       nodes, 0x00FF, need no bond)
+ *       bonded, to add; one that is not bonded, to remove or to send to (a
+ *       broadcast, NADR 0x00FF, needs none)
  *   13  eight requests are waiting
  *   14  a time before the last one given, or above 2^40
  *   15  a view of more bytes than one request can transfer
@@ -136,6 +136,7 @@ typedef struct grelfint_slot_answer {
     uint8_t slot; /* in units of 10 ms */
 } grelfint_slot_answer;
 
+/* Of grelfint_earliest_send; grelfint_send returns grelfint_gateway_answer. */
 typedef struct grelfint_send_answer {
     uint8_t refusal;
     uint32_t milliseconds;
@@ -349,7 +350,7 @@ grelfint_compile_answer grelfint_compile_selected_default(
     grelfint_node_set nodes,
     uint8_t *out, size_t out_length);
 
-/* Starts a gateway without bonds and without requests, at time 0. `lp`: true
+/* Starts a gateway without bonds or requests, and with both times 0. `lp`: true
  * for an STD+LP network, false for STD; `dpa_value` goes into the
  * confirmations.
  * Answer: the gateway. Refusals: none. Written: nothing. */
@@ -379,8 +380,8 @@ grelfint_count_answer grelfint_bond_count(grelfint_gateway gateway);
  * Answer: refusal; bitmap. Refusals: 1. Written: nothing. */
 grelfint_bitmap_answer grelfint_bond_bitmap(grelfint_gateway gateway);
 
-/* Hands a request frame to a gateway, which keeps it until it is released,
- * after those that came before. `hops` and `response_hops` are those of the
+/* Hands a request frame to a gateway, which keeps it until it is released, in
+ * order of arrival. `hops` and `response_hops` are those of the
  * request and of the response, `delay` is the node's own, in ms; `time` is the
  * present, in ms.
  * Answer: refusal; gateway. Refusals: 1, 2, 12 (NADR is neither a bonded node
@@ -394,7 +395,8 @@ grelfint_gateway_answer grelfint_send(
  * before the earliest send time after the request that was released last: the
  * time of its release plus grelfint_earliest_send with the longest response (56
  * bytes of PData). The first request may be released at any time. If it is too
- * early or if no request waits, `released` is false and only the time is taken.
+ * early or if no request waits, `released` is false, and only the time is
+ * recorded.
  * examples/gateway.c has the loop.
  * Answer: refusal; released; length of the confirmation; the request and its
  * length; gateway. Refusals: 1, 3 (`out` under 64 bytes, even if nothing is

@@ -21,7 +21,7 @@ use Rattle.timing.proofs.Confirmations as Confirmations
 use Rattle.timing.proofs.Slots.{earliest-max}
 use Rattle.desk.specs.declared.record.Waiting.{Waiting}
 use Rattle.desk.specs.declared.record.Desk.{Desk}
-use Rattle.desk.specs.Desk.{Request, request, nadrOf, isBroadcast, waitAfter, confirmed, deskSize, timeMax, padded, placeOf, requestIn, emptyPlace, WaitingRule, DeskRule, networkIn, waitingIn, oldest, timeOk, due, deskAt, deskWith, deskAfter}
+use Rattle.desk.specs.Desk.{Request, request, nadrOf, isBroadcast, waitAfter, confirmationOf, deskSize, timeMax, padded, placeOf, requestIn, emptyPlace, WaitingRule, DeskRule, networkIn, waitingIn, oldest, timeOk, due, withTime, withRequest, withoutOldest}
 
 -- ---- the queue
 
@@ -36,7 +36,7 @@ module _ (d : Desk) (f : DeskRule d) where
   waiting-length = length-map (take (d .count) (d .places)) requestIn ∙ length-take-le (d .count) (d .places) (omega (arith, f .size, f .count-max))
 
   -- a send puts its request after the others
-  pub sent-queue : (r : Request) (t : ℕ) → d .count < deskSize → waitingIn (deskWith d r t) ≡ waitingIn d ++ (r ∷ [])
+  pub sent-queue : (r : Request) (t : ℕ) → d .count < deskSize → waitingIn (withRequest d r t) ≡ waitingIn d ++ (r ∷ [])
   sent-queue r t h =
       let l : d .count < length (d .places) = omega (arith, f .size) in
       ap (λ (n : ℕ). map requestIn (take n (set (d .places) (d .count) (placeOf r)))) (add-one (d .count))
@@ -45,7 +45,7 @@ module _ (d : Desk) (f : DeskRule d) where
       ∙ ap (λ (x : Request). waitingIn d ++ (x ∷ [])) (request-back r)
 
   -- a release takes the oldest request from the front
-  pub released-queue : (t : ℕ) → 0 < d .count → waitingIn d ≡ oldest d ∷ waitingIn (deskAfter d t)
+  pub released-queue : (t : ℕ) → 0 < d .count → waitingIn d ≡ oldest d ∷ waitingIn (withoutOldest d t)
   released-queue t h = moved (d .count) (d .places) h (omega (arith, f .size, f .count-max))
     where
       moved : (n : ℕ) (ws : List Waiting) → 0 < n → n ≤ length ws
@@ -57,19 +57,19 @@ module _ (d : Desk) (f : DeskRule d) where
           ap (λ (vs : List Waiting). requestIn w ∷ map requestIn vs)
           (sym (ap (λ (k : ℕ). take k (ws ++ (emptyPlace ∷ []))) e ∙ take-append-le n ws (emptyPlace ∷ []) (omega arith)))
 
--- a call that only takes the time leaves the queue as it is
-pub kept-queue : (d : Desk) (t : ℕ) → waitingIn (deskAt d t) ≡ waitingIn d
+-- a call that only records the time leaves the queue as it is
+pub kept-queue : (d : Desk) (t : ℕ) → waitingIn (withTime d t) ≡ waitingIn d
 kept-queue d t = refl
 
 -- ---- the desk rule is kept
 
 -- a time that can be given is not before the last one, and at most 2 ^ 40
-pub time-facts : (d : Desk) (t : ℕ) → timeOk d t ≡ true → (d .last ≤ t) × (t ≤ timeMax)
+pub time-facts : (d : Desk) (t : ℕ) → timeOk (d .last) t ≡ true → (d .last ≤ t) × (t ≤ timeMax)
 unfolding timeOk
 time-facts d t e = (leb-true _ _ (and-left _ (leb t timeMax) e), leb-true _ _ (and-right (leb (d .last) t) _ e))
 
 -- a release that releases finds a request, and is not too early
-pub due-facts : (d : Desk) (t : ℕ) → due d t ≡ true → (0 < d .count) × (d .next ≤ t)
+pub due-facts : (d : Desk) (t : ℕ) → due (d .count) (d .next) t ≡ true → (0 < d .count) × (d .next ≤ t)
 unfolding due
 due-facts d t e = (ltb-true _ _ (and-left _ (leb (d .next) t) e), leb-true _ _ (and-right (ltb 0 (d .count)) _ e))
 
@@ -125,11 +125,11 @@ module _ (w : Waiting) (r : WaitingRule w) where
 
   -- `confirm` writes its confirmation
   pub waiting-confirmed : (net : Network) (dpaValue n : ℕ) (o : List ℕ) → n ≡ w .length → longestResponse ≤ length o
-      → confirmOf (take n (w .frame)) dpaValue (w .hops) (w .«response_hops») net o ≡ resultInBuffer 0 (confirmed net dpaValue (requestIn w)) o
-  unfolding confirmed
+      → confirmOf (take n (w .frame)) dpaValue (w .hops) (w .«response_hops») net o ≡ resultInBuffer 0 (confirmationOf net dpaValue (requestIn w)) o
+  unfolding confirmationOf
   waiting-confirmed net dpaValue n o e room =
       ap (λ (k : ℕ). confirmOf (take k (w .frame)) dpaValue (w .hops) (w .«response_hops») net o) e
-      ∙ Confirmations.confirmed (requestIn w .frame) dpaValue (w .hops) (w .«response_hops») net o (ap frameFits same-length ∙ r .fits) room
+      ∙ Confirmations.confirmation-given (requestIn w .frame) dpaValue (w .hops) (w .«response_hops») net o (ap frameFits same-length ∙ r .fits) room
 
 module _ (d : Desk) (f : DeskRule d) where
   -- every place from the count on is empty
@@ -139,9 +139,9 @@ module _ (d : Desk) (f : DeskRule d) where
       (λ e. f .empty k h (ltb-true _ _ e))
       (λ e. List·getD-eq-default (d .places) emptyPlace (omega (arith, f .size, ltb-false k deskSize e)))
 
-  module _ (t : ℕ) (ok : timeOk d t ≡ true) where
-    -- the rule is kept when only the time is taken
-    pub at-rule : DeskRule (deskAt d t)
+  module _ (t : ℕ) (ok : timeOk (d .last) t ≡ true) where
+    -- the rule is kept when only the time is recorded
+    pub at-rule : DeskRule (withTime d t)
     at-rule =
         let z = time-facts d t ok in
         record {
@@ -155,7 +155,7 @@ module _ (d : Desk) (f : DeskRule d) where
         }
 
     -- by a send
-    pub with-rule : (r : Request) → d .count < deskSize → WaitingRule (placeOf r) → DeskRule (deskWith d r t)
+    pub with-rule : (r : Request) → d .count < deskSize → WaitingRule (placeOf r) → DeskRule (withRequest d r t)
     with-rule r h p =
         let z = time-facts d t ok in
         record {
@@ -177,7 +177,7 @@ module _ (d : Desk) (f : DeskRule d) where
         }
 
     -- and by a release
-    pub after-rule : 0 < d .count → DeskRule (deskAfter d t)
+    pub after-rule : 0 < d .count → DeskRule (withoutOldest d t)
     after-rule h =
         let z = time-facts d t ok in
         record {

@@ -39,8 +39,8 @@ waitAfter net r =
     earliestOf (r .hops) (length (pdataOf (r .frame))) (r .delay) (r .responseHops) pdataMax net (isBroadcast (r .frame))
 
 -- the confirmation of a request
-unfoldable pub confirmed : Network → ℕ → Request → List ℕ
-confirmed net dpaValue r = confirmation (r .frame) dpaValue (r .hops) (r .responseHops) net
+unfoldable pub confirmationOf : Network → ℕ → Request → List ℕ
+confirmationOf net dpaValue r = confirmation (r .frame) dpaValue (r .hops) (r .responseHops) net
 
 -- ---- places
 
@@ -75,7 +75,7 @@ unfoldable pub allZero : List ℕ → Bool
 allZero [] = true
 allZero (x ∷ xs) = eqb x 0 && allZero xs
 
--- numbers of the widths that they have in every record of the code
+-- the size and the widths that the types of the code give every place
 unfoldable pub widthsOk : Waiting → Bool
 widthsOk w =
     eqb (length (w .frame)) longestFrame
@@ -121,7 +121,7 @@ deskOk d =
     && leb (d .last) timeMax
     && leb (d .next) (d .last + waitMax)
 
--- the same as facts (proofs/Desks: `desk-facts`, `desk-test`)
+-- a place with a request, as facts (proofs/Desks: `place-facts`, `place-test`)
 pub record WaitingRule (w : Waiting) : Type 0 where
   pub place : w ≡ placeOf (requestIn w)
   pub size : length (w .frame) ≡ longestFrame
@@ -131,6 +131,7 @@ pub record WaitingRule (w : Waiting) : Type 0 where
   pub fits : frameFits (w .length) ≡ true
   pub address : addressOk (nadrOf (w .frame)) ≡ true
 
+-- the desk's rule as facts (proofs/Desks: `desk-facts`, `desk-test`)
 pub record DeskRule (d : Desk) : Type 0 where
   pub network-max : d .network ≤ 1
   pub count-max : d .count ≤ deskSize
@@ -163,12 +164,12 @@ abbrev pub oldest : Desk → Request
 oldest d = requestIn (getD (d .places) 0 emptyPlace)
 
 -- a time that is not before the last one and not too late
-unfoldable pub timeOk : Desk → ℕ → Bool
-timeOk d t = leb (d .last) t && leb t timeMax
+unfoldable pub timeOk : ℕ → ℕ → Bool
+timeOk last t = leb last t && leb t timeMax
 
--- a release at t releases: one waits, and t is not too early
-unfoldable pub due : Desk → ℕ → Bool
-due d t = ltb 0 (d .count) && leb (d .next) t
+-- a release at t releases: a request waits, and t is not before the next time
+unfoldable pub due : ℕ → ℕ → ℕ → Bool
+due count next t = ltb 0 count && leb next t
 
 -- a desk with other times, another count and other places
 abbrev pub deskFrom : Desk → ℕ → ℕ → ℕ → List Waiting → Desk
@@ -182,15 +183,15 @@ deskFrom d last next count places =
       places = places;
     }
 
--- only the time is taken
-abbrev pub deskAt : Desk → ℕ → Desk
-deskAt d t = deskFrom d t (d .next) (d .count) (d .places)
+-- only the time is recorded, as the last one given
+abbrev pub withTime : Desk → ℕ → Desk
+withTime d t = deskFrom d t (d .next) (d .count) (d .places)
 
 -- r is put after the others
-abbrev pub deskWith : Desk → Request → ℕ → Desk
-deskWith d r t = deskFrom d t (d .next) (d .count + 1) (set (d .places) (d .count) (placeOf r))
+abbrev pub withRequest : Desk → Request → ℕ → Desk
+withRequest d r t = deskFrom d t (d .next) (d .count + 1) (set (d .places) (d .count) (placeOf r))
 
 -- the oldest is released, the others move down
-abbrev pub deskAfter : Desk → ℕ → Desk
-deskAfter d t =
+abbrev pub withoutOldest : Desk → ℕ → Desk
+withoutOldest d t =
     deskFrom d t (t + waitAfter (networkIn d) (oldest d)) (d .count - 1) (drop 1 (d .places) ++ (emptyPlace ∷ []))

@@ -81,7 +81,7 @@ pub fn places_ok(count: usize, places: [Waiting; DESK_SIZE]) -> bool
     true
 }
 
-// The places without the first; the others move down.
+// The places without the first: the others move down, and an empty place follows.
 pub fn moved_down(places: [Waiting; DESK_SIZE]) -> [Waiting; DESK_SIZE]
     ensures { λ r. ⌜ r ≡ drop 1 places ++ (emptyPlace ∷ []) ⌝ }
 {

@@ -18,7 +18,7 @@ ghost use lib.ListN.{length, getD, set};
 ghost use Rattle.dpa.specs.Answer.{resultInBuffer};
 ghost use Rattle.dpa.specs.Frame.{longestResponse};
 ghost use Rattle.timing.specs.Slot.{networkOf, waitMax};
-ghost use Rattle.desk.specs.Desk.{waitAfter, confirmed, deskSize, requestIn, emptyPlace, timeMax, WaitingRule, deskOk, newDesk, deskFrom, deskAt, deskAfter};
+ghost use Rattle.desk.specs.Desk.{waitAfter, confirmationOf, deskSize, requestIn, emptyPlace, timeMax, WaitingRule, deskOk, newDesk, deskFrom, withTime, withoutOldest};
 
 fn network_byte(lp: bool) -> u8
     ensures { λ r. ⌜ r ≡ cond lp 1 0 ⌝ }
@@ -44,9 +44,9 @@ pub fn new_desk(lp: bool, dpa_value: u8) -> Desk
     }
 }
 
-// The desk after a call that only takes the time.
-pub fn desk_at(desk: Desk, time: u64) -> Desk
-    ensures { λ r. ⌜ r ≡ deskAt desk time ⌝ }
+// The desk after a call of which only the time is recorded.
+pub fn with_time(desk: Desk, time: u64) -> Desk
+    ensures { λ r. ⌜ r ≡ withTime desk time ⌝ }
 {
     let mut after = desk;
     after.last = time;
@@ -54,7 +54,7 @@ pub fn desk_at(desk: Desk, time: u64) -> Desk
 }
 
 // The desk with one more request.
-pub fn desk_with(desk: Desk, waiting: Waiting, time: u64) -> Desk
+pub fn with_request(desk: Desk, waiting: Waiting, time: u64) -> Desk
     requires { ⌜ desk .count < deskSize ⌝ }
     ensures { λ r. ⌜ r ≡ deskFrom desk time (desk .next) (desk .count + 1) (set (desk .places) (desk .count) waiting) ⌝ }
 {
@@ -99,9 +99,9 @@ fn wait_after(lp: bool, waiting: Waiting) -> u32
 }
 
 // The desk after the release of its oldest request.
-pub fn desk_after(desk: Desk, time: u64) -> Desk
+pub fn without_oldest(desk: Desk, time: u64) -> Desk
     requires { ⌜ (deskOk desk ≡ true) × (0 < desk .count) × (time ≤ timeMax) ⌝ }
-    ensures { λ r. ⌜ r ≡ deskAfter desk time ⌝ }
+    ensures { λ r. ⌜ r ≡ withoutOldest desk time ⌝ }
 {
     let wait = wait_after(desk.network == STD_LP, oldest(desk));
     let places = desk.places;
@@ -119,7 +119,7 @@ pub fn desk_after(desk: Desk, time: u64) -> Desk
 // Writes the confirmation of a request that waits and returns its length.
 pub fn confirm_waiting(lp: bool, dpa_value: u8, waiting: Waiting, out: &mut [u8]) -> usize
     requires { ⌜ WaitingRule waiting × (longestResponse ≤ length (now out)) ⌝ }
-    ensures { λ r. ⌜ record { refusal = 0; length = r; out = now (out .exit) } ≡ resultInBuffer 0 (confirmed (networkOf lp) «dpa_value» (requestIn waiting)) (now (out .entry)) ⌝ }
+    ensures { λ r. ⌜ record { refusal = 0; length = r; out = now (out .exit) } ≡ resultInBuffer 0 (confirmationOf (networkOf lp) «dpa_value» (requestIn waiting)) (now (out .entry)) ⌝ }
 {
     let frame = waiting.frame;
     let size = wide(waiting.length);

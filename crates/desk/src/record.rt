@@ -4,7 +4,7 @@ use dpa::frame::Frame;
 // Requests that a desk can hold.
 pub const DESK_SIZE: usize = 8;
 
-// A request on the desk, in the order in which C has the fields. Its frame has zeros after its length.
+// A request on the desk; the fields are in the order of the C header. The frame has zeros from `length` on.
 #[repr(C)]
 pub struct Waiting {
     pub delay: u16,

@@ -5,9 +5,8 @@ use crate::record::Desk;
 use dpa::number::wide;
 use timing::slot::WAIT_MAX;
 ghost use mathlib.Core.Path.{_≡_};
-ghost use mathlib.Core.Bool.{_&&_};
-ghost use lib.Dec.{eqb, ltb, leb};
-ghost use Rattle.desk.specs.Desk.{deskSize, timeMax, deskOk};
+ghost use lib.Dec.{eqb};
+ghost use Rattle.desk.specs.Desk.{deskSize, deskOk, timeOk, due};
 
 // The network types in a record.
 pub const STD: u8 = 0;
@@ -47,7 +46,7 @@ pub fn is_full(count: u8) -> bool
 
 // Returns whether a time is neither before the last one nor too late.
 pub fn time_ok(last: u64, time: u64) -> bool
-    ensures { λ r. ⌜ r ≡ (leb last time && leb time timeMax) ⌝ }
+    ensures { λ r. ⌜ r ≡ timeOk last time ⌝ }
 {
     if time < last {
         return false;
@@ -55,9 +54,9 @@ pub fn time_ok(last: u64, time: u64) -> bool
     time <= TIME_MAX
 }
 
-// Returns whether a release releases: a request waits, and its time is not too early.
+// Returns whether a release releases: a request waits, and the time is not before the next one.
 pub fn due(count: u8, next: u64, time: u64) -> bool
-    ensures { λ r. ⌜ r ≡ (ltb 0 count && leb next time) ⌝ }
+    ensures { λ r. ⌜ r ≡ due count next time ⌝ }
 {
     if count == 0 {
         return false;

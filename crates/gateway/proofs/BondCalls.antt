@@ -57,3 +57,12 @@ change-undone add g a e =
 pub count-bitmap : (g : Gateway) → gatewayOk g ≡ true → countOf g .count ≡ numberBelow 256 (selects (bitmapOf g .bitmap))
 unfolding countOf bitmapOf
 count-bitmap g ok = rw ok (count-bonded (g .bonds) (gateway-bonds g ok))
+
+-- the count in the answer of a `bond` or `unbond` is that of the gateway in it
+pub change-counted : (add : Bool) (g : Gateway) (a : ℕ) → changeOf add g a .refusal ≡ 0 → changeOf add g a .count ≡ countOf (changeOf add g a .gateway) .count
+unfolding countOf
+change-counted add g a e =
+    let t = change-taken add g a e in
+    let b = changed add (g .bonds) a in
+    let ok = gateway-with g b (t .0) (changed-sound add (g .bonds) a (gateway-bonds g (t .0)) (t .1)) in
+    rw (change-answer add g a (t .0) (t .1), ok)

@@ -17,7 +17,7 @@ use Rattle.dpa.proofs.Bool.{and-left, and-right, both, and-right-false, or-left
 use Rattle.dpa.proofs.Ranges.{node-range}
 use Rattle.dpa.proofs.Bytes.{bytes-set, bytes-tested}
 use Rattle.dpa.proofs.NodeSets.{byte-none, selects-first, selects-next, selects-outside, selects-inside, named-min, byte-clear, added-small, selects-added, selects-removed, ones-bits}
-use Rattle.gateway.specs.Bonds.{canChange, changed, bondsSize, noBonds, bonded, withBond, withoutBond, bondCount, canAdd, canRemove, bondsOk, BondsRule}
+use Rattle.gateway.specs.Bonds.{canChange, changed, bondsSize, noBonds, bonded, withBond, withoutBond, bondCount, canAdd, bondedNode, bondsOk, BondsRule}
 
 -- ---- the rule as a test and as facts
 
@@ -117,8 +117,8 @@ unfolding canAdd
 add-facts b a e = (and-left _ (not (bonded b a)) e, not-true (bonded b a) (and-right (nodeAddress a) _ e))
 
 -- an address that can be removed: a node can have it, and it is bonded
-pub remove-facts : (b : List ℕ) (a : ℕ) → canRemove b a ≡ true → (nodeAddress a ≡ true) × (bonded b a ≡ true)
-unfolding canRemove
+pub remove-facts : (b : List ℕ) (a : ℕ) → bondedNode b a ≡ true → (nodeAddress a ≡ true) × (bonded b a ≡ true)
+unfolding bondedNode
 remove-facts b a e = (and-left _ (bonded b a) e, and-right (nodeAddress a) _ e)
 
 module _ (b : List ℕ) (a : ℕ) (bytes : Bytes b) where
@@ -151,7 +151,7 @@ module _ (b : List ℕ) (a : ℕ) (ok : bondsOk b ≡ true) where
       })
 
   -- bonds stay sound when an address is removed
-  pub remove-sound : canRemove b a ≡ true → bondsOk (withoutBond b a) ≡ true
+  pub remove-sound : bondedNode b a ≡ true → bondsOk (withoutBond b a) ≡ true
   remove-sound e =
       let f = remove-facts b a e in
       let r = bonds-facts b ok in
@@ -163,14 +163,14 @@ module _ (b : List ℕ) (a : ℕ) (ok : bondsOk b ≡ true) where
       })
 
 -- an added address can be removed
-pub added-can-remove : (b : List ℕ) (a : ℕ) → bondsOk b ≡ true → canAdd b a ≡ true → canRemove (withBond b a) a ≡ true
-unfolding canRemove
+pub added-can-remove : (b : List ℕ) (a : ℕ) → bondsOk b ≡ true → canAdd b a ≡ true → bondedNode (withBond b a) a ≡ true
+unfolding bondedNode
 added-can-remove b a ok e =
     let f = add-facts b a e in
     both (f .0) (add-others b a (bonds-facts b ok .bytes) (node-inside b a ok (f .0)) (f .1) a ∙ ap (λ (t : Bool). t || bonded b a) (eq-eqb a a refl))
 
 -- a removed address can be added
-pub removed-can-add : (b : List ℕ) (a : ℕ) → bondsOk b ≡ true → canRemove b a ≡ true → canAdd (withoutBond b a) a ≡ true
+pub removed-can-add : (b : List ℕ) (a : ℕ) → bondsOk b ≡ true → bondedNode b a ≡ true → canAdd (withoutBond b a) a ≡ true
 unfolding canAdd
 removed-can-add b a ok e =
     let f = remove-facts b a e in
@@ -217,7 +217,7 @@ changed-undone false b a ok e = remove-add b a (remove-facts b a e .1)
 
 -- an address that no node can have cannot be changed
 pub node-untested : (add : Bool) (b : List ℕ) (a : ℕ) → nodeAddress a ≡ false → canChange add b a ≡ false
-unfolding canAdd canRemove
+unfolding canAdd bondedNode
 node-untested true b a e = rw e
 node-untested false b a e = rw e
 
@@ -311,6 +311,6 @@ count-add b a ok e =
     ∙ number-added 256 (bonded b) a (omega (arith, node-range a (f .0) .1)) (f .1) ∙ ap (λ (n : ℕ). n + 1) (sym (count-bonded b ok))
 
 -- removing an address removes one bond
-pub count-remove : (b : List ℕ) (a : ℕ) → bondsOk b ≡ true → canRemove b a ≡ true → bondCount (withoutBond b a) + 1 ≡ bondCount b
+pub count-remove : (b : List ℕ) (a : ℕ) → bondsOk b ≡ true → bondedNode b a ≡ true → bondCount (withoutBond b a) + 1 ≡ bondCount b
 count-remove b a ok e =
     sym (count-add (withoutBond b a) a (remove-sound b a ok e) (removed-can-add b a ok e)) ∙ ap bondCount (remove-add b a (remove-facts b a e .1))

@@ -1,5 +1,5 @@
 -- The cases of each call, what a refused call leaves, and the four effects that a call can have on the desk.
-use Prim.Native.Nat.{ℕ, _≤_, _<_}
+use Prim.Native.Nat.{ℕ, _+_, _≤_, _<_}
 use mathlib.Core.Path.{_≡_, refl, sym}
 use mathlib.Core.Bool.{Bool, true, false, cond, not, _&&_, _||_}
 use mathlib.Core.List.{List, [], _∷_}
@@ -11,13 +11,14 @@ use borrow.Author.Tests.{eqb-true, eqb-false, eq-eqb, ne-eqb, ltb-false, le-ltb,
 use Rattle.dpa.specs.Frame.{longestFrame, longestResponse, broadcastNadr, frameFits}
 use Rattle.dpa.specs.Settings.{nodeAddress, addressOk}
 use Rattle.dpa.proofs.Bool.{and-right, both, by-cond, by-test, else-taken}
+use Rattle.timing.specs.Slot.{waitMax}
 use Rattle.desk.specs.declared.record.Desk.{Desk}
 use Rattle.gateway.specs.declared.record.Gateway.{Gateway}
 use Rattle.gateway.specs.declared.record.BondAnswer.{BondAnswer}
 use Rattle.gateway.specs.declared.record.GatewayAnswer.{GatewayAnswer}
-use Rattle.gateway.specs.Bonds.{noBonds, bonded, canRemove, canChange, changed, canSend, bondsOk}
-use Rattle.desk.specs.Desk.{Request, nadrOf, deskSize, deskOk, DeskRule, networkIn, oldest, confirmed, timeOk, due, deskAt, deskWith, deskAfter}
-use Rattle.gateway.specs.Gateway.{gatewayFrom, gatewayOk, bondsAnswer, bondRefused, changeOf, clearOf, sendRefusal, gatewayAnswer, sendOf, releaseRefusal, ReleaseResult, notReleased, releasedResult, releaseEffect, releaseOf}
+use Rattle.gateway.specs.Bonds.{noBonds, bonded, bondedNode, canChange, changed, canSend, bondsOk}
+use Rattle.desk.specs.Desk.{Request, nadrOf, deskSize, timeMax, deskOk, DeskRule, networkIn, oldest, confirmationOf, timeOk, due, withTime, withRequest, withoutOldest}
+use Rattle.gateway.specs.Gateway.{gatewayFrom, gatewayOk, bondsAnswer, bondRefused, changeOf, clearOf, sendRefusal, gatewayAnswer, sendRequest, releaseRefusal, ReleaseResult, notReleased, releasedResult, releaseEffect, releaseOf}
 use Rattle.gateway.specs.History.{Call, bond, unbond, clear, count, bitmap, send, release, after, accepted, released, Handout, handout, HandoutOf, lateEnough}
 use Rattle.desk.proofs.Desks.{desk-facts}
 use Rattle.desk.proofs.Queues.{due-facts}
@@ -82,11 +83,11 @@ pub record Sendable (g : Gateway) (r : Request) (t : ℕ) : Type 0 where
   pub bond : canSend (g .bonds) (nadrOf (r .frame)) ≡ true
   pub address : addressOk (nadrOf (r .frame)) ≡ true
   pub free : g .desk .count < deskSize
-  pub time : timeOk (g .desk) t ≡ true
+  pub time : timeOk (g .desk .last) t ≡ true
 
 -- an address that a request can be sent to is 255 or that of a node
 send-address : (bonds : List ℕ) (a : ℕ) → canSend bonds a ≡ true → addressOk a ≡ true
-unfolding canSend addressOk
+unfolding canSend bondedNode addressOk
 send-address bonds a e = first (eqb a broadcastNadr) (nodeAddress a) (bonded bonds a) e
   where
     first : (x y z : Bool) → (x || (y && z)) ≡ true → (x || y) ≡ true
@@ -100,8 +101,8 @@ unfolding canSend
 sent-to-all bonds a e = rw (eq-eqb a broadcastNadr e)
 
 -- another one if its node is bonded
-pub sent-to-one : (bonds : List ℕ) (x a : ℕ) (b : Bool) → x ≡ a → (x ≡ broadcastNadr → ⊥) → b ≡ canRemove bonds x → b ≡ canSend bonds a
-unfolding canSend canRemove
+pub sent-to-one : (bonds : List ℕ) (x a : ℕ) (b : Bool) → x ≡ a → (x ≡ broadcastNadr → ⊥) → b ≡ bondedNode bonds x → b ≡ canSend bonds a
+unfolding canSend bondedNode
 sent-to-one bonds x a b e n c = rw (sym e, ne-eqb x broadcastNadr n) c
 
 -- no refusal gives these facts
@@ -112,7 +113,7 @@ send-facts g r t e =
     let b = else-taken (not (frameFits (length (r .frame)))) 2 _ 0 (λ z. omega arith) (a .1) in
     let c = else-taken (not (canSend (g .bonds) (nadrOf (r .frame)))) 12 _ 0 (λ z. omega arith) (b .1) in
     let d = else-taken (eqb (g .desk .count) deskSize) 13 _ 0 (λ z. omega arith) (c .1) in
-    let f = else-taken (not (timeOk (g .desk) t)) 14 _ 0 (λ z. omega arith) (d .1) in
+    let f = else-taken (not (timeOk (g .desk .last) t)) 14 _ 0 (λ z. omega arith) (d .1) in
     let sound : gatewayOk g ≡ true = not-false _ (a .0) in
     let bonded : canSend (g .bonds) (nadrOf (r .frame)) ≡ true = not-false _ (c .0) in
     record {
@@ -127,65 +128,65 @@ send-facts g r t e =
 module _ (g : Gateway) (r : Request) (t : ℕ) where
   -- the cases of `send`
   pub send-cases : (P : GatewayAnswer → Type 0) → ((k : ℕ) → (k ≡ 0 → ⊥) → P (gatewayAnswer k g))
-      → (Sendable g r t → P (gatewayAnswer 0 (gatewayFrom (g .bonds) (deskWith (g .desk) r t)))) → P (sendOf g r t)
-  unfolding sendOf
+      → (Sendable g r t → P (gatewayAnswer 0 (gatewayFrom (g .bonds) (withRequest (g .desk) r t)))) → P (sendRequest g r t)
+  unfolding sendRequest
   send-cases P refused f =
       by-cond P (eqb (sendRefusal g (r .frame) t) 0) _ _ (λ e. f (send-facts g r t (eqb-true _ _ e))) (λ e. refused (sendRefusal g (r .frame) t) (eqb-false _ _ e))
 
   -- by its refusal k
-  pub send-refusal-answer : (k : ℕ) → k ≡ sendRefusal g (r .frame) t → (k ≡ 0 → ⊥) → sendOf g r t ≡ gatewayAnswer k g
-  unfolding sendOf
+  pub send-refusal-answer : (k : ℕ) → k ≡ sendRefusal g (r .frame) t → (k ≡ 0 → ⊥) → sendRequest g r t ≡ gatewayAnswer k g
+  unfolding sendRequest
   send-refusal-answer k e n = rw (sym e, ne-eqb k 0 n)
 
   -- without a refusal
-  pub send-answer : sendRefusal g (r .frame) t ≡ 0 → sendOf g r t ≡ gatewayAnswer 0 (gatewayFrom (g .bonds) (deskWith (g .desk) r t))
-  unfolding sendOf
+  pub send-answer : sendRefusal g (r .frame) t ≡ 0 → sendRequest g r t ≡ gatewayAnswer 0 (gatewayFrom (g .bonds) (withRequest (g .desk) r t))
+  unfolding sendRequest
   send-answer e = rw e
 
   -- a refused `send` answers only its refusal and the gateway as it was
-  pub send-refused : (sendOf g r t .refusal ≡ 0 → ⊥) → sendOf g r t ≡ gatewayAnswer (sendOf g r t .refusal) g
+  pub send-refused : (sendRequest g r t .refusal ≡ 0 → ⊥) → sendRequest g r t ≡ gatewayAnswer (sendRequest g r t .refusal) g
   send-refused = send-cases (λ x. (x .refusal ≡ 0 → ⊥) → x ≡ gatewayAnswer (x .refusal) g) (λ k n z. refl) (λ s z. absurd (z refl))
 
   -- a `send` that is not refused puts the request on the desk
-  pub send-accepted : sendOf g r t .refusal ≡ 0 → Sendable g r t × (sendOf g r t .gateway ≡ gatewayFrom (g .bonds) (deskWith (g .desk) r t))
+  pub send-accepted : sendRequest g r t .refusal ≡ 0 → Sendable g r t × (sendRequest g r t .gateway ≡ gatewayFrom (g .bonds) (withRequest (g .desk) r t))
   send-accepted =
-      send-cases (λ x. x .refusal ≡ 0 → Sendable g r t × (x .gateway ≡ gatewayFrom (g .bonds) (deskWith (g .desk) r t)))
+      send-cases (λ x. x .refusal ≡ 0 → Sendable g r t × (x .gateway ≡ gatewayFrom (g .bonds) (withRequest (g .desk) r t)))
       (λ k n z. absurd (n z)) (λ s z. (s, refl))
 
 -- ---- release
 
 -- no refusal gives a sound gateway, a buffer of 64 bytes, and a time that can be given
 pub release-facts : (g : Gateway) (t size : ℕ) → releaseRefusal g t size ≡ 0
-    → (gatewayOk g ≡ true) × (longestResponse ≤ size) × (timeOk (g .desk) t ≡ true)
+    → (gatewayOk g ≡ true) × (longestResponse ≤ size) × (timeOk (g .desk .last) t ≡ true)
 unfolding releaseRefusal
 release-facts g t size e =
     let a = else-taken (not (gatewayOk g)) 1 _ 0 (λ z. omega arith) e in
     let b = else-taken (ltb size longestResponse) 3 _ 0 (λ z. omega arith) (a .1) in
-    let c = else-taken (not (timeOk (g .desk) t)) 14 _ 0 (λ z. omega arith) (b .1) in
+    let c = else-taken (not (timeOk (g .desk .last) t)) 14 _ 0 (λ z. omega arith) (b .1) in
     (not-false _ (a .0), ltb-false _ _ (b .0), not-false _ (c .0))
 
 module _ (g : Gateway) (t : ℕ) (o : List ℕ) where
   -- the answer of a release that releases
   abbrev pub handedOut : ReleaseResult
   handedOut =
-      releasedResult (oldest (g .desk)) (confirmed (networkIn (g .desk)) (g .desk .«dpa_value») (oldest (g .desk)))
-      (gatewayFrom (g .bonds) (deskAfter (g .desk) t)) o
+      releasedResult (oldest (g .desk)) (confirmationOf (networkIn (g .desk)) (g .desk .«dpa_value») (oldest (g .desk)))
+      (gatewayFrom (g .bonds) (withoutOldest (g .desk) t)) o
 
-  -- and of one that only takes the time
+  -- and of one that only records the time
   abbrev pub onlyTime : ReleaseResult
-  onlyTime = notReleased 0 (gatewayFrom (g .bonds) (deskAt (g .desk) t)) o
+  onlyTime = notReleased 0 (gatewayFrom (g .bonds) (withTime (g .desk) t)) o
 
   -- the cases of `release`
   pub release-cases : (P : ReleaseResult → Type 0) → ((k : ℕ) → (k ≡ 0 → ⊥) → P (notReleased k g o))
-      → (gatewayOk g ≡ true → timeOk (g .desk) t ≡ true → due (g .desk) t ≡ true → P handedOut)
-      → (gatewayOk g ≡ true → timeOk (g .desk) t ≡ true → due (g .desk) t ≡ false → P onlyTime)
+      → (gatewayOk g ≡ true → timeOk (g .desk .last) t ≡ true → due (g .desk .count) (g .desk .next) t ≡ true → P handedOut)
+      → (gatewayOk g ≡ true → timeOk (g .desk .last) t ≡ true → due (g .desk .count) (g .desk .next) t ≡ false → P onlyTime)
       → P (releaseOf g t o)
   unfolding releaseOf releaseEffect
   release-cases P refused handed timed =
       by-cond P (eqb (releaseRefusal g t (length o)) 0) _ _
       (λ e.
       let z = release-facts g t (length o) (eqb-true _ _ e) in
-      by-cond P (due (g .desk) t) _ _ (handed (z .0) (z .2)) (timed (z .0) (z .2)))
+      by-cond P (due (g .desk .count) (g .desk .next) t) _ _ (handed (z .0) (z .2)) (timed (z .0) (z .2)))
       (λ e. refused (releaseRefusal g t (length o)) (eqb-false _ _ e))
 
   -- by its refusal k
@@ -194,7 +195,7 @@ module _ (g : Gateway) (t : ℕ) (o : List ℕ) where
   release-refusal-answer k e n = rw (sym e, ne-eqb k 0 n)
 
   -- a time that is too early, or none waiting
-  pub effect-early : due (g .desk) t ≡ false → releaseEffect g t o ≡ onlyTime
+  pub effect-early : due (g .desk .count) (g .desk .next) t ≡ false → releaseEffect g t o ≡ onlyTime
   unfolding releaseEffect
   effect-early e = rw e
 
@@ -209,7 +210,7 @@ module _ (g : Gateway) (t : ℕ) (o : List ℕ) where
       release-cases (λ x. (x .answer .refusal ≡ 0 → ⊥) → x ≡ notReleased (x .answer .refusal) g o)
       (λ k n z. refl) (λ e i u z. absurd (z refl)) (λ e i u z. absurd (z refl))
 
-  -- one that is not refused and does not release only takes the time
+  -- one that is not refused and does not release only records the time
   pub not-released : releaseOf g t o .answer .refusal ≡ 0 → releaseOf g t o .answer .released ≡ false → releaseOf g t o ≡ onlyTime
   not-released =
       release-cases (λ x. x .answer .refusal ≡ 0 → x .answer .released ≡ false → x ≡ onlyTime)
@@ -223,13 +224,36 @@ module _ (g : Gateway) (t : ℕ) (o : List ℕ) where
       (λ e i u z. let c : _≡_ {A = ℕ} 0 1 = cc in absurd (omega arith))
 
   -- on a sound gateway, with a buffer of 64 bytes and a time that can be given and is not too early, `release` is late enough
-  pub late-enough : gatewayOk g ≡ true → longestResponse ≤ length o → timeOk (g .desk) t ≡ true → g .desk .next ≤ t
+  pub late-enough : gatewayOk g ≡ true → longestResponse ≤ length o → timeOk (g .desk .last) t ≡ true → g .desk .next ≤ t
       → lateEnough g (release t o) ≡ true
   unfolding releaseOf releaseEffect releaseRefusal
   late-enough e l ok n =
       let z : releaseRefusal g t (length o) ≡ 0 = rw (e, le-ltb (length o) longestResponse l, ok) refl in
       rw (z, le-leb (g .desk .next) t n)
-      (by-cond (λ (x : ReleaseResult). (eqb (x .answer .refusal) 0 && true) ≡ true) (due (g .desk) t) _ _ (λ u. refl) (λ u. refl))
+      (by-cond (λ (x : ReleaseResult). (eqb (x .answer .refusal) 0 && true) ≡ true) (due (g .desk .count) (g .desk .next) t) _ _ (λ u. refl) (λ u. refl))
+
+  -- 116,735 ms after the last time given every release is late enough
+  pub always-late : gatewayOk g ≡ true → longestResponse ≤ length o → g .desk .last + waitMax ≤ t → t ≤ timeMax → lateEnough g (release t o) ≡ true
+  unfolding timeOk
+  always-late e l h m =
+      let f = desk-rule g e in
+      late-enough e l (both (le-leb (g .desk .last) t (omega arith)) (le-leb t timeMax m)) (omega (arith, f .next-max))
+
+  -- a request is released exactly if the call is not refused, a request waits and the time is not before the next one
+  pub released-exactly : releaseOf g t o .answer .released ≡ (eqb (releaseRefusal g t (length o)) 0 && due (g .desk .count) (g .desk .next) t)
+  unfolding releaseOf releaseEffect
+  released-exactly =
+      by-test (eqb (releaseRefusal g t (length o)) 0)
+      (λ e. by-test (due (g .desk .count) (g .desk .next) t) (λ u. rw (e, u)) (λ u. rw (e, u)))
+      (λ e. rw e)
+
+  -- after it a place is free, so that the next send is not refused with 13
+  pub free-again : releaseOf g t o .answer .released ≡ true → releaseOf g t o .answer .gateway .desk .count < deskSize
+  free-again =
+      release-cases (λ x. x .answer .released ≡ true → x .answer .gateway .desk .count < deskSize)
+      (λ k n z. let c : _≡_ {A = ℕ} 0 1 = cc in absurd (omega arith))
+      (λ e i u z. omega (arith, desk-rule g e .count-max, due-facts (g .desk) t u .0))
+      (λ e i u z. let c : _≡_ {A = ℕ} 0 1 = cc in absurd (omega arith))
 
 -- ---- the effect of a call on the desk
 
@@ -237,7 +261,7 @@ module _ (g : Gateway) (t : ℕ) (o : List ℕ) where
 handed-oldest : (g : Gateway) (t : ℕ) (o : List ℕ) → HandoutOf (g .desk) (oldest (g .desk)) (handout t (handedOut g t o))
 handed-oldest g t o =
     let r = oldest (g .desk) in
-    let c = confirmed (networkIn (g .desk)) (g .desk .«dpa_value») r in
+    let c = confirmationOf (networkIn (g .desk)) (g .desk .«dpa_value») r in
     record {
       same-frame = take-append-seam (r .frame) (drop (length (r .frame)) (replicate longestFrame 0));
       same-confirmation = take-append-seam c (drop (length c) o);
@@ -245,22 +269,22 @@ handed-oldest g t o =
     }
 
 -- no release although the time is late enough: none waits
-none-waits : (d : Desk) (t : ℕ) → due d t ≡ false → leb (d .next) t ≡ true → d .count ≡ 0
+none-waits : (d : Desk) (t : ℕ) → due (d .count) (d .next) t ≡ false → leb (d .next) t ≡ true → d .count ≡ 0
 unfolding due
 none-waits d t u l =
     by-test (ltb 0 (d .count))
-    (λ w. let p : due d t ≡ true = both w l in let z : _≡_ {A = ℕ} 0 1 = cc in absurd (omega arith))
+    (λ w. let p : due (d .count) (d .next) t ≡ true = both w l in let z : _≡_ {A = ℕ} 0 1 = cc in absurd (omega arith))
     (λ w. omega (arith, ltb-false 0 (d .count) w))
 
--- a call has one of four effects: none; only the time is taken; a request is put after the others; the oldest is handed out. P is over
+-- a call has one of four effects: none; only the time is recorded; a request is put after the others; the oldest is handed out. P is over
 -- the desk after the call, the requests accepted, the handouts, and whether the call was a release that was late enough
 module _ (P : Desk → List Request → List Handout → Bool → Type 0) (g : Gateway)
     (kept : P (g .desk) [] [] false)
-    (timed : (t : ℕ) (late : Bool) → DeskRule (g .desk) → timeOk (g .desk) t ≡ true → (late ≡ true → g .desk .count ≡ 0)
-    → P (deskAt (g .desk) t) [] [] late)
-    (handed : (h : Handout) → DeskRule (g .desk) → timeOk (g .desk) (h .time) ≡ true → due (g .desk) (h .time) ≡ true
-    → HandoutOf (g .desk) (oldest (g .desk)) h → P (deskAfter (g .desk) (h .time)) [] (h ∷ []) true) where
-  pub by-effect : (c : Call) → ((r : Request) (t : ℕ) → c ≡ send r t → Sendable g r t → P (deskWith (g .desk) r t) (r ∷ []) [] false)
+    (timed : (t : ℕ) (late : Bool) → DeskRule (g .desk) → timeOk (g .desk .last) t ≡ true → (late ≡ true → g .desk .count ≡ 0)
+    → P (withTime (g .desk) t) [] [] late)
+    (handed : (h : Handout) → DeskRule (g .desk) → timeOk (g .desk .last) (h .time) ≡ true → due (g .desk .count) (g .desk .next) (h .time) ≡ true
+    → HandoutOf (g .desk) (oldest (g .desk)) h → P (withoutOldest (g .desk) (h .time)) [] (h ∷ []) true) where
+  pub by-effect : (c : Call) → ((r : Request) (t : ℕ) → c ≡ send r t → Sendable g r t → P (withRequest (g .desk) r t) (r ∷ []) [] false)
       → P (after g c .desk) (accepted g c) (released g c) (lateEnough g c)
   by-effect (bond a) sent = change-cases (λ x. P (x .gateway .desk) [] [] false) g (λ k. kept) true a (λ e d. kept)
   by-effect (unbond a) sent = change-cases (λ x. P (x .gateway .desk) [] [] false) g (λ k. kept) false a (λ e d. kept)

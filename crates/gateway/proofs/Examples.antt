@@ -1,4 +1,4 @@
--- Worked examples: the request of document 000's confirmation on the desk, with document 003's delay of 20 ms; and edges.
+-- Worked examples: the request of document 000's confirmation on the desk, with document 003's delay of 20 ms.
 use mathlib.Core.Path.{_≡_, refl}
 use mathlib.Core.Bool.{true, false}
 use mathlib.Core.List.{[], _∷_, _++_}
@@ -11,9 +11,9 @@ use Rattle.dpa.specs.Settings.{addressOk}
 use Rattle.timing.specs.Slot.{baseSlot, networkOf, networkExtra, slotOf, directionTime, earliestOf}
 use Rattle.timing.specs.Confirm.{responseHopsSent}
 use Rattle.gateway.specs.declared.record.Gateway.{Gateway}
-use Rattle.gateway.specs.Bonds.{bondCount, canAdd, canSend, bondsOk}
-use Rattle.desk.specs.Desk.{newDesk, Request, request, waitAfter, confirmed, allZero, widthsOk, waitingOk, emptyOk, placeOk, placesOk, deskOk, timeOk, due}
-use Rattle.gateway.specs.Gateway.{gatewayOk, newGateway, changeOf, bondOf, sendRefusal, sendOf, releaseRefusal, releaseEffect, releaseOf, ReleaseResult}
+use Rattle.gateway.specs.Bonds.{bondedNode, bondCount, canAdd, canSend, bondsOk}
+use Rattle.desk.specs.Desk.{newDesk, Request, request, waitAfter, confirmationOf, allZero, widthsOk, waitingOk, emptyOk, placeOk, placesOk, deskOk, timeOk, due}
+use Rattle.gateway.specs.Gateway.{gatewayOk, newGateway, changeOf, bondOf, sendRefusal, sendRequest, releaseRefusal, releaseEffect, releaseOf, ReleaseResult}
 
 -- an STD network with DpaValue 7 and node 10 bonded
 abbrev withNode10 : Gateway
@@ -25,25 +25,26 @@ example = request (10 ∷ 0 ∷ 7 ∷ 1 ∷ 255 ∷ 255 ∷ []) 6 6 20
 
 -- sent at 1,000 ms
 abbrev sent : Gateway
-sent = sendOf withNode10 example 1000 .gateway
+sent = sendRequest withNode10 example 1000 .gateway
 
 -- released at 1,000 ms too: the first ever may go at any time
 abbrev first : ReleaseResult
 first = releaseOf sent 1000 (replicate 64 0)
 
 pub first-confirmed : first .out ≡ (10 ∷ 0 ∷ 7 ∷ 1 ∷ 255 ∷ 255 ∷ 255 ∷ 7 ∷ 6 ∷ 4 ∷ 6 ∷ []) ++ replicate 53 0
-unfolding newDesk changeOf sendOf sendRefusal releaseOf releaseRefusal releaseEffect gatewayOk bondsOk bondCount canAdd canSend deskOk placesOk placeOk widthsOk waitingOk emptyOk allZero allBelow selects addressOk frameFits timeOk due waitAfter confirmed baseSlot networkOf networkExtra slotOf directionTime earliestOf responseHopsSent ones onesIn
+unfolding newDesk bondedNode changeOf sendRequest sendRefusal releaseOf releaseRefusal releaseEffect gatewayOk bondsOk bondCount canAdd canSend deskOk placesOk placeOk widthsOk waitingOk emptyOk allZero allBelow selects addressOk frameFits timeOk due waitAfter confirmationOf baseSlot networkOf networkExtra slotOf directionTime earliestOf responseHopsSent ones onesIn
 first-confirmed = refl
 
 -- 7 slots of 40 ms, the delay, 7 slots of 60 ms
 pub first-next : first .answer .gateway .desk .next ≡ 1720
-unfolding newDesk changeOf sendOf sendRefusal releaseOf releaseRefusal releaseEffect gatewayOk bondsOk bondCount canAdd canSend deskOk placesOk placeOk widthsOk waitingOk emptyOk allZero allBelow selects addressOk frameFits timeOk due waitAfter confirmed baseSlot networkOf networkExtra slotOf directionTime earliestOf responseHopsSent ones onesIn
+unfolding newDesk bondedNode changeOf sendRequest sendRefusal releaseOf releaseRefusal releaseEffect gatewayOk bondsOk bondCount canAdd canSend deskOk placesOk placeOk widthsOk waitingOk emptyOk allZero allBelow selects addressOk frameFits timeOk due waitAfter confirmationOf baseSlot networkOf networkExtra slotOf directionTime earliestOf responseHopsSent ones onesIn
 first-next = refl
 
-pub second-early : releaseOf (sendOf (first .answer .gateway) example 1001 .gateway) 1719 (replicate 64 0) .answer .released ≡ false
-unfolding newDesk changeOf sendOf sendRefusal releaseOf releaseRefusal releaseEffect gatewayOk bondsOk bondCount canAdd canSend deskOk placesOk placeOk widthsOk waitingOk emptyOk allZero allBelow selects addressOk frameFits timeOk due waitAfter confirmed baseSlot networkOf networkExtra slotOf directionTime earliestOf responseHopsSent ones onesIn
+-- a second request, sent at 1,001 ms: 1,719 is too early, 1,720 is not
+pub second-early : releaseOf (sendRequest (first .answer .gateway) example 1001 .gateway) 1719 (replicate 64 0) .answer .released ≡ false
+unfolding newDesk bondedNode changeOf sendRequest sendRefusal releaseOf releaseRefusal releaseEffect gatewayOk bondsOk bondCount canAdd canSend deskOk placesOk placeOk widthsOk waitingOk emptyOk allZero allBelow selects addressOk frameFits timeOk due waitAfter confirmationOf baseSlot networkOf networkExtra slotOf directionTime earliestOf responseHopsSent ones onesIn
 second-early = refl
 
-pub second-due : releaseOf (sendOf (first .answer .gateway) example 1001 .gateway) 1720 (replicate 64 0) .answer .released ≡ true
-unfolding newDesk changeOf sendOf sendRefusal releaseOf releaseRefusal releaseEffect gatewayOk bondsOk bondCount canAdd canSend deskOk placesOk placeOk widthsOk waitingOk emptyOk allZero allBelow selects addressOk frameFits timeOk due waitAfter confirmed baseSlot networkOf networkExtra slotOf directionTime earliestOf responseHopsSent ones onesIn
+pub second-due : releaseOf (sendRequest (first .answer .gateway) example 1001 .gateway) 1720 (replicate 64 0) .answer .released ≡ true
+unfolding newDesk bondedNode changeOf sendRequest sendRefusal releaseOf releaseRefusal releaseEffect gatewayOk bondsOk bondCount canAdd canSend deskOk placesOk placeOk widthsOk waitingOk emptyOk allZero allBelow selects addressOk frameFits timeOk due waitAfter confirmationOf baseSlot networkOf networkExtra slotOf directionTime earliestOf responseHopsSent ones onesIn
 second-due = refl

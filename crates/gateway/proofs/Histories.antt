@@ -12,9 +12,9 @@ use Rattle.dpa.proofs.Bool.{by-test}
 use Rattle.desk.specs.declared.record.Desk.{Desk}
 use Rattle.gateway.specs.declared.record.Gateway.{Gateway}
 use Rattle.desk.specs.declared.record.Waiting.{Waiting}
-use Rattle.desk.specs.Desk.{newDesk, Request, waitAfter, deskSize, DeskRule, networkIn, waitingIn, oldest, due, deskFrom, deskAt, deskWith, deskAfter}
-use Rattle.gateway.specs.Gateway.{gatewayFrom, gatewayOk, newGateway, sendOf}
-use Rattle.gateway.specs.History.{Call, after, afterAll, acceptedAll, released, releasedAll, Handout, noHandout, HandoutOf, queue, noRequest, FirstInFirstOut, Spaced, lateEnough, lateCalls, NoStarvation}
+use Rattle.desk.specs.Desk.{newDesk, Request, waitAfter, deskSize, DeskRule, networkIn, waitingIn, oldest, due, deskFrom, withTime, withRequest, withoutOldest}
+use Rattle.gateway.specs.Gateway.{gatewayFrom, gatewayOk, newGateway, sendRequest}
+use Rattle.gateway.specs.History.{Call, after, afterAll, acceptedAll, released, releasedAll, Handout, noHandout, HandoutOf, queue, noRequest, FirstInFirstOut, Spaced, NextTime, lateEnough, lateCalls, NoStarvation}
 use Rattle.gateway.proofs.Calls.{desk-rule, send-accepted, by-effect}
 use Rattle.desk.proofs.Queues.{waiting-length, sent-queue, released-queue, due-facts}
 
@@ -35,11 +35,11 @@ late-releases g c =
 module _ (Q : Desk → List Request → List Handout → ℕ → Desk → Type 0)
     (none : (d : Desk) → Q d [] [] 0 d)
     (timed : (d : Desk) (t : ℕ) (rs : List Request) (hs : List Handout) (n m : ℕ) (end : Desk)
-    → (0 < d .count → m ≡ n) → Q (deskAt d t) rs hs n end → Q d rs hs m end)
+    → (0 < d .count → m ≡ n) → Q (withTime d t) rs hs n end → Q d rs hs m end)
     (sent : (d : Desk) (r : Request) (t : ℕ) (rs : List Request) (hs : List Handout) (n : ℕ) (end : Desk)
-    → DeskRule d → d .count < deskSize → Q (deskWith d r t) rs hs n end → Q d (r ∷ rs) hs n end)
+    → DeskRule d → d .count < deskSize → Q (withRequest d r t) rs hs n end → Q d (r ∷ rs) hs n end)
     (handed : (d : Desk) (h : Handout) (rs : List Request) (hs : List Handout) (n : ℕ) (end : Desk)
-    → DeskRule d → due d (h .time) ≡ true → HandoutOf d (oldest d) h → Q (deskAfter d (h .time)) rs hs n end → Q d rs (h ∷ hs) (suc n) end) where
+    → DeskRule d → due (d .count) (d .next) (h .time) ≡ true → HandoutOf d (oldest d) h → Q (withoutOldest d (h .time)) rs hs n end → Q d rs (h ∷ hs) (suc n) end) where
   pub by-history : (g : Gateway) (cs : List Call) → Q (g .desk) (acceptedAll g cs) (releasedAll g cs) (lateCalls g cs) (afterAll g cs .desk)
   unfolding acceptedAll releasedAll lateCalls afterAll
   by-history g [] = none (g .desk)
@@ -104,10 +104,10 @@ order-more d r h q hs end o x = (omega (arith, x .0), at, x .2)
 
 -- the queue of a history whose first call is a send, and of one whose first call hands out
 module _ (d : Desk) (f : DeskRule d) (rs : List Request) where
-  queue-sent : (r : Request) (t : ℕ) → d .count < deskSize → waitingIn (deskWith d r t) ++ rs ≡ waitingIn d ++ (r ∷ rs)
+  queue-sent : (r : Request) (t : ℕ) → d .count < deskSize → waitingIn (withRequest d r t) ++ rs ≡ waitingIn d ++ (r ∷ rs)
   queue-sent r t h = rw (sent-queue d f r t h, append-assoc)
 
-  queue-handed : (t : ℕ) → 0 < d .count → oldest d ∷ (waitingIn (deskAfter d t) ++ rs) ≡ waitingIn d ++ rs
+  queue-handed : (t : ℕ) → 0 < d .count → oldest d ∷ (waitingIn (withoutOldest d t) ++ rs) ≡ waitingIn d ++ rs
   queue-handed t h = ap (λ (q : List Request). q ++ rs) (sym (released-queue d f t h))
 
 -- every history is in order
@@ -117,14 +117,14 @@ in-order =
     (λ d. (omega arith, λ k l. absurd (omega arith), sym (append-nil (waitingIn d))))
     (λ d t rs hs n m end e x. order-from d (waitingIn d ++ rs) hs end x)
     (λ d r t rs hs n end f c x.
-    subst (λ (q : List Request). InOrder d q hs end) (queue-sent d f rs r t c) (order-from d (waitingIn (deskWith d r t) ++ rs) hs end x))
+    subst (λ (q : List Request). InOrder d q hs end) (queue-sent d f rs r t c) (order-from d (waitingIn (withRequest d r t) ++ rs) hs end x))
     (λ d h rs hs n end f u o x.
-    let q = waitingIn (deskAfter d (h .time)) ++ rs in
+    let q = waitingIn (withoutOldest d (h .time)) ++ rs in
     subst (λ (q : List Request). InOrder d q (h ∷ hs) end) (queue-handed d f rs (h .time) (due-facts d (h .time) u .0))
     (order-more d (oldest d) h q hs end o (order-from d q hs end x)))
 
--- requests are handed out in the order in which they were accepted, each byte for byte with its own hops and delay; of any record, since
--- a broken one refuses every call
+-- requests are handed out in the order in which they were accepted, each byte for byte with its own hops and delay; for any record,
+-- since a broken one refuses every call
 pub first-in-first-out : (g : Gateway) (cs : List Call) → FirstInFirstOut g cs
 first-in-first-out g cs = let x = in-order g cs in record { no-more = x .0; in-order = x .1; rest-waits = x .2 }
 
@@ -158,7 +158,7 @@ Apart d q hs =
 
 -- a release that is not too early, then handouts that are apart
 apart-more : (d : Desk) (h : Handout) (q : List Request) (hs : List Handout) → d .next ≤ h .time
-    → Apart (deskAfter d (h .time)) q hs → Apart d (oldest d ∷ q) (h ∷ hs)
+    → Apart (withoutOldest d (h .time)) q hs → Apart d (oldest d ∷ q) (h ∷ hs)
 apart-more d h q hs l x = (λ z. l, at)
   where
     at : (k : ℕ) → suc k < suc (length hs)
@@ -177,7 +177,7 @@ spaced g cs =
     (λ d h rs hs n end f u o x.
     let z = due-facts d (h .time) u in
     subst (λ (q : List Request). Apart d q (h ∷ hs)) (queue-handed d f rs (h .time) (z .0))
-    (apart-more d h (waitingIn (deskAfter d (h .time)) ++ rs) hs (z .1) x))
+    (apart-more d h (waitingIn (withoutOldest d (h .time)) ++ rs) hs (z .1) x))
     g cs in
     record { first-late = x .0; apart = x .1 }
 
@@ -192,9 +192,47 @@ releases-apart g cs i (suc j) l m =
     (λ e. rw (eqb-true i j e) next)
     (λ e. omega (arith, next, releases-apart g cs i j (omega (arith, eqb-false i j e)) (omega arith)))
 
+-- ---- the next time
+
+-- the claim over plain lists, for the desk at the end
+abbrev NextOf : Desk → List Request → List Handout → Desk → Type 0
+NextOf d q hs end =
+    (length hs ≡ 0 → end .next ≡ d .next)
+    × ((k : ℕ) → length hs ≡ suc k → end .next ≡ getD hs k noHandout .time + waitAfter (networkIn d) (getD q k noRequest))
+
+-- one more handout in front
+next-more : (d : Desk) (h : Handout) (q : List Request) (hs : List Handout) (end : Desk)
+    → NextOf (withoutOldest d (h .time)) q hs end → NextOf d (oldest d ∷ q) (h ∷ hs) end
+next-more d h q hs end x = (λ z. absurd (omega arith), at)
+  where
+    at : (k : ℕ) → suc (length hs) ≡ suc k
+        → end .next ≡ getD (h ∷ hs) k noHandout .time + waitAfter (networkIn d) (getD (oldest d ∷ q) k noRequest)
+    at zero l = x .0 (omega arith)
+    at (suc k) l = x .1 k (omega arith)
+
+-- the desk's next time is reckoned from the last release
+pub next-time : (g : Gateway) (cs : List Call) → NextTime g cs
+next-time g cs =
+    let x =
+    by-history (λ d rs hs n end. NextOf d (waitingIn d ++ rs) hs end)
+    (λ d. (λ z. refl, λ k l. absurd (omega arith)))
+    (λ d t rs hs n m end e x. x)
+    (λ d r t rs hs n end f c x. subst (λ (q : List Request). NextOf d q hs end) (queue-sent d f rs r t c) x)
+    (λ d h rs hs n end f u o x.
+    subst (λ (q : List Request). NextOf d q (h ∷ hs) end) (queue-handed d f rs (h .time) (due-facts d (h .time) u .0))
+    (next-more d h (waitingIn (withoutOldest d (h .time)) ++ rs) hs end x))
+    g cs in
+    record { none-yet = x .0; since-last = x .1 }
+
+-- the first request ever: until it is released the next time of a new gateway stays 0, so that it may be released at any time
+pub first-any-time : (lp : Bool) (dpaValue : ℕ) (cs : List Call) → let g = newGateway lp dpaValue in
+    length (releasedAll g cs) ≡ 0 → afterAll g cs .desk .next ≡ 0
+unfolding newDesk
+first-any-time lp dpaValue cs = next-time (newGateway lp dpaValue) cs .none-yet
+
 -- ---- no starvation
 
--- of the requests on the desk, as many are handed out as there are late releases
+-- at least as many requests are released as there are release calls that are late enough, up to the number that waited at the start
 pub late-calls-release : (g : Gateway) (cs : List Call) → min (g .desk .count) (lateCalls g cs) ≤ length (releasedAll g cs)
 late-calls-release =
     by-history (λ d rs hs n end. min (d .count) n ≤ length hs)
@@ -217,15 +255,15 @@ no-starvation g cs e =
     }
 
 -- a request that was accepted while k others waited, at most seven, is handout k of every later history with more than k late releases
-pub accepted-released : (g : Gateway) (r : Request) (t : ℕ) (cs : List Call) → sendOf g r t .refusal ≡ 0
-    → let next = sendOf g r t .gateway in let k = g .desk .count in k < lateCalls next cs
+pub accepted-released : (g : Gateway) (r : Request) (t : ℕ) (cs : List Call) → sendRequest g r t .refusal ≡ 0
+    → let next = sendRequest g r t .gateway in let k = g .desk .count in k < lateCalls next cs
     → (k ≤ 7) × (k < length (releasedAll next cs)) × HandoutOf (next .desk) r (getD (releasedAll next cs) k noHandout)
 accepted-released g r t cs e =
     let d = g .desk in
     let k = d .count in
     let a = send-accepted g r t e in
     let f = desk-rule g (a .0 .sound) in
-    let n = gatewayFrom (g .bonds) (deskWith d r t) in
+    let n = gatewayFrom (g .bonds) (withRequest d r t) in
     subst Handed (sym (a .1))
     (λ l.
     let m : k < length (releasedAll n cs) = omega (arith, late-calls-release n cs) in

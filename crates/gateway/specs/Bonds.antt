@@ -1,4 +1,4 @@
--- Document 02, change 6: bonded addresses, in the bytes that section 3.2 of document 000 has for them.
+-- Document 02, change 6: bonded addresses, in the bitmap of section 3.2.4 of document 000.
 use Prim.Native.Nat.{ℕ, _+_, _-_, _/_, _%_, _^_}
 use mathlib.Core.Path.{_≡_}
 use mathlib.Core.List.{List, [], _∷_}
@@ -35,23 +35,24 @@ unfoldable pub bondCount : List ℕ → ℕ
 bondCount [] = 0
 bondCount (b ∷ bs) = ones b + bondCount bs
 
--- an address that can be added, and one that can be removed
+-- a node with this address is bonded, so that the bond can be removed
+unfoldable pub bondedNode : List ℕ → ℕ → Bool
+bondedNode bonds a = nodeAddress a && bonded bonds a
+
+-- the address can be added
 unfoldable pub canAdd : List ℕ → ℕ → Bool
 canAdd bonds a = nodeAddress a && not (bonded bonds a)
 
-unfoldable pub canRemove : List ℕ → ℕ → Bool
-canRemove bonds a = nodeAddress a && bonded bonds a
-
 -- an address that can be added (true) or removed (false), and the bonds after it
 abbrev pub canChange : Bool → List ℕ → ℕ → Bool
-canChange add bonds a = cond add (canAdd bonds a) (canRemove bonds a)
+canChange add bonds a = cond add (canAdd bonds a) (bondedNode bonds a)
 
 abbrev pub changed : Bool → List ℕ → ℕ → List ℕ
 changed add bonds a = cond add (withBond bonds a) (withoutBond bonds a)
 
 -- an address that a request can be sent to: all nodes, or a bonded one
 unfoldable pub canSend : List ℕ → ℕ → Bool
-canSend bonds a = eqb a broadcastNadr || (nodeAddress a && bonded bonds a)
+canSend bonds a = eqb a broadcastNadr || bondedNode bonds a
 
 -- thirty-two bytes, as in every record of the code, and only addresses that a node can have are bonded
 unfoldable pub bondsOk : List ℕ → Bool

@@ -1,4 +1,4 @@
--- Document 02, change 6: the gateway record, its rule, and the calls. Each call tests for its refusals from the top.
+-- Document 02, change 6: the gateway record, its rule, and the calls. Each call gives the first refusal that applies, in the order written.
 use Prim.Native.Nat.{ℕ}
 use mathlib.Core.List.{List, []}
 use mathlib.Core.Bool.{Bool, true, false, cond, not, _&&_}
@@ -14,7 +14,7 @@ use Rattle.gateway.specs.declared.record.BitmapAnswer.{BitmapAnswer}
 use Rattle.gateway.specs.declared.record.GatewayAnswer.{GatewayAnswer}
 use Rattle.gateway.specs.declared.record.ReleaseAnswer.{ReleaseAnswer}
 use Rattle.gateway.specs.Bonds.{noBonds, bondCount, canChange, changed, canSend, bondsOk, BondsRule}
-use Rattle.desk.specs.Desk.{Request, nadrOf, confirmed, deskSize, padded, deskOk, DeskRule, newDesk, networkIn, oldest, timeOk, due, deskAt, deskWith, deskAfter}
+use Rattle.desk.specs.Desk.{Request, nadrOf, confirmationOf, deskSize, padded, deskOk, DeskRule, newDesk, networkIn, oldest, timeOk, due, withTime, withRequest, withoutOldest}
 
 abbrev pub gatewayFrom : List ℕ → Desk → Gateway
 gatewayFrom bonds d = record { bonds = bonds; desk = d }
@@ -30,21 +30,21 @@ pub record GatewayRule (g : Gateway) : Type 0 where
 
 -- ---- start
 
--- `gateway_start`: no bonds, an empty desk, times 0
+-- `gateway_start`: no bonds, an empty desk
 abbrev pub newGateway : Bool → ℕ → Gateway
 newGateway lp dpaValue = gatewayFrom noBonds (newDesk lp dpaValue)
 
 -- ---- bonds
 
--- the answer of a call that is not refused: the number of bonds
+-- the answer of a call that is not refused: the number of bonds after it, and the gateway with these bonds
 abbrev pub bondsAnswer : Gateway → List ℕ → BondAnswer
 bondsAnswer g bonds = record { refusal = 0; count = bondCount bonds; gateway = gatewayFrom bonds (g .desk) }
 
 abbrev pub bondRefused : ℕ → Gateway → BondAnswer
 bondRefused refusal g = record { refusal = refusal; count = 0; gateway = g }
 
--- an address is added (true) or removed (false): a broken record: 1; an address that no node can have, one that is bonded already, or one
--- that is not bonded: 12
+-- an address is added (true) or removed (false): a broken record: 1; an address that no node can have, one that is bonded when it is to be
+-- added, or not bonded when it is to be removed: 12
 unfoldable pub changeOf : Bool → Gateway → ℕ → BondAnswer
 changeOf add g a =
     cond (not (gatewayOk g)) (bondRefused 1 g)
@@ -81,17 +81,17 @@ sendRefusal g frame t =
     (cond (not (frameFits (length frame))) 2
     (cond (not (canSend (g .bonds) (nadrOf frame))) 12
     (cond (eqb (g .desk .count) deskSize) 13
-    (cond (not (timeOk (g .desk) t)) 14
+    (cond (not (timeOk (g .desk .last) t)) 14
     0))))
 
 abbrev pub gatewayAnswer : ℕ → Gateway → GatewayAnswer
 gatewayAnswer refusal g = record { refusal = refusal; gateway = g }
 
 -- `send`
-unfoldable pub sendOf : Gateway → Request → ℕ → GatewayAnswer
-sendOf g r t =
+unfoldable pub sendRequest : Gateway → Request → ℕ → GatewayAnswer
+sendRequest g r t =
     cond (eqb (sendRefusal g (r .frame) t) 0)
-    (gatewayAnswer 0 (gatewayFrom (g .bonds) (deskWith (g .desk) r t)))
+    (gatewayAnswer 0 (gatewayFrom (g .bonds) (withRequest (g .desk) r t)))
     (gatewayAnswer (sendRefusal g (r .frame) t) g)
 
 -- why a release with a buffer of this size is refused: a broken record: 1; under 64 bytes: 3; a time before the last one or over 2 ^ 40: 14
@@ -99,7 +99,7 @@ unfoldable pub releaseRefusal : Gateway → ℕ → ℕ → ℕ
 releaseRefusal g t size =
     cond (not (gatewayOk g)) 1
     (cond (ltb size longestResponse) 3
-    (cond (not (timeOk (g .desk) t)) 14
+    (cond (not (timeOk (g .desk .last) t)) 14
     0))
 
 -- the answer of a release, and the buffer
@@ -131,13 +131,13 @@ releasedResult r confirmation g o =
     })
     (overwriteFront confirmation o)
 
--- a release that is not refused; if none waits, or the time is too early, only the time is taken
+-- a release that is not refused; if none waits, or the time is too early, only the time is recorded
 unfoldable pub releaseEffect : Gateway → ℕ → List ℕ → ReleaseResult
 releaseEffect g t o =
-    cond (due (g .desk) t)
-    (releasedResult (oldest (g .desk)) (confirmed (networkIn (g .desk)) (g .desk .«dpa_value») (oldest (g .desk)))
-    (gatewayFrom (g .bonds) (deskAfter (g .desk) t)) o)
-    (notReleased 0 (gatewayFrom (g .bonds) (deskAt (g .desk) t)) o)
+    cond (due (g .desk .count) (g .desk .next) t)
+    (releasedResult (oldest (g .desk)) (confirmationOf (networkIn (g .desk)) (g .desk .«dpa_value») (oldest (g .desk)))
+    (gatewayFrom (g .bonds) (withoutOldest (g .desk) t)) o)
+    (notReleased 0 (gatewayFrom (g .bonds) (withTime (g .desk) t)) o)
 
 -- `release`
 unfoldable pub releaseOf : Gateway → ℕ → List ℕ → ReleaseResult

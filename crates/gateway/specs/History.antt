@@ -7,8 +7,8 @@ use lib.ListN.{length, getD, take, drop}
 use lib.Dec.{eqb, leb}
 use Rattle.desk.specs.declared.record.Desk.{Desk}
 use Rattle.gateway.specs.declared.record.Gateway.{Gateway}
-use Rattle.desk.specs.Desk.{Request, request, confirmed, networkIn, waitAfter, waitingIn}
-use Rattle.gateway.specs.Gateway.{ReleaseResult, bondOf, unbondOf, clearOf, sendOf, releaseOf}
+use Rattle.desk.specs.Desk.{Request, request, confirmationOf, networkIn, waitAfter, waitingIn}
+use Rattle.gateway.specs.Gateway.{ReleaseResult, bondOf, unbondOf, clearOf, sendRequest, releaseOf}
 
 -- ---- calls
 
@@ -22,7 +22,7 @@ pub data Call : Type 0 where
   send : Request → ℕ → Call
   release : ℕ → List ℕ → Call
 
--- numbers of the widths that the arguments of the code have
+-- the widths that the types of the arguments give
 abbrev pub InRange : Call → Type 0
 InRange (bond a) = Unit
 InRange (unbond a) = Unit
@@ -39,7 +39,7 @@ after g (unbond a) = unbondOf g a .gateway
 after g clear = clearOf g .gateway
 after g count = g
 after g bitmap = g
-after g (send r t) = sendOf g r t .gateway
+after g (send r t) = sendRequest g r t .gateway
 after g (release t o) = releaseOf g t o .answer .gateway
 
 -- and after all calls of a history
@@ -56,7 +56,7 @@ accepted g (unbond a) = []
 accepted g clear = []
 accepted g count = []
 accepted g bitmap = []
-accepted g (send r t) = cond (eqb (sendOf g r t .refusal) 0) (r ∷ []) []
+accepted g (send r t) = cond (eqb (sendRequest g r t .refusal) 0) (r ∷ []) []
 accepted g (release t o) = []
 
 -- all of a history
@@ -71,6 +71,7 @@ pub record Handout : Type 0 where
   pub confirmation : List ℕ
   pub next : ℕ
 
+-- stands for an index past the end
 abbrev pub noHandout : Handout
 noHandout = record { time = 0; frame = []; confirmation = []; next = 0 }
 
@@ -84,7 +85,7 @@ handout t x =
       next = x .answer .gateway .desk .next;
     }
 
--- a release that says so
+-- what a call releases: one, if it is a release that answers `released`
 abbrev pub released : Gateway → Call → List Handout
 released g (bond a) = []
 released g (unbond a) = []
@@ -104,13 +105,14 @@ releasedAll g (c ∷ cs) = released g c ++ releasedAll (after g c) cs
 -- a handout is that of request r: its frame byte for byte, the confirmation with its hops, the next time with its hops and its delay
 pub record HandoutOf (d : Desk) (r : Request) (h : Handout) : Type 0 where
   pub same-frame : h .frame ≡ r .frame
-  pub same-confirmation : h .confirmation ≡ confirmed (networkIn d) (d .«dpa_value») r
+  pub same-confirmation : h .confirmation ≡ confirmationOf (networkIn d) (d .«dpa_value») r
   pub same-next : h .next ≡ h .time + waitAfter (networkIn d) r
 
 -- the requests that wait at the start of a history, then those that it accepts
 abbrev pub queue : Gateway → List Call → List Request
 queue g cs = waitingIn (g .desk) ++ acceptedAll g cs
 
+-- stands for an index past the end
 abbrev pub noRequest : Request
 noRequest = request [] 0 0 0
 
@@ -122,11 +124,17 @@ pub record FirstInFirstOut (g : Gateway) (cs : List Call) : Type 0 where
 
 -- ---- spacing
 
--- from a release to the next one at least the earliest next send of the first passes; and the first one is not before the desk's next time
+-- two releases in a row are at least the wait after the first apart; and the first one is not before the desk's next time
 pub record Spaced (g : Gateway) (cs : List Call) : Type 0 where
   pub first-late : 0 < length (releasedAll g cs) → g .desk .next ≤ getD (releasedAll g cs) 0 noHandout .time
   pub apart : (k : ℕ) → suc k < length (releasedAll g cs)
       → getD (releasedAll g cs) k noHandout .time + waitAfter (networkIn (g .desk)) (getD (queue g cs) k noRequest) ≤ getD (releasedAll g cs) (suc k) noHandout .time
+
+-- the desk's next time: as at the start until a request is released; then the time of the last release plus the wait after its request
+pub record NextTime (g : Gateway) (cs : List Call) : Type 0 where
+  pub none-yet : length (releasedAll g cs) ≡ 0 → afterAll g cs .desk .next ≡ g .desk .next
+  pub since-last : (k : ℕ) → length (releasedAll g cs) ≡ suc k
+      → afterAll g cs .desk .next ≡ getD (releasedAll g cs) k noHandout .time + waitAfter (networkIn (g .desk)) (getD (queue g cs) k noRequest)
 
 -- ---- no starvation
 
@@ -140,7 +148,7 @@ lateEnough g bitmap = false
 lateEnough g (send r t) = false
 lateEnough g (release t o) = eqb (releaseOf g t o .answer .refusal) 0 && leb (g .desk .next) t
 
--- how many a history has
+-- the number of such calls in a history
 unfoldable pub lateCalls : Gateway → List Call → ℕ
 lateCalls g [] = 0
 lateCalls g (c ∷ cs) = cond (lateEnough g c) 1 0 + lateCalls (after g c) cs

@@ -28,7 +28,7 @@ pub fn gateway_ok(gateway: Gateway) -> bool
     desk_ok(desk)
 }
 
-// A gateway without bonds and requests.
+// A gateway without bonds or requests.
 pub fn gateway_start(lp: bool, dpa_value: u8) -> Gateway
     ensures { λ r. ⌜ r ≡ newGateway lp «dpa_value» ⌝ }
 {

@@ -6,10 +6,10 @@ use crate::record::GatewayAnswer;
 use crate::record::ReleaseAnswer;
 use desk::places::place_of;
 use desk::queue::confirm_waiting;
-use desk::queue::desk_after;
-use desk::queue::desk_at;
-use desk::queue::desk_with;
 use desk::queue::oldest;
+use desk::queue::with_request;
+use desk::queue::with_time;
+use desk::queue::without_oldest;
 use desk::record::Desk;
 use desk::rule::STD_LP;
 use desk::rule::due;
@@ -26,7 +26,7 @@ ghost use lib.ListN.{length};
 ghost use Rattle.dpa.specs.Frame.{headerSize, longestResponse};
 ghost use Rattle.gateway.specs.Bonds.{canSend};
 ghost use Rattle.desk.specs.Desk.{request, nadrOf, timeMax, due};
-ghost use Rattle.gateway.specs.Gateway.{gatewayFrom, gatewayOk, sendRefusal, gatewayAnswer, sendOf, releaseRefusal, releaseResult, notReleased, releaseEffect, releaseOf};
+ghost use Rattle.gateway.specs.Gateway.{gatewayFrom, gatewayOk, sendRefusal, gatewayAnswer, sendRequest, releaseRefusal, releaseResult, notReleased, releaseEffect, releaseOf};
 
 fn gateway_answer(refusal: u8, gateway: Gateway) -> GatewayAnswer
     ensures { λ r. ⌜ r ≡ gatewayAnswer refusal gateway ⌝ }
@@ -51,6 +51,7 @@ fn can_send(bonds: &[u8], frame: &[u8]) -> bool
     if header.nadr == Frame::BROADCAST {
         return true;
     }
+    // A bond that could be removed.
     can_change(false, bonds, header.nadr)
 }
 
@@ -87,7 +88,7 @@ pub fn send(
     delay: u16,
     time: u64,
 ) -> GatewayAnswer
-    ensures { λ r. ⌜ r ≡ sendOf gateway (request (now (frame .entry)) hops «response_hops» delay) time ⌝ }
+    ensures { λ r. ⌜ r ≡ sendRequest gateway (request (now (frame .entry)) hops «response_hops» delay) time ⌝ }
 {
     let refusal = send_refusal(gateway, frame, time);
     if refusal != refusal::NONE {
@@ -95,7 +96,7 @@ pub fn send(
     }
     let place = place_of(frame, hops, response_hops, delay);
     let desk = gateway.desk;
-    let sent = desk_with(desk, place, time);
+    let sent = with_request(desk, place, time);
     gateway_answer(refusal::NONE, with_desk(gateway, sent))
 }
 
@@ -132,13 +133,13 @@ fn not_released(refusal: u8, gateway: Gateway) -> ReleaseAnswer
 
 // Releases the oldest request and writes its confirmation.
 fn release_oldest(gateway: Gateway, time: u64, out: &mut [u8]) -> ReleaseAnswer
-    requires { ⌜ (gatewayOk gateway ≡ true) × (due (gateway .desk) time ≡ true) × (time ≤ timeMax) × (longestResponse ≤ length (now out)) ⌝ }
+    requires { ⌜ (gatewayOk gateway ≡ true) × (due (gateway .desk .count) (gateway .desk .next) time ≡ true) × (time ≤ timeMax) × (longestResponse ≤ length (now out)) ⌝ }
     ensures { λ r. ⌜ releaseResult r (now (out .exit)) ≡ releaseEffect gateway time (now (out .entry)) ⌝ }
 {
     let desk = gateway.desk;
     let waiting = oldest(desk);
     let length = confirm_waiting(desk.network == STD_LP, desk.dpa_value, waiting, out);
-    let after = desk_after(desk, time);
+    let after = without_oldest(desk, time);
     let frame = waiting.frame;
     ReleaseAnswer {
         refusal: refusal::NONE,
@@ -150,7 +151,7 @@ fn release_oldest(gateway: Gateway, time: u64, out: &mut [u8]) -> ReleaseAnswer
     }
 }
 
-// Releases the oldest request if its time has come; otherwise only the time is taken.
+// Releases the oldest request if one waits and it is not too early; otherwise only records the time.
 pub fn release(gateway: Gateway, time: u64, out: &mut [u8]) -> ReleaseAnswer
     ensures { λ r. ⌜ releaseResult r (now (out .exit)) ≡ releaseOf gateway time (now (out .entry)) ⌝ }
 {
@@ -160,7 +161,7 @@ pub fn release(gateway: Gateway, time: u64, out: &mut [u8]) -> ReleaseAnswer
     }
     let desk = gateway.desk;
     if !due(desk.count, desk.next, time) {
-        let waits = desk_at(desk, time);
+        let waits = with_time(desk, time);
         return not_released(refusal::NONE, with_desk(gateway, waits));
     }
     release_oldest(gateway, time, out)

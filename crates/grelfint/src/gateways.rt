@@ -15,7 +15,7 @@ use gateway::sending::release;
 use gateway::sending::send;
 ghost use mathlib.Core.Path.{_≡_};
 ghost use Rattle.desk.specs.Desk.{request};
-ghost use Rattle.gateway.specs.Gateway.{newGateway, bondOf, unbondOf, clearOf, countOf, bitmapOf, sendOf, releaseResult, releaseOf};
+ghost use Rattle.gateway.specs.Gateway.{newGateway, bondOf, unbondOf, clearOf, countOf, bitmapOf, sendRequest, releaseResult, releaseOf};
 
 #[no_mangle]
 pub extern "C" fn grelfint_gateway_start(lp: bool, dpa_value: u8) -> Gateway
@@ -68,7 +68,7 @@ pub extern "C" fn grelfint_send(
     delay: u16,
     time: u64,
 ) -> GatewayAnswer
-    ensures { λ r. ⌜ r ≡ sendOf gateway (request (now (frame .entry)) hops «response_hops» delay) time ⌝ }
+    ensures { λ r. ⌜ r ≡ sendRequest gateway (request (now (frame .entry)) hops «response_hops» delay) time ⌝ }
 {
     send(gateway, frame, hops, response_hops, delay, time)
 }

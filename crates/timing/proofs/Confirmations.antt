@@ -43,9 +43,9 @@ module _ (f : List ℕ) (d h b : ℕ) (net : Network) (o : List ℕ) where
         simp (fits, le-ltb (length o) longestResponse l, eo, e, confirmation-length f d h (slotOf (length (pdataOf f)) net) b lf)
 
     -- what it is
-    pub confirmed : longestResponse ≤ length o → confirmOf f d h b net o ≡ resultInBuffer 0 (confirmation f d h b net) o
+    pub confirmation-given : longestResponse ≤ length o → confirmOf f d h b net o ≡ resultInBuffer 0 (confirmation f d h b net) o
     unfolding confirmOf
-    confirmed l = rw (fits, le-ltb (length o) longestResponse l)
+    confirmation-given l = rw (fits, le-ltb (length o) longestResponse l)
 
   -- a call that is not refused returns the length of a confirmation
   pub answered-length : confirmOf f d h b net o .refusal ≡ 0 → confirmOf f d h b net o .length ≡ confirmationLength

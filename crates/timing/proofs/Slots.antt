@@ -58,7 +58,7 @@ earliest-max hops requestLength delay responseHops responseLength net broadcast 
     let q : directionTime responseHops (slotOf responseLength net) ≤ 2560 * 10 = direction-max responseHops (slotOf responseLength net) 10 b (slot-range responseLength net .1) in
     by-cond (λ (w : ℕ). directionTime hops (slotOf requestLength net) + delay + w ≤ waitMax) broadcast _ _ (λ e. omega arith) (λ e. omega arith)
 
--- nor one that is answered
+-- nor is one that `earliest_send` answers longer
 pub send-max : (hops requestLength delay responseHops responseLength : ℕ) (net : Network) (broadcast : Bool) → hops < 256 → delay < 65536 → responseHops < 256
     → sendOf hops requestLength delay responseHops responseLength net broadcast .milliseconds ≤ waitMax
 unfolding sendOf

@@ -38,7 +38,7 @@ const LP_EXTRA: u8 = 4;
 
 const SLOT_UNIT_MS: u32 = 10;
 
-// No wait is longer, in ms.
+// The longest wait, in ms.
 pub const WAIT_MAX: u64 = 116735;
 
 #[repr(C)]

@@ -20,15 +20,15 @@ size c =
 
 returns : tie.Need-returns
 returns c =
-    let confirmed = c .before .before in
-    let sized = confirmed .before .before .before .before in
+    let written = c .before .before in
+    let sized = written .before .before .before .before in
     let start = sized .before .before .before in
     let a = start .args in
     let w = a .waiting in
     let n = sized .wide .result in
     let z =
-    confirmed .confirm .ensures
-    ∙ ap (λ (net : Network). confirmOf (take n (w .frame)) (a .dpa-value) (w .hops) (w .«response_hops») net (a .out .now)) (confirmed .before .before .network-of .ensures)
+    written .confirm .ensures
+    ∙ ap (λ (net : Network). confirmOf (take n (w .frame)) (a .dpa-value) (w .hops) (w .«response_hops») net (a .out .now)) (written .before .before .network-of .ensures)
     ∙ waiting-confirmed w (start .pre .0) (networkOf (a .lp)) (a .dpa-value) n (a .out .now) (sized .wide .ensures .0) (start .pre .1) in
     λ i. record { refusal = 0; length = z i .length; out = z i .out }
 

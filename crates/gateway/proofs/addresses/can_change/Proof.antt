@@ -4,7 +4,7 @@ use mathlib.Core.Bool.{true}
 use borrow.Author.Needs.{needs}
 use borrow.Author.Tests.{not-true, not-false}
 use Rattle.dpa.specs.Settings.{nodeAddress}
-use Rattle.gateway.specs.Bonds.{canAdd, canRemove}
+use Rattle.gateway.specs.Bonds.{canAdd, bondedNode}
 use Rattle.gateway.proofs.Bonds.{node-untested}
 use Rattle.gateway.proofs.addresses.can_change.Statement.{statement}
 use Rattle.gateway.proofs.addresses.can_change.Tie as tie
@@ -22,7 +22,7 @@ unfolding canAdd
 returns-2 c = rw (c .if2 .taken, node (c .before .before), c .before .selects .ensures)
 
 returns-3 : tie.Need-returns-3
-unfolding canRemove
+unfolding bondedNode
 returns-3 c = rw (c .if2 .left, node (c .before .before)) (c .before .selects .ensures)
 
 pub can-change-spec : {M : Type 1} → statement M

@@ -22,18 +22,16 @@ accepted : (c : tie.Else1) → let a = c .before .before .before .args in releas
 accepted c = sym (c .before .release-refusal .ensures) ∙ c .if1 .left
 
 returns-2 : tie.Need-returns-2
-unfolding due
 returns-2 c =
     let early = c .before .before .before in
     let tested = early .before .before .before in
     let a = tested .before .before .before .args in
     c .not-released2 .ensures (a .out .now)
-    ∙ ap (λ (g : Gateway). notReleased 0 g (a .out .now)) (c .before .with-desk .ensures ∙ ap (gatewayFrom (a .gateway .bonds)) (c .before .before .desk-at .ensures))
+    ∙ ap (λ (g : Gateway). notReleased 0 g (a .out .now)) (c .before .with-desk .ensures ∙ ap (gatewayFrom (a .gateway .bonds)) (c .before .before .with-time .ensures))
     ∙ sym (release-answer (a .gateway) (a .time) (a .out .now) (accepted tested)
     ∙ effect-early (a .gateway) (a .time) (a .out .now) (sym (early .before .due .ensures) ∙ not-true _ (early .if2 .taken)))
 
 release-oldest-requires : tie.Need-release-oldest-requires
-unfolding due
 release-oldest-requires c κs =
     let timed = c .before in
     let tested = timed .before .before .before in

@@ -1,4 +1,4 @@
--- `sending::release_oldest`: the first place, confirmed.
+-- `sending::release_oldest`: the first place, confirmationOf.
 use mathlib.Core.Path.{sym, ap, subst, _∙_}
 use borrow.Author.Needs.{needs}
 use Rattle.desk.specs.Desk.{WaitingRule}
@@ -16,22 +16,23 @@ confirm-waiting-requires c κs =
     let p = start .pre in
     (subst WaitingRule (sym (found .oldest .ensures)) (first-rule _ _ (start .args .out .now) (p .0) (p .1)), p .3)
 
-desk-after-requires : tie.Need-desk-after-requires
-desk-after-requires c κs =
-    let p = c .before .before .before .before .before .before .before .before .pre in
-    (gateway-desk _ (p .0), due-facts _ _ (p .1) .0, p .2)
+without-oldest-requires : tie.Need-without-oldest-requires
+without-oldest-requires c κs =
+    let start = c .before .before .before .before .before .before .before .before in
+    let p = start .pre in
+    (gateway-desk _ (p .0), due-facts (start .args .gateway .desk) (start .args .time) (p .1) .0, p .2)
 
 returns : tie.Need-returns
 returns c =
-    let confirmed = c .before .before .before .before .before .before in
-    let found = confirmed .before .before .before in
+    let written = c .before .before .before .before .before .before in
+    let found = written .before .before .before in
     let start = found .before .before .before in
     let a = start .args in
     let p = start .pre in
-    oldest-answered (a .gateway) (a .time) (a .out .now) (p .0) (p .1) _ (confirmed .confirm-waiting .result) _ _ _ (found .oldest .ensures)
-    (confirmed .confirm-waiting .ensures) (c .before .wide .ensures .0)
-    (c .with-desk .ensures ∙ ap (gatewayFrom (a .gateway .bonds)) (c .before .before .before .desk-after .ensures))
+    oldest-answered (a .gateway) (a .time) (a .out .now) (p .0) (p .1) _ (written .confirm-waiting .result) _ _ _ (found .oldest .ensures)
+    (written .confirm-waiting .ensures) (c .before .wide .ensures .0)
+    (c .with-desk .ensures ∙ ap (gatewayFrom (a .gateway .bonds)) (c .before .before .before .without-oldest .ensures))
 
 pub release-oldest-spec : {M : Type 1} → statement M
 release-oldest-spec =
-    tie.close (tie.spec (λ c κs. search needs) confirm-waiting-requires desk-after-requires (λ c κs. search needs) (λ c κs. search needs) (λ c. search needs) returns)
+    tie.close (tie.spec (λ c κs. search needs) confirm-waiting-requires without-oldest-requires (λ c κs. search needs) (λ c κs. search needs) (λ c. search needs) returns)

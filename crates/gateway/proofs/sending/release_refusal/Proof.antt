@@ -4,7 +4,6 @@ use mathlib.Core.Bool.{true}
 use borrow.Author.Needs.{needs}
 use borrow.Author.Tests.{lt-ltb, le-ltb, not-true, not-false}
 use Rattle.dpa.specs.Frame.{longestResponse}
-use Rattle.desk.specs.Desk.{timeOk}
 use Rattle.gateway.specs.Gateway.{gatewayOk, releaseRefusal}
 use Rattle.gateway.proofs.sending.release_refusal.Statement.{statement}
 use Rattle.gateway.proofs.sending.release_refusal.Tie as tie
@@ -21,13 +20,13 @@ unfolding releaseRefusal
 returns-2 c = rw (sound (c .before), lt-ltb (c .before .before .before .args .size) longestResponse (c .if2 .taken))
 
 returns-3 : tie.Need-returns-3
-unfolding releaseRefusal timeOk
+unfolding releaseRefusal
 returns-3 c =
     let room = c .before .before .before in
     rw (sound (room .before), le-ltb (room .before .before .before .args .size) longestResponse (room .if2 .left), sym (c .before .time-ok .ensures) ∙ not-true _ (c .if3 .taken))
 
 returns-4 : tie.Need-returns-4
-unfolding releaseRefusal timeOk
+unfolding releaseRefusal
 returns-4 c =
     let room = c .before .before .before in
     rw (sound (room .before), le-ltb (room .before .before .before .args .size) longestResponse (room .if2 .left), sym (c .before .time-ok .ensures) ∙ not-false _ (c .if3 .left))

@@ -31,7 +31,7 @@ returns-2 c =
     ∙ ap (gatewayAnswer 0)
     (c .before .with-desk .ensures
     ∙ ap (gatewayFrom (a .gateway .bonds))
-    (sent .desk-with .ensures ∙ ap (λ (w : Waiting). deskFrom d (a .time) (d .next) (d .count + 1) (set (d .places) (d .count) w)) (placed .place-of .ensures)))
+    (sent .with-request .ensures ∙ ap (λ (w : Waiting). deskFrom d (a .time) (d .next) (d .count + 1) (set (d .places) (d .count) w)) (placed .place-of .ensures)))
     ∙ sym (send-answer _ _ _ (sym (tested .before .send-refusal .ensures) ∙ tested .if1 .left))
 
 pub send-spec : {M : Type 1} → statement M

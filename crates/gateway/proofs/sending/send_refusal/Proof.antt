@@ -44,7 +44,7 @@ returns-4 c =
 
 -- only the time is left to be tested
 timed : (c : tie.Else4) → let a = c .before .before .before .before .before .before .before .before .before .before .before .before .args in
-    sendRefusal (a .gateway) (a .frame .now) (a .time) ≡ cond (not (timeOk (a .gateway .desk) (a .time))) 14 0
+    sendRefusal (a .gateway) (a .frame .now) (a .time) ≡ cond (not (timeOk (a .gateway .desk .last) (a .time))) 14 0
 unfolding sendRefusal
 timed c =
     let sendable = c .before .before in
@@ -52,11 +52,9 @@ timed c =
     rw (sound (sized .before .before), fits sized, bond sendable, sym (c .before .is-full .ensures) ∙ c .if4 .left)
 
 returns-5 : tie.Need-returns-5
-unfolding timeOk
 returns-5 c = sym (timed (c .before .before) ∙ ap (λ (b : Bool). cond (not b) 14 0) (sym (c .before .time-ok .ensures) ∙ not-true _ (c .if5 .taken)))
 
 returns-6 : tie.Need-returns-6
-unfolding timeOk
 returns-6 c = sym (timed (c .before .before) ∙ ap (λ (b : Bool). cond (not b) 14 0) (sym (c .before .time-ok .ensures) ∙ not-false _ (c .if5 .left)))
 
 pub send-refusal-spec : {M : Type 1} → statement M

@@ -1,4 +1,4 @@
--- `queue::desk_after`: the wait after the oldest, and the others moved.
+-- `queue::without_oldest`: the wait after the oldest, and the others moved.
 use mathlib.Core.Path.{sym, ap, ap₂, subst, _∙_}
 use mathlib.Core.List.{List}
 use Prim.Native.Nat.{ℕ, _+_, _-_}
@@ -7,8 +7,8 @@ use borrow.Author.Needs.{needs}
 use Rattle.desk.specs.declared.record.Waiting.{Waiting}
 use Rattle.desk.specs.Desk.{requestIn, WaitingRule, deskFrom, networkIn, waitAfter}
 use Rattle.desk.proofs.Desks.{desk-facts}
-use Rattle.desk.proofs.queue.desk_after.Statement.{statement}
-use Rattle.desk.proofs.queue.desk_after.Tie as tie
+use Rattle.desk.proofs.queue.without_oldest.Statement.{statement}
+use Rattle.desk.proofs.queue.without_oldest.Tie as tie
 
 wait-after-requires : tie.Need-wait-after-requires
 wait-after-requires c κs =
@@ -25,7 +25,7 @@ returns c =
     (waited .wait-after .ensures .0 ∙ ap (λ (w : Waiting). waitAfter (networkIn d) (requestIn w)) (waited .before .oldest .ensures))
     (c .before .moved-down .ensures)
 
-pub desk-after-spec : {M : Type 1} → statement M
-desk-after-spec =
+pub without-oldest-spec : {M : Type 1} → statement M
+without-oldest-spec =
     tie.close (tie.spec (λ c κs. search needs) wait-after-requires (λ c κs. search needs) (λ c. search needs)
     (λ c. omega (arith, c .before .before .wait-after .ensures .1, c .before .before .before .before .before .pre)) (λ c. search needs) returns)

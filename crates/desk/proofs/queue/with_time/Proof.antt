@@ -1,0 +1,10 @@
+-- `queue::with_time`: only the last time changes.
+use mathlib.Core.Path.{refl}
+use Rattle.desk.proofs.queue.with_time.Statement.{statement}
+use Rattle.desk.proofs.queue.with_time.Tie as tie
+
+returns : tie.Need-returns
+returns c = refl
+
+pub with-time-spec : {M : Type 1} → statement M
+with-time-spec = tie.close (tie.spec returns)
