@@ -16,6 +16,9 @@ pub const SCENES_MAX: usize = 16;
 // The bytes of a scene location.
 pub const LOCATION_LENGTH: usize = 3;
 
+// The longest book: the number of scenes, and for each scene its location and its steps.
+pub const LONGEST_BOOK: usize = 1 + SCENES_MAX * (LOCATION_LENGTH + STEPS_MAX * STEP_LENGTH);
+
 // The start of a scene's body in the book, and its number of steps.
 pub struct SceneLocation {
     pub offset: usize,

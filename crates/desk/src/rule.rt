@@ -14,7 +14,7 @@ pub const STD: u8 = 0;
 pub const STD_LP: u8 = 1;
 
 // The latest time that can be given, in ms: 2^40.
-const TIME_MAX: u64 = 0x100_0000_0000;
+pub const TIME_MAX: u64 = 0x100_0000_0000;
 
 // Returns whether a desk follows its rule.
 pub fn desk_ok(desk: Desk) -> bool

@@ -8,7 +8,7 @@ ghost use lib.ListN.{length, drop};
 ghost use Rattle.dpa.specs.Frame.{headerSize, responseHeaderSize, frame, headerBytes, headerOf, frameFits, responseHeader};
 
 // Set in the PCMD of a response.
-const RESPONSE_BIT: u8 = 0x80;
+pub const RESPONSE_BIT: u8 = 0x80;
 
 pub struct Frame {
     pub nadr: u16,
@@ -32,6 +32,20 @@ impl Frame {
 
     pub const ANY_HWPID: u16 = 0xFFFF;
 
+    // Where the fields of a header start.
+    pub const AT_NADR: usize = 0;
+
+    pub const AT_PNUM: usize = 2;
+
+    pub const AT_PCMD: usize = 3;
+
+    pub const AT_HWPID: usize = 4;
+
+    // Where a response has two more.
+    pub const AT_ERRN: usize = Frame::HEADER;
+
+    pub const AT_DPA_VALUE: usize = Frame::HEADER + 1;
+
     // Returns the bytes of a header.
     pub fn header(nadr: u16, pnum: u8, pcmd: u8, hwpid: u16) -> [u8; Frame::HEADER]
         ensures { λ r. ⌜ r ≡ headerBytes (frame nadr pnum pcmd hwpid) ⌝ }
@@ -52,10 +66,10 @@ impl Frame {
         ensures { λ r. ⌜ r ≡ headerOf (now (s .entry)) ⌝ }
     {
         Frame {
-            nadr: word_of(s[0], s[1]),
-            pnum: s[2],
-            pcmd: s[3],
-            hwpid: word_of(s[4], s[5]),
+            nadr: word_of(s[Self::AT_NADR], s[Self::AT_NADR + 1]),
+            pnum: s[Self::AT_PNUM],
+            pcmd: s[Self::AT_PCMD],
+            hwpid: word_of(s[Self::AT_HWPID], s[Self::AT_HWPID + 1]),
         }
     }
 
@@ -82,6 +96,6 @@ pub fn write_response_header(response: &mut [u8], settings: Settings, pnum: u8, 
         settings.hwpid,
     );
     bytes::copy(&header, response);
-    response[Frame::HEADER] = error;
-    response[Frame::HEADER + 1] = settings.dpa_value;
+    response[Frame::AT_ERRN] = error;
+    response[Frame::AT_DPA_VALUE] = settings.dpa_value;
 }

@@ -1,14 +1,16 @@
-// The node: start, tick and FRC.
+// The node: start, tick, actual levels and FRC.
 use dpa::settings::Settings;
 use node::frc::FrcAnswer;
 use node::frc::frc;
+use node::levels::LevelsAnswer;
+use node::levels::actual_levels;
 use node::record::Node;
 use node::record::NodeAnswer;
 use node::start::start;
 use node::tick::tick;
 use node::tick::tick_in_place;
 ghost use mathlib.Core.Path.{_≡_};
-ghost use Rattle.node.specs.Node.{startOf, tickOf};
+ghost use Rattle.node.specs.Node.{startOf, tickOf, levelsOf};
 ghost use Rattle.node.specs.Frc.{frcOf};
 
 #[no_mangle]
@@ -31,6 +33,13 @@ pub extern "C" fn grelfint_tick_in_place(node: &mut Node) -> u8
     ensures { λ r. ⌜ (r ≡ tickOf (now (node .entry)) .refusal) × (now (node .exit) ≡ tickOf (now (node .entry)) .node) ⌝ }
 {
     tick_in_place(node)
+}
+
+#[no_mangle]
+pub extern "C" fn grelfint_actual_levels(node: Node) -> LevelsAnswer
+    ensures { λ r. ⌜ r ≡ levelsOf node ⌝ }
+{
+    actual_levels(node)
 }
 
 #[no_mangle]

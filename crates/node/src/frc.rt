@@ -19,11 +19,11 @@ pub const ON: u8 = 0x10;
 pub const ALARM: u8 = 0x11;
 
 // The values: the command or the lamp is not implemented, no, yes.
-const NOT_IMPLEMENTED: u8 = 1;
+pub const NOT_IMPLEMENTED: u8 = 1;
 
-const NO: u8 = 2;
+pub const NO: u8 = 2;
 
-const YES: u8 = 3;
+pub const YES: u8 = 3;
 
 // The lamp is in the low five bits of a byte.
 const LAMP_INDEX_RANGE: u8 = 32;

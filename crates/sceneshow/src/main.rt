@@ -1,9 +1,6 @@
 // Reads a scene book from standard input, runs scene 0 on a fresh node and prints its lamps.
 use acceptance::run::run_scene;
-use book::locations::LOCATION_LENGTH;
-use book::locations::SCENES_MAX;
-use book::step::STEP_LENGTH;
-use book::step::STEPS_MAX;
+use book::locations::LONGEST_BOOK;
 use dpa::refusal;
 use dpa::settings::Settings;
 use dpa::sizes::EEPROM_SIZE;
@@ -15,9 +12,6 @@ use node::levels::actual_levels;
 use node::record::Node;
 use node::start::start;
 use scene::compile::MIN_OUTPUT;
-
-// The longest book: the number of scenes, and for each scene its location and its steps.
-const LONGEST_BOOK: usize = 1 + SCENES_MAX * (LOCATION_LENGTH + STEPS_MAX * STEP_LENGTH);
 
 fn print(s: &[u8]) {
     io::write_all(STDOUT_FILENO, s);

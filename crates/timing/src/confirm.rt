@@ -16,7 +16,14 @@ ghost use Rattle.timing.specs.Confirm.{confirmationLength, responseHopsS
 const STATUS_CONFIRMATION: u8 = 0xFF;
 
 // The request's header, status, DpaValue, hops, timeslot, response hops.
-const CONFIRMATION_LENGTH: usize = Frame::HEADER + 5;
+pub const CONFIRMATION_LENGTH: usize = Frame::HEADER + 5;
+
+// Where the last three of these are.
+pub const AT_HOPS: usize = Frame::HEADER + 2;
+
+pub const AT_TIMESLOT: usize = Frame::HEADER + 3;
+
+pub const AT_RESPONSE_HOPS: usize = Frame::HEADER + 4;
 
 // A broadcast has no response, so its response hops are 0.
 fn response_hops_sent(frame: &[u8], response_hops: u8) -> u8
@@ -43,11 +50,11 @@ fn write_confirmation(
     ensures { λ _. ⌜ now (out .exit) ≡ overwriteFront (confirmBytes (now (frame .entry)) «dpa_value» hops slot «response_hops») (now (out .entry)) ⌝ }
 {
     bytes::copy(&frame[0..Frame::HEADER], out);
-    out[Frame::HEADER] = STATUS_CONFIRMATION;
-    out[Frame::HEADER + 1] = dpa_value;
-    out[Frame::HEADER + 2] = hops;
-    out[Frame::HEADER + 3] = slot;
-    out[Frame::HEADER + 4] = response_hops_sent(frame, response_hops);
+    out[Frame::AT_ERRN] = STATUS_CONFIRMATION;
+    out[Frame::AT_DPA_VALUE] = dpa_value;
+    out[AT_HOPS] = hops;
+    out[AT_TIMESLOT] = slot;
+    out[AT_RESPONSE_HOPS] = response_hops_sent(frame, response_hops);
 }
 
 // Confirms a request. NADR is not checked.

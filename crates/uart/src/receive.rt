@@ -27,15 +27,15 @@ ghost use Rattle.uart.specs.Framing.{longest};
 ghost use Rattle.uart.specs.Receiver.{afterEscape, placeCount, inFrame, receiverFrom, dropCause, frameEvent, begun, startsEscape, dataByte, receiveAnswer, eventAnswer, receiveOf};
 
 // Why a frame is dropped; the first that applies is given.
-const TOO_LONG: u8 = 1;
+pub const TOO_LONG: u8 = 1;
 
-const CUT: u8 = 2;
+pub const CUT: u8 = 2;
 
-const SHORT: u8 = 3;
+pub const SHORT: u8 = 3;
 
-const CHECK_BYTE: u8 = 4;
+pub const CHECK_BYTE: u8 = 4;
 
-const NO_CAUSE: u8 = 0;
+pub const NO_CAUSE: u8 = 0;
 
 // Whether an escape or a byte came since the last flag.
 fn begun(phase: u8, count: u8) -> bool
