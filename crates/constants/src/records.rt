@@ -7,6 +7,7 @@ use lights::lamp;
 use lights::power;
 use lights::request;
 use node::frc;
+use timing::slot::SLOT_UNIT_MS;
 use timing::slot::WAIT_MAX;
 use uart::receive;
 use uart::receiver;
@@ -56,6 +57,7 @@ pub fn serial_line() {
 }
 
 pub fn gateway() {
+    print(b"SLOT_MS", SLOT_UNIT_MS as u64);
     print(b"NETWORK_STD", rule::STD as u64);
     print(b"NETWORK_STD_LP", rule::STD_LP as u64);
     print(b"TIME_MAX", rule::TIME_MAX);

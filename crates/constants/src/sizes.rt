@@ -11,6 +11,7 @@ use dpa::frame::Frame;
 use dpa::node_set::NODE_SET_SIZE;
 use gateway::record::BONDS_SIZE;
 use lights::lamp::LAMPS;
+use lights::power::BITMAP_SIZE;
 use memory::block::Memory;
 use memory::block::longest_of;
 use memory::block::size_of;
@@ -46,6 +47,7 @@ pub fn frames() {
     print(b"RESPONSE", Frame::RESPONSE_LONGEST as u64);
     print(b"CONFIRMATION", CONFIRMATION_LENGTH as u64);
     print(b"ENTRY_HEADER", HEAD_SIZE as u64);
+    print(b"BITMAP", BITMAP_SIZE as u64);
     print(b"UART_FRAME", LONGEST as u64);
     print(b"UART_FRAMED", LONGEST_FRAMED as u64);
 }

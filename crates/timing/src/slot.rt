@@ -36,7 +36,7 @@ const LONG_SLOT: u8 = 6;
 // What a low-power network adds to a slot.
 const LP_EXTRA: u8 = 4;
 
-const SLOT_UNIT_MS: u32 = 10;
+pub const SLOT_UNIT_MS: u32 = 10;
 
 // The longest wait, in ms.
 pub const WAIT_MAX: u64 = 116735;
