@@ -1,5 +1,9 @@
 /* A gateway that sends requests to its network: the seven steps of document 003
- * as a loop. The clock, the serial line and node 1 are simulated. */
+ * as a loop. The clock, the serial line and node 1 are simulated. From the
+ * repository's root:
+ *
+ *   make
+ *   cc -Iinclude examples/gateway.c target/staticlib/libgrelfint.a -o gateway && ./gateway */
 #include <stdio.h>
 
 #include "grelfint.h"
@@ -33,9 +37,9 @@ static size_t write_line(const uint8_t *line, size_t length)
 int main(void)
 {
     static const uint8_t requests[3][11] = {
-        {1, 0, 0x71, 0, 0xFF, 0xFF, 1, 0, 0, 0, 50},    /* set lamp 0 of node 1 to 50 */
-        {0xFF, 0, 0x71, 1, 0xFF, 0xFF, 1, 0, 0, 0, 25}, /* raise lamp 0 of all nodes by 25 */
-        {1, 0, 0x71, 2, 0xFF, 0xFF, 1, 0, 0, 0, 5},     /* lower lamp 0 of node 1 by 5 */
+        {1, 0, GRELFINT_PNUM_LIGHTS, GRELFINT_PCMD_LIGHTS_SET, 0xFF, 0xFF, 1, 0, 0, 0, 50},
+        {GRELFINT_NADR_BROADCAST, 0, GRELFINT_PNUM_LIGHTS, GRELFINT_PCMD_LIGHTS_RAISE, 0xFF, 0xFF, 1, 0, 0, 0, 25},
+        {1, 0, GRELFINT_PNUM_LIGHTS, GRELFINT_PCMD_LIGHTS_LOWER, 0xFF, 0xFF, 1, 0, 0, 0, 5},
     };
     const grelfint_settings settings = {.address = 1, .hwpid = 0x2471, .dpa_value = 7, .lamp_count = 3, .step = 1};
     const bool lp = false; /* an STD network */
@@ -47,14 +51,14 @@ int main(void)
         grelfint_gateway_answer sent =
             grelfint_send(gateway, requests[i], sizeof requests[i], HOPS, RESPONSE_HOPS, DELAY, now);
 
-        if (sent.refusal != 0)
-            return sent.refusal; /* 13: eight requests wait; release one and try again */
+        if (sent.refusal != GRELFINT_OK)
+            return sent.refusal; /* GRELFINT_REFUSED_FULL: release one and try again */
         gateway = sent.gateway;
     }
     while (gateway.desk.count > 0) {
         grelfint_release_answer released = grelfint_release(gateway, now, confirmation, sizeof confirmation);
 
-        if (released.refusal != 0)
+        if (released.refusal != GRELFINT_OK)
             return released.refusal;
         gateway = released.gateway;
         /* 1. Wait till the routing of the previous request is finished. */
@@ -70,10 +74,12 @@ int main(void)
         /* 4. The confirmation; its time is that of the release. */
         print("confirmation", confirmation, released.length);
         /* 5. Wait till the request has reached the node, and the node has prepared its response. */
-        now += (confirmation[8] + 1u) * confirmation[9] * 10u + DELAY;
+        now += (confirmation[GRELFINT_AT_HOPS] + 1u) * confirmation[GRELFINT_AT_TIMESLOT] * GRELFINT_SLOT_MS + DELAY;
         /* 6. Read the response, which has travelled back. A broadcast has none. */
         if (length > 0) {
-            now += (confirmation[10] + 1u) * grelfint_timeslot(length - 8, lp).slot * 10u;
+            uint8_t slot = grelfint_timeslot(length - GRELFINT_RESPONSE_HEADER, lp).slot;
+
+            now += (confirmation[GRELFINT_AT_RESPONSE_HOPS] + 1u) * slot * GRELFINT_SLOT_MS;
             print("response", response, length);
         }
         /* 7. The earliest time for the next request is gateway.desk.next; it allows for the longest response. */

@@ -1,7 +1,7 @@
 /* Reads a serial line from standard input, as a gateway reads its UART, and
  * prints each frame and each drop. From the repository's root:
  *
- *   rt staticlib grelfint
+ *   make
  *   cc -Iinclude examples/serial.c target/staticlib/libgrelfint.a -o serial
  *   ./serial < examples/serial.bytes */
 #include <errno.h>
@@ -15,12 +15,12 @@ static void print(const grelfint_receive_answer *answer)
     static const char *const causes[] = {"", "too long", "cut after an escape", "too short", "wrong check byte"};
     size_t i;
 
-    if (answer->event == 1) {
+    if (answer->event == GRELFINT_EVENT_FRAME) {
         printf("frame:");
         for (i = 0; i < answer->length; i++)
             printf(" %02X", answer->frame[i]);
         printf("\n");
-    } else if (answer->event == 2) {
+    } else if (answer->event == GRELFINT_EVENT_DROPPED) {
         printf("dropped: %s\n", causes[answer->cause]);
     }
 }
@@ -33,7 +33,7 @@ static bool receive(grelfint_receiver *receiver, const uint8_t *part, size_t len
     while (length > 0) {
         grelfint_receive_answer answer = grelfint_uart_receive(*receiver, part, length);
 
-        if (answer.refusal != 0) {
+        if (answer.refusal != GRELFINT_OK) {
             errno = EINVAL;
             return false;
         }

@@ -1,52 +1,54 @@
-/* grelfint: lamp node, scene compiler, gateway and serial line.
+/* grelfint: a lamp node on an IQRF mesh, a scene compiler, a gateway, and the
+ * serial line between a gateway and its module. For x86-64 Linux.
  *
- * Every call returns an answer for every input. Its refusal is 0 or, from the
- * top, the first of this list that applies. A refused call returns 0 for every
- * other number (except `step` with 81 to 84), false for every bool and the
- * node, receiver or gateway unchanged, and writes no buffer.
+ * A call takes records by value and returns its answer by value. The first
+ * field of an answer is its refusal. GRELFINT_OK (0) says that the call did its
+ * work. Any other number says that it did nothing: no buffer is written, the
+ * node, receiver or gateway is the one that was given, and every other field is
+ * zero. So the node of an answer is always the one to go on with:
  *
- *    1  the node, receiver or gateway record is not sound; settings or an
- *       address out of range; a node set that names address 0, or no node
- *    2  the frame has fewer than 6 or more than 62 bytes; a message for the
- *       serial line has fewer than 6 or more than 64
- *    3  fewer than 64 bytes for a response or confirmation
- *    4  EEPROM is not 192 bytes, or external memory not 16,384
- *    5  more than 56 bytes of PData
- *    6  the scene book is malformed
- *    7  the book has no scene with that number
- *   81  a step with a kind over 4
- *   82  a step with a target over 31 (lamp), 47 (RAM) or 191 (EEPROM)
- *   83  a lamp step with a value over 100
- *   84  a step with an invalid time: 0x80 for a lamp, not 0 for a memory
- *    9  fewer than 4,096 bytes for a compiled scene
- *   10  a view of neither memory
- *   11  the framed message does not fit into the buffer
- *   12  at a gateway: an address that is not 1 to 239; one that is already
- *       bonded, to add; one that is not bonded, to remove or to send to (a
- *       broadcast, NADR 0x00FF, needs none)
- *   13  eight requests are waiting
- *   14  a time before the last one given, or above 2^40
- *   15  a view of more bytes than one request can transfer
- *   16  a view that starts or ends outside its memory
+ *     grelfint_request_answer answer = grelfint_handle_request(node, ..);
+ *     node = answer.node;
+ *     if (answer.refusal != GRELFINT_OK)
+ *         ..
  *
- * 81 to 84 are about the first bad step of the scene, whose number, from 0, is
- * in `step`. If several of its parts are bad, the first of the four is given.
+ * There are few exceptions: a refused grelfint_start has no node to return, a
+ * scene that is refused for a step comes with the number of that step, two
+ * calls return the refusal itself, and two that cannot be refused a record.
  *
- * A node record is sound if its address is 1 to 239, its lamp count 1 to 32
- * and its step a divisor of 100; no level is over 100; no timer is over 7,620
- * seconds or runs at level 0; and all lamps from the lamp count on are zero.
- * A receiver record is sound if its limit is 62 or 64, its phase at most 2, its
- * count at most limit + 2, and its count 0 in phase 0.
- * A gateway record is sound if neither address 0 nor 240 to 255 is bonded; its
- * network is 0 or 1 and its count at most 8; each of the first `count` places
- * has a length of 6 to 62, NADR 1 to 239 or 255 in its frame, and zeros after
- * the frame; all later places are zero; `last` is at most 2^40, and `next` at
- * most last + 116,735, the longest wait.
+ * A call accepts every value of its parameters. Only pointers have rules, which
+ * nothing checks:
  *
- * Each pointer to a buffer is followed by the length of that buffer. Pointers
- * must not be null, even if the length is 0. A buffer that a call writes must
- * not overlap another buffer of the same call. No call keeps a pointer after
- * it returns.
+ * - A pointer to bytes is followed by the number of bytes. It must not be null,
+ *   even if that number is 0; the address of any byte will do.
+ * - A buffer that a call writes must not overlap another one of the same call:
+ *   a request and its response need two buffers.
+ *
+ * No call allocates, blocks, keeps a pointer or has global data. Calls may run
+ * at the same time in several threads, as long as they share no buffer that one
+ * of them writes. Of the C library they need memcpy alone.
+ *
+ * The stack that a call takes, in bytes, by the machine code of this version.
+ * The arguments and the answer are the caller's: a node has 184 bytes, a
+ * gateway 600, and the largest answer 688 (grelfint_release).
+ *
+ *     start                        59      confirm             8
+ *     tick                        468      uart_receiver       8
+ *     tick_in_place               644      uart_receive      512
+ *     actual_levels               144      uart_frame        208
+ *     handle_request            1,552      gateway_start   1,184
+ *     frc                         224      bond            2,048
+ *     view_status                   8      unbond          2,048
+ *     compile                     454      clear_bonds       752
+ *     compile_default             454      bond_count        736
+ *     compile_selected            566      bond_bitmap       688
+ *     compile_selected_default    566      send            1,280
+ *     timeslot                      8      release         2,529
+ *     earliest_send                 8
+ *
+ * Two-byte numbers in frames and books have their low byte first.
+ *
+ * Programs to start from: node.c, scene.c, gateway.c and serial.c in examples/.
  */
 #ifndef GRELFINT_H
 #define GRELFINT_H
@@ -55,37 +57,211 @@
 #include <stddef.h>
 #include <stdint.h>
 
+/* The second number grows with every change of a record, a call or a rule. */
+#define GRELFINT_VERSION "0.6.0"
+#define GRELFINT_VERSION_MAJOR 0
+#define GRELFINT_VERSION_MINOR 6
+#define GRELFINT_VERSION_PATCH 0
+
+/* A dropped answer is a lost node, or a refusal that goes unnoticed. */
+#if defined __cplusplus && __cplusplus >= 201703L
+#define GRELFINT_MUST_USE [[nodiscard]]
+#elif defined __GNUC__
+#define GRELFINT_MUST_USE __attribute__((warn_unused_result))
+#else
+#define GRELFINT_MUST_USE
+#endif
+
+/* A null pointer that the compiler can see is a warning. */
+#if defined __GNUC__
+#define GRELFINT_NONNULL __attribute__((nonnull))
+#else
+#define GRELFINT_NONNULL
+#endif
+
 #ifdef __cplusplus
 extern "C" {
 #endif
 
-#define GRELFINT_LAMPS 32
+/* ==== Refusals ====
+ *
+ * If several apply, a call returns the first in this order. The comment of a
+ * call lists those that it can return, without GRELFINT_REFUSED_, and what it
+ * writes, if anything. */
+#define GRELFINT_OK 0
+#define GRELFINT_REFUSED_NODE 1     /* the record of a node, receiver or gateway
+                                     * is not sound; settings or an address out
+                                     * of range; a node set that names address 0
+                                     * or no node */
+#define GRELFINT_REFUSED_FRAME 2    /* a request that is not 6 to 62 bytes long,
+                                     * or a message for the serial line that is
+                                     * not 6 to 64 */
+#define GRELFINT_REFUSED_RESPONSE 3 /* fewer than 64 bytes for a response or a
+                                     * confirmation */
+#define GRELFINT_REFUSED_MEMORY 4   /* EEPROM is not 192 bytes, or external
+                                     * memory not 16,384 */
+#define GRELFINT_REFUSED_PDATA 5    /* more than 56 bytes of PData */
+#define GRELFINT_REFUSED_BOOK 6     /* the bytes are not a scene book */
+#define GRELFINT_REFUSED_SCENE 7    /* the book has no scene of that number */
+
+/* From 81 on: the first bad step of the scene, whose number, from 0, is in the
+ * answer. If several of its fields are bad, it is the first of them. */
+#define GRELFINT_REFUSED_STEP_KIND 81   /* over 4 */
+#define GRELFINT_REFUSED_STEP_TARGET 82 /* over 31 for a lamp, 47 for RAM, 191
+                                         * for EEPROM */
+#define GRELFINT_REFUSED_STEP_VALUE 83  /* a level over 100 */
+#define GRELFINT_REFUSED_STEP_TIME 84   /* 0x80 for a lamp; for a memory any but
+                                         * 0 */
+
+#define GRELFINT_REFUSED_OUTPUT 9   /* fewer than 4,096 bytes for a compiled
+                                     * scene */
+#define GRELFINT_REFUSED_VIEW 10    /* a PNUM of neither EEPROM nor external
+                                     * memory */
+#define GRELFINT_REFUSED_FRAMED 11  /* the framed message does not fit */
+#define GRELFINT_REFUSED_ADDRESS 12 /* at a gateway: an address that is not 1 to
+                                     * 239; already bonded, to add; not bonded,
+                                     * to remove or to send to */
+#define GRELFINT_REFUSED_FULL 13    /* eight requests wait */
+#define GRELFINT_REFUSED_TIME 14    /* a time before the last one given, or over
+                                     * GRELFINT_TIME_MAX */
+#define GRELFINT_REFUSED_BLOCK 15   /* more bytes than one request can read */
+#define GRELFINT_REFUSED_RANGE 16   /* a start or an end outside the memory */
+
+/* ==== Frames ====
+ *
+ * A request is NADR (2 bytes), PNUM, PCMD, HWPID (2 bytes) and PData.
+ * A response has the same fields, with the node's address and HWPID and with
+ * GRELFINT_PCMD_RESPONSE set, then ErrN, DpaValue and data.
+ * A confirmation is the first six bytes of a request, 0xFF in the place of
+ * ErrN, DpaValue, hops, timeslot and response hops.
+ *
+ * A name without another word is a size in bytes: of the longest request, the
+ * longest response, a memory, and so on. */
+#define GRELFINT_FRAME_HEADER 6
+#define GRELFINT_PDATA 56
+#define GRELFINT_FRAME 62
+#define GRELFINT_RESPONSE_HEADER 8
+#define GRELFINT_RESPONSE 64
+#define GRELFINT_CONFIRMATION 11
+
+/* Offsets of the fields. */
+#define GRELFINT_AT_NADR 0
+#define GRELFINT_AT_PNUM 2
+#define GRELFINT_AT_PCMD 3
+#define GRELFINT_AT_HWPID 4
+#define GRELFINT_AT_PDATA 6 /* in a request */
+#define GRELFINT_AT_ERRN 6  /* in a response */
+#define GRELFINT_AT_DPA_VALUE 7
+#define GRELFINT_AT_DATA 8
+#define GRELFINT_AT_HOPS 8  /* in a confirmation */
+#define GRELFINT_AT_TIMESLOT 9
+#define GRELFINT_AT_RESPONSE_HOPS 10
+
+#define GRELFINT_NADR_BROADCAST 0x00FF /* all nodes; none of them answers */
+#define GRELFINT_ADDRESS_MAX 239       /* nodes have the addresses 1 to 239 */
+#define GRELFINT_HWPID_ANY 0xFFFF      /* nodes of every profile accept it */
+
+#define GRELFINT_PNUM_OS 0x02
+#define GRELFINT_PNUM_EEPROM 0x03
+#define GRELFINT_PNUM_EXTERNAL 0x04
+#define GRELFINT_PNUM_RAM 0x05
+#define GRELFINT_PNUM_LIGHTS 0x71
+
+/* The requests, with their PData and the data of the response. */
+#define GRELFINT_PCMD_LIGHTS_SET 0x00   /* lamps and powers, see below; the
+                                         * actual level before, of each lamp */
+#define GRELFINT_PCMD_LIGHTS_RAISE 0x01 /* the same */
+#define GRELFINT_PCMD_LIGHTS_LOWER 0x02 /* the same */
+#define GRELFINT_PCMD_LIGHTS_ENUMERATE 0x3E /* none; the number of lamps */
+#define GRELFINT_PCMD_EEPROM_READ 0x00  /* address, number; the bytes */
+#define GRELFINT_PCMD_EEPROM_WRITE 0x01 /* address, bytes; none */
+#define GRELFINT_PCMD_RAM_READ 0x00     /* as for EEPROM */
+#define GRELFINT_PCMD_RAM_WRITE 0x01
+#define GRELFINT_PCMD_EXTERNAL_READ 0x02 /* the same; the address has 2 bytes */
+#define GRELFINT_PCMD_EXTERNAL_WRITE 0x03
+#define GRELFINT_PCMD_OS_BATCH 0x05      /* a list, see below; none */
+#define GRELFINT_PCMD_OS_SELECTIVE_BATCH 0x0B /* a node set, a list; none */
+#define GRELFINT_PCMD_OS_CODE_CHECK 0x0A /* flags (bit 0 to load the code, bit 1
+                                          * for a plug-in), then 2 bytes each:
+                                          * address in external memory, length,
+                                          * checksum; 1 if it matches, else 0 */
+#define GRELFINT_PCMD_RESPONSE 0x80      /* set in the PCMD of a response */
+
+/* ErrN: HWPID is tested first, then PNUM, PCMD and what the peripheral tests. A
+ * request with an error has changed nothing. */
+#define GRELFINT_ERRN_NONE 0
+#define GRELFINT_ERRN_FAIL 1     /* flags of a code check */
+#define GRELFINT_ERRN_PCMD 2     /* unknown PCMD */
+#define GRELFINT_ERRN_PNUM 3     /* unknown PNUM */
+#define GRELFINT_ERRN_ADDR 4     /* outside the memory */
+#define GRELFINT_ERRN_DATA_LEN 5 /* length of PData */
+#define GRELFINT_ERRN_DATA 6     /* content of PData */
+#define GRELFINT_ERRN_HWPID 7    /* another profile */
+
+/* The list of a batch: entries and a closing zero byte. An entry is its length
+ * (which counts itself), PNUM, PCMD, HWPID (2 bytes) and PData. If the list can
+ * be read, the batch has ErrN 0 and its entries run in order. An entry with an
+ * error changes nothing and does not stop the others. OS requests are not for
+ * lists: they are such an error. */
+#define GRELFINT_ENTRY_HEADER 5
+
+/* Why a list cannot be read: the first fault from its start. Nothing runs. */
+#define GRELFINT_REASON_NONE 0
+#define GRELFINT_REASON_SHORT 1    /* a length of 1 to 4 */
+#define GRELFINT_REASON_PAST_END 2 /* an entry that reaches past the end */
+#define GRELFINT_REASON_UNCLOSED 3 /* no closing zero */
+#define GRELFINT_REASON_TRAILING 4 /* bytes after the closing zero */
+
+/* ==== The node ==== */
+
+#define GRELFINT_LAMPS 32 /* the most lamps of a node */
 #define GRELFINT_RAM 48
 #define GRELFINT_EEPROM 192
 #define GRELFINT_EXTERNAL 16384
-#define GRELFINT_RESPONSE 64   /* minimum for a response or confirmation */
-#define GRELFINT_COMPILED 4096 /* minimum for a compiled scene */
-#define GRELFINT_NODE_SET 30   /* bytes: a bit for each address, 0 to 239 */
-#define GRELFINT_FRAME 62      /* the longest request */
-#define GRELFINT_BONDS 32      /* bytes: a bit for each address, 0 to 255 */
-#define GRELFINT_DESK 8        /* requests that a gateway can hold */
-#define GRELFINT_UART_FRAME 64   /* the longest message on the serial line */
-#define GRELFINT_UART_FRAMED 132 /* room for every framed message: 2 flags, and
-                                  * 65 bytes of which each may be escaped */
+#define GRELFINT_RAM_BLOCK 48 /* the most bytes of one read or write */
+#define GRELFINT_EEPROM_BLOCK 55
+#define GRELFINT_EXTERNAL_BLOCK 54
 
+/* PData of set, raise and lower: a bitmap of lamps (lamp 0 is bit 0 of byte 0),
+ * and for each of them a power, followed by a time if POWER_TIMED is set. A
+ * level without a time ends a running timer. KEEP leaves level and timer, or
+ * with a time starts it anew. Lamps that the node does not have are ignored. */
+#define GRELFINT_BITMAP 4
+#define GRELFINT_LEVEL_MAX 100     /* powers are 0 to 100, */
+#define GRELFINT_POWER_KEEP 127    /* or this; others are errors */
+#define GRELFINT_POWER_TIMED 0x80  /* a time follows: 1 to 127 minutes, */
+#define GRELFINT_TIME_SECONDS 0x80 /* or seconds, if this is set */
+#define GRELFINT_SECONDS_MAX 7620  /* the longest time, 127 minutes */
+
+/* The dimming steps: const uint8_t steps[] = {GRELFINT_DIMMING_STEPS}; */
+#define GRELFINT_DIMMING_STEPS 1, 2, 4, 5, 10, 20, 25, 50, 100
+
+/* FRC commands, and the two-bit values. */
+#define GRELFINT_FRC_ON 0x10
+#define GRELFINT_FRC_ALARM 0x11
+#define GRELFINT_FRC_NOT_IMPLEMENTED 1
+#define GRELFINT_FRC_NO 2
+#define GRELFINT_FRC_YES 3
+
+/* address 1 to 239; lamp_count 1 to 32; step one of GRELFINT_DIMMING_STEPS;
+ * hwpid, the hardware profile, and dpa_value are any. */
 typedef struct grelfint_settings {
     uint16_t address;
     uint16_t hwpid;
-    uint8_t dpa_value;
+    uint8_t dpa_value; /* sent in every response */
     uint8_t lamp_count;
-    uint8_t step;
+    uint8_t step; /* levels that the lamps can take are its multiples */
 } grelfint_settings;
 
 typedef struct grelfint_lamp {
-    uint8_t level;    /* requested level, 0 to 100 */
-    uint16_t seconds; /* seconds left, 0 for no timer */
+    uint8_t level;    /* as requested, 0 to 100; see grelfint_actual_levels */
+    uint16_t seconds; /* until the lamp goes off, 0 for no timer */
 } grelfint_lamp;
 
+/* A node, from grelfint_start. It is sound if its settings are in range, no
+ * level is over 100, no timer over 7,620 seconds or running at level 0, and all
+ * lamps from the lamp count on are zero. A sound node stays sound, so one that
+ * is stored and loaded again only has to come back as it was. */
 typedef struct grelfint_node {
     grelfint_settings settings;
     grelfint_lamp lamps[GRELFINT_LAMPS];
@@ -97,43 +273,224 @@ typedef struct grelfint_node_answer {
     grelfint_node node;
 } grelfint_node_answer;
 
+typedef struct grelfint_levels_answer {
+    uint8_t refusal;
+    uint8_t levels[GRELFINT_LAMPS];
+} grelfint_levels_answer;
+
+typedef struct grelfint_frc_answer {
+    uint8_t refusal;
+    uint8_t value; /* GRELFINT_FRC_NOT_IMPLEMENTED, _NO or _YES */
+} grelfint_frc_answer;
+
 typedef struct grelfint_request_answer {
     uint8_t refusal;
     size_t length;  /* bytes of the response; 0 if there is none to send */
     bool load;      /* a code check matched and asked to load the code */
-    bool addressed; /* not refused, and NADR is this node's address or 0x00FF.
-                     * A broadcast that was carried out and a frame for another
-                     * node both have length 0; this field separates them. It
-                     * does not depend on the node set of a selective batch. */
-    uint8_t reason; /* why the list of a batch or of a selective batch for this
-                     * node cannot be read (ErrN 6); given for a broadcast too:
-                     *   1  a length byte of 1 to 4
-                     *   2  an entry that reaches past the end of PData
-                     *   3  no closing zero
-                     *   4  bytes after the closing zero
-                     * This is the first fault from the start of the list; 1
-                     * comes before 2. 0 for a list that can be read, even if
-                     * an entry in it fails, for a request with another error,
-                     * and for any other frame. */
-    uint8_t place;  /* offset of the fault in PData: of the length byte for 1
-                     * and 2, of the first byte after the zero for 4; for 3 the
-                     * length of PData; 0 if reason is 0 */
-    grelfint_node node;
+    bool addressed; /* NADR is this node's address or the broadcast address. It
+                     * tells a broadcast from a frame for another node; both
+                     * have length 0. The request may still have an error, or be
+                     * a selective batch that does not name this node. */
+    uint8_t reason; /* GRELFINT_REASON_..: why the list of a batch, or of a
+                     * selective batch for this node, cannot be read (ErrN 6);
+                     * given for a broadcast too. NONE for every other request
+                     * and error, and for a list of which an entry fails. */
+    uint8_t place;  /* offset of the fault in PData: of the length byte for
+                     * SHORT and PAST_END, of the first byte after the zero for
+                     * TRAILING, the length of PData for UNCLOSED */
+    grelfint_node node; /* to go on with */
 } grelfint_request_answer;
 
-typedef struct grelfint_frc_answer {
+/* Starts a node: every lamp and RAM byte is 0.
+ *
+ * Answer:   node (zeros if refused).
+ * Refusals: NODE (settings out of range). */
+GRELFINT_MUST_USE
+grelfint_node_answer grelfint_start(grelfint_settings settings);
+
+/* Lets one second pass: every running timer drops by 1, and a lamp whose timer
+ * gets to 0 goes to level 0.
+ *
+ * Answer:   node afterwards.
+ * Refusals: NODE. */
+GRELFINT_MUST_USE
+grelfint_node_answer grelfint_tick(grelfint_node node);
+
+/* grelfint_tick on a record in place.
+ *
+ * Answer:   the refusal itself.
+ * Refusals: NODE (*node is then unchanged).
+ * Written:  *node. */
+GRELFINT_MUST_USE GRELFINT_NONNULL
+uint8_t grelfint_tick_in_place(grelfint_node *node);
+
+/* The levels to drive the lamps with: for each lamp the smallest multiple of
+ * the dimming step that is not below the requested level, and 0 from the lamp
+ * count on. Ask after every request and every tick.
+ *
+ * Answer:   levels, lamp 0 first.
+ * Refusals: NODE. */
+GRELFINT_MUST_USE
+grelfint_levels_answer grelfint_actual_levels(grelfint_node node);
+
+/* Handles one request.
+ *
+ * frame     the request, as it came from the mesh
+ * eeprom, external
+ *           the memories of the node: 192 and 16,384 bytes
+ * response  room for the response, at least GRELFINT_RESPONSE bytes
+ *
+ * Answer:   length of the response; load; addressed; reason and place; node
+ *           afterwards. An error of the request is no refusal: the response
+ *           has it in response[GRELFINT_AT_ERRN], and nothing is changed. There
+ *           is no response (length 0) to a broadcast, to a frame for another
+ *           node, and to a selective batch whose set does not name this node.
+ * Refusals: NODE, FRAME, RESPONSE, MEMORY.
+ * Written:  `eeprom` and `external` as the request asks; the first `length`
+ *           bytes of `response`.
+ *
+ *     if (answer.length > 0)
+ *         transmit(response, answer.length);
+ *     if (answer.load)
+ *         load the code that was checked; */
+GRELFINT_MUST_USE GRELFINT_NONNULL
+grelfint_request_answer grelfint_handle_request(
+    grelfint_node node,
+    const uint8_t *frame, size_t frame_length,
+    uint8_t *eeprom, size_t eeprom_length,
+    uint8_t *external, size_t external_length,
+    uint8_t *response, size_t response_length);
+
+/* The two bits that a node answers in an FRC collection.
+ *
+ * command    GRELFINT_FRC_ON: is the lamp's actual level not 0, or its bit in
+ *            `stuck` set? GRELFINT_FRC_ALARM: is its bit in `alarm` set?
+ * user_data  GRELFINT_PNUM_LIGHTS, then the lamp in the low five bits of a byte
+ * stuck, alarm
+ *            of the hardware: bit i belongs to lamp i
+ *
+ * Answer:   value; NOT_IMPLEMENTED for other commands or user data, and for a
+ *           lamp from the lamp count on.
+ * Refusals: NODE (value is then 0). */
+GRELFINT_MUST_USE GRELFINT_NONNULL
+grelfint_frc_answer grelfint_frc(
+    grelfint_node node, uint8_t command,
+    const uint8_t *user_data, size_t user_data_length,
+    uint32_t stuck, uint32_t alarm);
+
+/* Tests whether a read request for a part of EEPROM or external memory would
+ * succeed, so that the part can be read without a frame. No byte is read.
+ *
+ * pnum      GRELFINT_PNUM_EEPROM or GRELFINT_PNUM_EXTERNAL
+ * start, count
+ *           the part: `count` bytes from memory[start] on
+ *
+ * Answer:   the refusal itself; GRELFINT_OK if the part may be read.
+ * Refusals: MEMORY, VIEW, BLOCK, RANGE. */
+GRELFINT_MUST_USE GRELFINT_NONNULL
+uint8_t grelfint_view_status(
+    const uint8_t *eeprom, size_t eeprom_length,
+    const uint8_t *external, size_t external_length,
+    uint8_t pnum, size_t start, size_t count);
+
+/* ==== Scenes ====
+ *
+ * A book is the number of its scenes (1 byte), a location for each, and the
+ * steps of all scenes in order. A location is the offset of the first step in
+ * the book (2 bytes) and the number of steps (1 byte). A step is kind, target
+ * (a lamp, or an address in a memory), value, and a time byte or 0. A step for
+ * a lamp that the node does not have changes nothing. */
+#define GRELFINT_SCENES 16 /* the most scenes of a book */
+#define GRELFINT_STEPS 64  /* the most steps of a scene */
+#define GRELFINT_BOOK 4145 /* the longest book */
+#define GRELFINT_BOOK_LOCATION 3
+#define GRELFINT_BOOK_STEP 4
+#define GRELFINT_COMPILED 4096 /* enough for every compiled scene */
+#define GRELFINT_NODE_SET 30
+
+#define GRELFINT_KIND_SET 0    /* a lamp's level becomes the value */
+#define GRELFINT_KIND_RAISE 1  /* it goes up by the value, to 100 at most */
+#define GRELFINT_KIND_LOWER 2  /* it goes down by the value, to 0 at least */
+#define GRELFINT_KIND_RAM 3    /* a byte of RAM becomes the value */
+#define GRELFINT_KIND_EEPROM 4 /* a byte of EEPROM becomes the value */
+
+typedef struct grelfint_compile_answer {
     uint8_t refusal;
-    uint8_t value;
-} grelfint_frc_answer;
+    uint8_t step;  /* number of the bad step, with GRELFINT_REFUSED_STEP_.. */
+    size_t length; /* bytes of the output */
+} grelfint_compile_answer;
+
+/* A set of nodes, 1 to 239. To name node a: set.bits[a / 8] |= 1 << a % 8; */
+typedef struct grelfint_node_set {
+    uint8_t bits[GRELFINT_NODE_SET];
+} grelfint_node_set;
+
+/* Compiles a scene into requests to one node or to all nodes. A node that
+ * handles them in order ends as if it had done the steps one by one.
+ *
+ * book      the scene book
+ * scene     number of the scene, from 0
+ * address   of a node, 1 to 239, or GRELFINT_NADR_BROADCAST
+ * hwpid     of the nodes that are to accept it, or GRELFINT_HWPID_ANY
+ * out       room for the output, at least GRELFINT_COMPILED bytes
+ *
+ * Answer:   length of the output; step if refused for a step.
+ * Refusals: NODE (address), BOOK, SCENE, STEP_KIND, STEP_TARGET, STEP_VALUE,
+ *           STEP_TIME, OUTPUT.
+ * Written:  the first `length` bytes of `out`: the number of requests, a byte
+ *           with the length of each, and the requests. A scene without steps
+ *           has none.
+ *
+ *     const uint8_t *request = out + 1 + out[0];
+ *     for (size_t i = 0; i < out[0]; i++) {
+ *         transmit(request, out[1 + i]);
+ *         request += out[1 + i];
+ *     } */
+GRELFINT_MUST_USE GRELFINT_NONNULL
+grelfint_compile_answer grelfint_compile(
+    const uint8_t *book, size_t book_length, size_t scene,
+    uint16_t address, uint16_t hwpid,
+    uint8_t *out, size_t out_length);
+
+/* grelfint_compile with GRELFINT_HWPID_ANY. */
+GRELFINT_MUST_USE GRELFINT_NONNULL
+grelfint_compile_answer grelfint_compile_default(
+    const uint8_t *book, size_t book_length, size_t scene,
+    uint16_t address,
+    uint8_t *out, size_t out_length);
+
+/* Compiles a scene for a set of nodes: broadcasts (selective batches) that all
+ * other nodes ignore. In all else as grelfint_compile.
+ *
+ * Refusals: NODE (the set names address 0, or no node), and from BOOK on as
+ *           grelfint_compile. */
+GRELFINT_MUST_USE GRELFINT_NONNULL
+grelfint_compile_answer grelfint_compile_selected(
+    const uint8_t *book, size_t book_length, size_t scene,
+    grelfint_node_set nodes, uint16_t hwpid,
+    uint8_t *out, size_t out_length);
+
+/* grelfint_compile_selected with GRELFINT_HWPID_ANY. */
+GRELFINT_MUST_USE GRELFINT_NONNULL
+grelfint_compile_answer grelfint_compile_selected_default(
+    const uint8_t *book, size_t book_length, size_t scene,
+    grelfint_node_set nodes,
+    uint8_t *out, size_t out_length);
+
+/* ==== Timing ====
+ *
+ * `lp` is true in a network of type STD+LP, which battery-powered nodes can
+ * join and whose slots are 40 ms longer, and false in one of type STD. */
+#define GRELFINT_SLOT_MS 10 /* the unit of timeslots, in ms */
 
 typedef struct grelfint_length_answer {
     uint8_t refusal;
-    size_t length;
+    size_t length; /* bytes written */
 } grelfint_length_answer;
 
 typedef struct grelfint_slot_answer {
     uint8_t refusal;
-    uint8_t slot; /* in units of 10 ms */
+    uint8_t slot; /* in units of GRELFINT_SLOT_MS */
 } grelfint_slot_answer;
 
 /* Of grelfint_earliest_send; grelfint_send returns grelfint_gateway_answer. */
@@ -142,20 +499,65 @@ typedef struct grelfint_send_answer {
     uint32_t milliseconds;
 } grelfint_send_answer;
 
-/* A set of nodes: bit a % 8 of byte a / 8 is set if it names address a.
- * To name node a, 1 to 239: set.bits[a / 8] |= 1 << (a % 8). */
-typedef struct grelfint_node_set {
-    uint8_t bits[GRELFINT_NODE_SET];
-} grelfint_node_set;
+/* The timeslot of a packet with up to 16, 40 or 56 bytes of PData. For a
+ * response, these are the bytes after its header.
+ *
+ * Answer:   slot: 4, 5 or 6, and 4 more if `lp`.
+ * Refusals: PDATA. */
+GRELFINT_MUST_USE
+grelfint_slot_answer grelfint_timeslot(size_t pdata_length, bool lp);
 
-typedef struct grelfint_compile_answer {
-    uint8_t refusal;
-    uint8_t step; /* the first bad step, with refusals 81 to 84 */
-    size_t length;
-} grelfint_compile_answer;
+/* The time from the confirmation of a request to the earliest next send.
+ *
+ * hops, response_hops
+ *            from the gateway to the node, and back
+ * request_length, response_length
+ *            bytes after the header of the request and of the response
+ * delay      that the node needs to answer, in ms
+ * broadcast  the response adds no time, but its length is still tested
+ *
+ * Answer:   milliseconds.
+ * Refusals: PDATA (either length). */
+GRELFINT_MUST_USE
+grelfint_send_answer grelfint_earliest_send(
+    uint8_t hops, size_t request_length, uint16_t delay,
+    uint8_t response_hops, size_t response_length, bool lp, bool broadcast);
 
-/* A receiver on the serial line, from grelfint_uart_receiver. A caller stores
- * it between calls and need not look inside. */
+/* Writes the confirmation that a gateway gives for a request.
+ *
+ * frame     the request; NADR is not tested
+ * out       room of at least GRELFINT_RESPONSE bytes, as for a response
+ *
+ * Answer:   length: GRELFINT_CONFIRMATION.
+ * Refusals: FRAME, RESPONSE.
+ * Written:  the first `length` bytes of `out`. For a broadcast the response
+ *           hops are written as 0. */
+GRELFINT_MUST_USE GRELFINT_NONNULL
+grelfint_length_answer grelfint_confirm(
+    const uint8_t *frame, size_t frame_length,
+    uint8_t dpa_value, uint8_t hops, uint8_t response_hops, bool lp,
+    uint8_t *out, size_t out_length);
+
+/* ==== The serial line ====
+ *
+ * A message is sent as a flag, its bytes, a check byte and a flag. */
+#define GRELFINT_UART_FRAME 64
+#define GRELFINT_UART_FRAMED 132 /* 2 flags, and 65 bytes that may be escaped */
+
+#define GRELFINT_EVENT_NONE 0    /* all bytes taken, and no frame yet */
+#define GRELFINT_EVENT_FRAME 1
+#define GRELFINT_EVENT_DROPPED 2 /* a frame that is lost, with its cause */
+
+/* Why a frame was dropped: the first that applies. */
+#define GRELFINT_CAUSE_NONE 0
+#define GRELFINT_CAUSE_TOO_LONG 1   /* over the limit without its check byte */
+#define GRELFINT_CAUSE_CUT 2        /* a flag right after an escape */
+#define GRELFINT_CAUSE_SHORT 3      /* under 6 bytes without its check byte */
+#define GRELFINT_CAUSE_CHECK_BYTE 4 /* wrong check byte */
+
+/* A receiver, from grelfint_uart_receiver; store it between calls. It is sound
+ * if its limit is 62 or 64, its phase at most 2, its count at most limit + 2,
+ * and 0 in phase 0. A sound receiver stays sound. */
 typedef struct grelfint_receiver {
     uint8_t limit; /* the longest message: 64 at a gateway, 62 at a node */
     uint8_t phase; /* 0 before the first flag, 1 in a frame, 2 after escape */
@@ -167,22 +569,76 @@ typedef struct grelfint_receiver {
 
 typedef struct grelfint_receive_answer {
     uint8_t refusal;
-    uint8_t event; /* 0 all bytes taken and no frame yet, 1 a frame, 2 a frame
-                    * that was dropped */
-    uint8_t cause; /* why it was dropped, the first of:
-                    *   1  more bytes than the limit, check byte not counted
-                    *   2  a flag right after an escape
-                    *   3  fewer than 6 bytes, check byte not counted
-                    *   4  wrong check byte
-                    * 0 with event 0 or 1 */
+    uint8_t event; /* GRELFINT_EVENT_.. */
+    uint8_t cause; /* GRELFINT_CAUSE_.., with GRELFINT_EVENT_DROPPED */
     size_t taken;  /* bytes that were used; at least 1 of a part that is not
-                    * empty, unless the call is refused */
+                    * empty, and 0 if the call is refused */
     size_t length; /* bytes of the frame, without its check byte */
     uint8_t frame[GRELFINT_UART_FRAME]; /* the frame, then zeros */
-    grelfint_receiver receiver; /* for the next call */
+    grelfint_receiver receiver;         /* to go on with */
 } grelfint_receive_answer;
 
-/* A request that waits at a gateway. */
+/* A receiver that waits for its first flag.
+ *
+ * gateway   true: it receives responses, of up to 64 bytes; false: at a node,
+ *           requests of up to 62
+ *
+ * Answer:   the receiver itself.
+ * Refusals: none. */
+GRELFINT_MUST_USE
+grelfint_receiver grelfint_uart_receiver(bool gateway);
+
+/* Receives the next bytes of the line, any number of them, up to the first flag
+ * that completes or drops a frame. Bytes before the first flag, and flags with
+ * nothing between them, are skipped. However the stream is cut into calls, the
+ * same frames and drops come out.
+ *
+ * Answer:   event; cause; bytes taken; frame and its length; receiver.
+ * Refusals: NODE (the receiver is not sound; a loop has to end then, because
+ *           nothing is taken).
+ *
+ *     while (length > 0) {
+ *         grelfint_receive_answer answer =
+ *             grelfint_uart_receive(receiver, bytes, length);
+ *         if (answer.refusal != GRELFINT_OK)
+ *             break;
+ *         receiver = answer.receiver;
+ *         bytes += answer.taken;
+ *         length -= answer.taken;
+ *         if (answer.event == GRELFINT_EVENT_FRAME)
+ *             use(answer.frame, answer.length);
+ *     } */
+GRELFINT_MUST_USE GRELFINT_NONNULL
+grelfint_receive_answer grelfint_uart_receive(
+    grelfint_receiver receiver,
+    const uint8_t *bytes, size_t bytes_length);
+
+/* Frames a message for the line; the check byte is computed here.
+ *
+ * frame     the message, 6 to 64 bytes. A node's receiver drops more than 62.
+ * out       room for it: GRELFINT_UART_FRAMED bytes are always enough
+ *
+ * Answer:   length of the framed message.
+ * Refusals: FRAME, FRAMED.
+ * Written:  the first `length` bytes of `out`. */
+GRELFINT_MUST_USE GRELFINT_NONNULL
+grelfint_length_answer grelfint_uart_frame(
+    const uint8_t *frame, size_t frame_length,
+    uint8_t *out, size_t out_length);
+
+/* ==== The gateway ====
+ *
+ * A gateway keeps the bonds of its nodes, and a desk of requests on their way
+ * to the network. Times are in ms from any moment that the caller chooses, and
+ * never go back. */
+#define GRELFINT_BONDS 32
+#define GRELFINT_DESK 8 /* the most requests that wait */
+#define GRELFINT_NETWORK_STD 0
+#define GRELFINT_NETWORK_STD_LP 1
+#define GRELFINT_TIME_MAX UINT64_C(0x10000000000) /* 2^40 ms, 34 years */
+#define GRELFINT_WAIT_MAX 116735 /* the longest wait for a release, in ms */
+
+/* A request that waits. */
 typedef struct grelfint_waiting {
     uint16_t delay;        /* the node's own, in ms */
     uint8_t length;        /* bytes of the request */
@@ -191,21 +647,24 @@ typedef struct grelfint_waiting {
     uint8_t frame[GRELFINT_FRAME]; /* the request, then zeros */
 } grelfint_waiting;
 
-/* The requests of a gateway on their way to the network. Times are in ms, from
- * any moment that the caller chooses. */
 typedef struct grelfint_desk {
     uint64_t last;     /* the time of the last send or release, refused ones not
                         * counted */
     uint64_t next;     /* the earliest time of the next release */
-    uint8_t network;   /* 0 STD, 1 STD+LP */
+    uint8_t network;   /* GRELFINT_NETWORK_STD or GRELFINT_NETWORK_STD_LP */
     uint8_t dpa_value; /* for the confirmations */
     uint8_t count;     /* requests that wait */
     grelfint_waiting places[GRELFINT_DESK]; /* these requests, the oldest first;
                                              * then zeros */
 } grelfint_desk;
 
-/* A gateway, from grelfint_gateway_start. A caller stores it between calls and
- * need not look inside. */
+/* A gateway, from grelfint_gateway_start; store it between calls, and read
+ * desk.count and desk.next. It is sound if neither address 0 nor 240 to 255 is
+ * bonded; its network is 0 or 1 and its count at most 8; each of the first
+ * `count` places has a length of 6 to 62, NADR 1 to 239 or 255 in its frame,
+ * and zeros after the frame; all later places are zero; `last` is at most
+ * GRELFINT_TIME_MAX, and `next` at most last + GRELFINT_WAIT_MAX. A sound
+ * gateway stays sound. */
 typedef struct grelfint_gateway {
     uint8_t bonds[GRELFINT_BONDS]; /* bit a % 8 of byte a / 8 is set if node a
                                     * is bonded */
@@ -215,7 +674,7 @@ typedef struct grelfint_gateway {
 typedef struct grelfint_bond_answer {
     uint8_t refusal;
     uint8_t count; /* bonded nodes after the call */
-    grelfint_gateway gateway;
+    grelfint_gateway gateway; /* to go on with */
 } grelfint_bond_answer;
 
 typedef struct grelfint_count_answer {
@@ -230,207 +689,98 @@ typedef struct grelfint_bitmap_answer {
 
 typedef struct grelfint_gateway_answer {
     uint8_t refusal;
-    grelfint_gateway gateway;
+    grelfint_gateway gateway; /* to go on with */
 } grelfint_gateway_answer;
 
 typedef struct grelfint_release_answer {
     uint8_t refusal;
-    bool released;       /* false if it is too early or if no request waits; the
-                          * next three fields are then zeros */
-    size_t length;       /* bytes of the confirmation (11) */
-    size_t frame_length; /* bytes of the released request */
+    bool released;       /* false if it is too early, or if no request waits;
+                          * the next three fields are then zeros */
+    size_t length;       /* bytes of the confirmation */
+    size_t frame_length; /* bytes of the request */
     uint8_t frame[GRELFINT_FRAME]; /* the request, then zeros */
-    grelfint_gateway gateway;      /* for the next call */
+    grelfint_gateway gateway;      /* to go on with */
 } grelfint_release_answer;
 
-/* Starts a node with these settings; every lamp and RAM byte is 0.
- * Answer: refusal; node. Refusals: 1 (the node is then all zeros).
- * Written: nothing. */
-grelfint_node_answer grelfint_start(grelfint_settings settings);
-
-/* One second passes: every running timer drops by a second, and a lamp whose
- * timer reaches 0 goes to level 0.
- * Answer: refusal; node afterwards. Refusals: 1. Written: nothing. */
-grelfint_node_answer grelfint_tick(grelfint_node node);
-
-/* grelfint_tick on a record in place.
- * Answer: refusal. Refusals: 1. Written: *node becomes the node that
- * grelfint_tick returns (unchanged if refused). */
-uint8_t grelfint_tick_in_place(grelfint_node *node);
-
-/* Handles one request frame (NADR 2, PNUM, PCMD, HWPID 2, PData 0 to 56).
- * Answer: refusal; length of the response (0 for a broadcast, for a frame to
- * another node, and for a selective batch whose node set does not name this
- * node: it is not answered, even if the frame names the node's own address);
- * load mark; whether the frame was addressed to this node; reason and place if
- * it is a batch, or a selective batch for this node, whose list cannot be read
- * (otherwise 0 and 0); node afterwards. An error in the request itself is not a
- * refusal: the response reports it as ErrN.
- * Refusals: 1, 2, 3, 4.
- * Written: `eeprom` and `external` as the request asks; the first `length`
- * bytes of `response`. Later bytes of `response` are unchanged. */
-grelfint_request_answer grelfint_handle_request(
-    grelfint_node node,
-    const uint8_t *frame, size_t frame_length,
-    uint8_t *eeprom, size_t eeprom_length,
-    uint8_t *external, size_t external_length,
-    uint8_t *response, size_t response_length);
-
-/* Tests whether a range of EEPROM (PNUM 3, at most 55 bytes) or of external
- * memory (PNUM 4, at most 54 bytes) can be read in place.
- * Answer: 0, or the refusal. Refusals: 4, 10, 15, 16. Written: nothing. */
-uint8_t grelfint_view_status(
-    const uint8_t *eeprom, size_t eeprom_length,
-    const uint8_t *external, size_t external_length,
-    uint8_t pnum, size_t start, size_t count);
-
-/* The two-bit FRC answer. Command 0x10 asks whether the lamp is on: its actual
- * level is not 0, or its bit in `stuck` is set. Command 0x11 asks whether its
- * bit in `alarm` is set. Bit i of both masks belongs to lamp i. User data:
- * 0x71, then the lamp in the low five bits of a byte.
- * Answer: refusal; value: 1 not implemented, 2 no, 3 yes (0 if refused).
- * Refusals: 1. Written: nothing. */
-grelfint_frc_answer grelfint_frc(
-    grelfint_node node, uint8_t command,
-    const uint8_t *user_data, size_t user_data_length,
-    uint32_t stuck, uint32_t alarm);
-
-/* The gateway's confirmation of a request frame. `lp`: true for an STD+LP
- * network, false for STD. With NADR 0x00FF the response hops are written as 0.
- * Answer: refusal; length (11). Refusals: 2, 3 (`out` under 64 bytes).
- * Written: the first 11 bytes of `out`. Later bytes are unchanged. */
-grelfint_length_answer grelfint_confirm(
-    const uint8_t *frame, size_t frame_length,
-    uint8_t dpa_value, uint8_t hops, uint8_t response_hops, bool lp,
-    uint8_t *out, size_t out_length);
-
-/* The timeslot for a PData length: 4, 5 or 6 units of 10 ms, 4 more if `lp`.
- * Answer: refusal; slot. Refusals: 5. Written: nothing. */
-grelfint_slot_answer grelfint_timeslot(size_t pdata_length, bool lp);
-
-/* Milliseconds from the confirmation to the earliest next send. The lengths
- * are PData lengths; `delay` is the node's own, in ms. With `broadcast` the
- * response adds no time, but its length is still tested.
- * Answer: refusal; milliseconds. Refusals: 5. Written: nothing. */
-grelfint_send_answer grelfint_earliest_send(
-    uint8_t hops, size_t request_length, uint16_t delay,
-    uint8_t response_hops, size_t response_length, bool lp, bool broadcast);
-
-/* Compiles a scene of a book into requests to an address (1 to 239, or 255
- * for broadcast), with this HWPID in each request and entry.
- * Answer: refusal; step (only with 81 to 84); length of the output.
- * Refusals: 1, 6, 7, 81 to 84, 9.
- * Written: the first `length` bytes of `out`: the number of requests, one
- * length byte for each, then the requests. Later bytes are unchanged. */
-grelfint_compile_answer grelfint_compile(
-    const uint8_t *book, size_t book_length, size_t scene,
-    uint16_t address, uint16_t hwpid,
-    uint8_t *out, size_t out_length);
-
-/* grelfint_compile with HWPID 0xFFFF, which every node accepts. */
-grelfint_compile_answer grelfint_compile_default(
-    const uint8_t *book, size_t book_length, size_t scene,
-    uint16_t address,
-    uint8_t *out, size_t out_length);
-
-/* Compiles a scene of a book into broadcasts to the nodes of a set (selective
- * batches), with this HWPID in each request and entry. A node that the set
- * does not name ignores them.
- * Answer: refusal; step (only with 81 to 84); length of the output.
- * Refusals: 1 (the set names address 0, or no node), 6, 7, 81 to 84, 9.
- * Written: as by grelfint_compile. */
-grelfint_compile_answer grelfint_compile_selected(
-    const uint8_t *book, size_t book_length, size_t scene,
-    grelfint_node_set nodes, uint16_t hwpid,
-    uint8_t *out, size_t out_length);
-
-/* grelfint_compile_selected with HWPID 0xFFFF, which every node accepts. */
-grelfint_compile_answer grelfint_compile_selected_default(
-    const uint8_t *book, size_t book_length, size_t scene,
-    grelfint_node_set nodes,
-    uint8_t *out, size_t out_length);
-
-/* Starts a gateway without bonds or requests, and with both times 0. `lp`: true
- * for an STD+LP network, false for STD; `dpa_value` goes into the
- * confirmations.
- * Answer: the gateway. Refusals: none. Written: nothing. */
+/* Starts a gateway without bonds or requests, and with both times 0.
+ *
+ * lp        true for a network of type STD+LP, false for STD
+ * dpa_value goes into the confirmations
+ *
+ * Answer:   the gateway itself.
+ * Refusals: none. */
+GRELFINT_MUST_USE
 grelfint_gateway grelfint_gateway_start(bool lp, uint8_t dpa_value);
 
 /* Adds the bond of a node.
- * Answer: refusal; number of bonded nodes; gateway. Refusals: 1, 12 (address
- * not 1 to 239, or already bonded). Written: nothing. */
+ *
+ * Answer:   number of bonded nodes; gateway.
+ * Refusals: NODE (the gateway), ADDRESS (not 1 to 239, or already bonded). */
+GRELFINT_MUST_USE
 grelfint_bond_answer grelfint_bond(grelfint_gateway gateway, uint16_t address);
 
 /* Removes the bond of a node. Requests to it that already wait stay.
- * Answer: refusal; number of bonded nodes; gateway. Refusals: 1, 12 (not
- * bonded). Written: nothing. */
+ *
+ * Answer:   number of bonded nodes; gateway.
+ * Refusals: NODE, ADDRESS (not bonded). */
+GRELFINT_MUST_USE
 grelfint_bond_answer grelfint_unbond(
     grelfint_gateway gateway, uint16_t address);
 
 /* Removes all bonds. Requests that wait stay.
- * Answer: refusal; number of bonded nodes (0); gateway. Refusals: 1.
- * Written: nothing. */
+ *
+ * Answer:   number of bonded nodes, 0; gateway.
+ * Refusals: NODE. */
+GRELFINT_MUST_USE
 grelfint_bond_answer grelfint_clear_bonds(grelfint_gateway gateway);
 
 /* The number of bonded nodes.
- * Answer: refusal; count. Refusals: 1. Written: nothing. */
+ *
+ * Answer:   count.
+ * Refusals: NODE. */
+GRELFINT_MUST_USE
 grelfint_count_answer grelfint_bond_count(grelfint_gateway gateway);
 
 /* The bonded nodes, a bit for each address.
- * Answer: refusal; bitmap. Refusals: 1. Written: nothing. */
+ *
+ * Answer:   bitmap.
+ * Refusals: NODE. */
+GRELFINT_MUST_USE
 grelfint_bitmap_answer grelfint_bond_bitmap(grelfint_gateway gateway);
 
-/* Hands a request frame to a gateway, which keeps it until it is released, in
- * order of arrival. `hops` and `response_hops` are those of the
- * request and of the response, `delay` is the node's own, in ms; `time` is the
- * present, in ms.
- * Answer: refusal; gateway. Refusals: 1, 2, 12 (NADR is neither a bonded node
- * nor 0x00FF), 13, 14. Written: nothing. */
+/* Hands a request to a gateway, which keeps it until it is released, in the
+ * order of arrival.
+ *
+ * frame     the request, to a bonded node or to all nodes
+ * hops, response_hops, delay
+ *           as for grelfint_earliest_send
+ * time      the present, in ms
+ *
+ * Answer:   gateway.
+ * Refusals: NODE, FRAME, ADDRESS (NADR is neither that of a bonded node nor
+ *           the broadcast address), FULL (release one first), TIME. */
+GRELFINT_MUST_USE GRELFINT_NONNULL
 grelfint_gateway_answer grelfint_send(
     grelfint_gateway gateway,
     const uint8_t *frame, size_t frame_length,
     uint8_t hops, uint8_t response_hops, uint16_t delay, uint64_t time);
 
-/* Releases the oldest request that waits, if `time`, the present in ms, is not
- * before the earliest send time after the request that was released last: the
- * time of its release plus grelfint_earliest_send with the longest response (56
- * bytes of PData). The first request may be released at any time. If it is too
- * early or if no request waits, `released` is false, and only the time is
- * recorded.
- * examples/gateway.c has the loop.
- * Answer: refusal; released; length of the confirmation; the request and its
- * length; gateway. Refusals: 1, 3 (`out` under 64 bytes, even if nothing is
- * released), 14.
- * Written: the first `length` bytes of `out`: the confirmation, as by
- * grelfint_confirm. Later bytes are unchanged. */
+/* Releases the oldest request that waits, if the mesh is free: not before the
+ * last release plus grelfint_earliest_send of that request with the longest
+ * response. The first request may be released at any time.
+ *
+ * time      the present, in ms
+ * out       room for the confirmation, at least GRELFINT_RESPONSE bytes, even
+ *           if nothing is released
+ *
+ * Answer:   released; the request and its length; length of the confirmation;
+ *           gateway. Too early or with none waiting, `released` is false and
+ *           only the time is recorded; gateway.desk.next is the earliest time.
+ * Refusals: NODE, RESPONSE, TIME.
+ * Written:  the first `length` bytes of `out`, as by grelfint_confirm. */
+GRELFINT_MUST_USE GRELFINT_NONNULL
 grelfint_release_answer grelfint_release(
     grelfint_gateway gateway, uint64_t time,
-    uint8_t *out, size_t out_length);
-
-/* A receiver that waits for its first flag: at a gateway (messages of up to 64
- * bytes) or at a node (62).
- * Answer: the receiver. Refusals: none. Written: nothing. */
-grelfint_receiver grelfint_uart_receiver(bool gateway);
-
-/* Receives the next bytes of the serial line, any number of them, up to the
- * first flag that completes or drops a frame. Each flag ends a frame and opens
- * the next; bytes before the first flag and flags with nothing between them are
- * skipped. Hand in the bytes after `taken` next, with the receiver of the
- * answer; how the stream is cut into calls changes neither frames nor drops.
- * examples/serial.c has the loop.
- * Answer: refusal; event; cause; bytes taken; frame and its length; receiver.
- * Refusals: 1 (taken is then 0: a loop has to end). Written: nothing. */
-grelfint_receive_answer grelfint_uart_receive(
-    grelfint_receiver receiver,
-    const uint8_t *bytes, size_t bytes_length);
-
-/* Frames a message of 6 to 64 bytes for the serial line: flag, message, check
- * byte, flag. The check byte is computed here. A node's receiver drops messages
- * of 63 and 64 bytes.
- * Answer: refusal; length of the framed message. Refusals: 2, 11.
- * Written: the first `length` bytes of `out`. Later bytes are unchanged. */
-grelfint_length_answer grelfint_uart_frame(
-    const uint8_t *frame, size_t frame_length,
     uint8_t *out, size_t out_length);
 
 #ifdef __cplusplus

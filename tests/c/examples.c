@@ -6,12 +6,7 @@
  * `one_scene_for_chosen_nodes`; how a request travels over a serial line,
  * `one_request_over_the_serial_line`; how requests wait at a gateway,
  * `two_requests_at_the_desk`.
- * From the repository's root:
- *
- *   rt staticlib grelfint && mkdir -p target/tests
- *   gcc -std=c11 -Wall -Wextra -Werror -Iinclude tests/c/examples.c \
- *       target/staticlib/libgrelfint.a -o target/tests/examples
- *   target/tests/examples
+ * tests/c/run builds and runs it.
  *
  * Prints each failure, then `N passed` (or `N passed, M failed`, exit status 1). */
 #include <stdio.h>
@@ -44,6 +39,7 @@ _Static_assert(offsetof(grelfint_request_answer, reason) == 18, "reason");
 _Static_assert(offsetof(grelfint_request_answer, place) == 19, "place");
 _Static_assert(offsetof(grelfint_request_answer, node) == 20, "node of a request's answer");
 _Static_assert(sizeof(grelfint_request_answer) == 208, "a request's answer");
+_Static_assert(sizeof(grelfint_levels_answer) == 33, "answer of levels");
 _Static_assert(sizeof(grelfint_node_set) == 30, "node set");
 _Static_assert(sizeof(grelfint_receiver) == 68, "receiver");
 _Static_assert(offsetof(grelfint_receiver, bytes) == 3, "bytes of a receiver");
@@ -159,6 +155,7 @@ static void lamps(void)
                 BYTES(table[i].previous));
         check("requested level", node.lamps[0].level == table[i].requested);
         request("actual level", 0x71, 0, BYTES(1, 0, 0, 0, 127), 0, BYTES(table[i].actual));
+        check("level to drive", grelfint_actual_levels(node).levels[0] == table[i].actual);
     }
 
     fresh(1, 1);
@@ -670,6 +667,28 @@ static void scenes(void)
 }
 
 /* Compiles for these nodes; refused, nothing is written. */
+/* The levels to drive, for each dimming step: the next multiple from 1 up, and
+ * the level itself at 100. Lamps from the lamp count on have none. */
+static void levels(void)
+{
+    static const uint8_t steps[] = {GRELFINT_DIMMING_STEPS};
+    size_t i;
+
+    check("nine dimming steps", sizeof steps == 9);
+    for (i = 0; i < sizeof steps; i++) {
+        grelfint_levels_answer answer;
+
+        fresh(3, steps[i]);
+        request("levels 1 and 100", 0x71, 0, BYTES(6, 0, 0, 0, 1, 100), 0, BYTES(0, 0));
+        answer = grelfint_actual_levels(node);
+        check("levels", answer.refusal == 0 && answer.levels[0] == 0 && answer.levels[1] == steps[i] &&
+                            answer.levels[2] == 100 && answer.levels[3] == 0 && answer.levels[31] == 0);
+        node.settings.step = 3;
+        answer = grelfint_actual_levels(node);
+        check("a node with dimming step 3", answer.refusal == 1 && answer.levels[1] == 0 && answer.levels[2] == 0);
+    }
+}
+
 static void chosen_refused(const char *name, const uint8_t *book, size_t book_length, size_t scene,
                            grelfint_node_set nodes, size_t room, uint8_t refusal)
 {
@@ -1232,6 +1251,7 @@ int main(void)
     selective_batches();
     frc();
     confirmations();
+    levels();
     scenes();
     bad_steps();
     chosen_scenes();

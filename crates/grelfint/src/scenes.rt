@@ -1,8 +1,5 @@
-// The scene compiler, and a scene run on a node.
-use acceptance::run::SceneAnswer;
-use acceptance::run::run_scene;
+// The scene compiler.
 use dpa::node_set::NodeSet;
-use node::record::Node;
 use scene::compile::CompileAnswer;
 use scene::compile::compile;
 use scene::compile::compile_default;
@@ -11,8 +8,6 @@ use scene::compile::compile_selected_default;
 ghost use mathlib.Core.Path.{_≡_};
 ghost use Rattle.dpa.specs.Frame.{anyHwpid};
 ghost use Rattle.scene.specs.Call.{compileFor, compileSelected, compileResult};
-ghost use Rattle.handler.specs.Request.{state};
-ghost use Rattle.acceptance.specs.RunScene.{runScene, sceneResult};
 
 #[no_mangle]
 pub extern "C" fn grelfint_compile(
@@ -62,19 +57,4 @@ pub extern "C" fn grelfint_compile_selected_default(
     ensures { λ r. ⌜ compileResult r (now (out .exit)) ≡ compileSelected (now (book .entry)) scene (nodes .bits) anyHwpid (now (out .entry)) ⌝ }
 {
     compile_selected_default(book, scene, nodes, out)
-}
-
-#[no_mangle]
-pub extern "C" fn grelfint_run_scene(
-    node: Node,
-    book: &[u8],
-    scene: usize,
-    eeprom: &mut [u8],
-    external: &mut [u8],
-    out: &mut [u8],
-) -> SceneAnswer
-    ensures { λ r. ⌜ sceneResult r (now (eeprom .exit)) (now (external .exit)) (now (out .exit))
-        ≡ runScene (now (book .entry)) scene (state node (now (eeprom .entry)) (now (external .entry))) (now (out .entry)) ⌝ }
-{
-    run_scene(node, book, scene, eeprom, external, out)
 }

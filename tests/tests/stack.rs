@@ -1,0 +1,186 @@
+//! The stack that each call takes, by the machine code of the archive, compared
+//! with what include/grelfint.h says. Counted are the return address, what a
+//! function pushes and reserves or uses without that, and the same of the
+//! functions that it calls; not memcpy, which is the C library's.
+use std::collections::{BTreeMap, HashMap};
+use std::path::PathBuf;
+use std::process::Command;
+
+/// The machine code of a function, by address.
+type Code = BTreeMap<u64, Instruction>;
+
+struct Instruction {
+    name: String,
+    operands: String,
+    /// What its relocation names: the function that it calls.
+    symbol: Option<String>,
+}
+
+fn root() -> PathBuf {
+    PathBuf::from(env!("CARGO_MANIFEST_DIR")).join("..")
+}
+
+fn hex(text: &str) -> u64 {
+    u64::from_str_radix(text, 16).unwrap_or_else(|_| panic!("no address: {text}"))
+}
+
+/// A line of objdump: `<name>:`, an instruction, or the relocation of the one before.
+fn functions(listing: &str) -> HashMap<String, Code> {
+    let mut functions = HashMap::new();
+    let mut name = String::new();
+    for line in listing.lines() {
+        if let Some((_, rest)) = line.split_once(" <").filter(|_| line.ends_with(">:")) {
+            name = rest.trim_end_matches(">:").to_string();
+            functions.insert(name.clone(), Code::new());
+            continue;
+        }
+        let Some((address, text)) = line.trim_start().split_once(":\t").or(line.trim_start().split_once(": ")) else {
+            continue;
+        };
+        let Some(code) = functions.get_mut(&name) else { continue };
+        if let Some((_, symbol)) = text.split_once("\t").filter(|(kind, _)| kind.starts_with("R_X86_64")) {
+            let symbol = symbol.split_once("-0x").map_or(symbol, |(symbol, _)| symbol).trim_start_matches(".text.");
+            let (_, last) = code.iter_mut().next_back().expect("a relocation follows its instruction");
+            last.symbol = Some(symbol.to_string());
+        } else if u64::from_str_radix(address, 16).is_ok() {
+            let (operation, operands) = text.trim().split_once(' ').unwrap_or((text.trim(), ""));
+            let operands = operands.trim().to_string();
+            code.insert(hex(address), Instruction { name: operation.to_string(), operands, symbol: None });
+        }
+    }
+    functions
+}
+
+impl Instruction {
+    /// By how much it moves the stack pointer down.
+    fn growth(&self) -> i64 {
+        if self.name.starts_with("push") {
+            return 8;
+        }
+        if self.name.starts_with("pop") {
+            return -8;
+        }
+        if !self.operands.ends_with(",%rsp") || self.name.starts_with("cmp") || self.name.starts_with("test") {
+            return 0;
+        }
+        let immediate = || hex(self.operands.trim_start_matches("$0x").trim_end_matches(",%rsp")) as i64;
+        match self.name.as_str() {
+            "sub" => immediate(),
+            "add" => -immediate(),
+            _ => panic!("{} {}: moves the stack pointer in a way that is not known here", self.name, self.operands),
+        }
+    }
+
+    /// How far below the stack pointer it reads or writes: a function that calls no other may use 128 bytes there.
+    fn below(&self) -> i64 {
+        let before = self.operands.split_once("(%rsp").map_or("", |(before, _)| before);
+        before.rsplit_once("-0x").map_or(0, |(_, offset)| hex(offset) as i64)
+    }
+
+    /// A function of the same section, by its name in angle brackets.
+    fn callee(&self) -> String {
+        let (_, name) = self.operands.split_once('<').expect("a call by name");
+        assert!(!name.contains('+'), "{}: a call of an unknown function", self.operands);
+        name.trim_end_matches('>').to_string()
+    }
+
+    fn target(&self) -> u64 {
+        hex(self.operands.split(' ').next().expect("an address"))
+    }
+}
+
+/// The deepest place of a function below its return address, and for each function that it calls the deepest place of
+/// a call. Each way through the code is followed; a jump through a table may lead to any place that no other way does.
+fn depths(code: &Code) -> (i64, Vec<(String, i64)>) {
+    let mut at: BTreeMap<u64, i64> = BTreeMap::new();
+    let mut open = vec![(*code.keys().next().expect("some code"), 0)];
+    let (mut deepest, mut calls, mut table) = (0, Vec::new(), None);
+    loop {
+        let Some((address, depth)) = open.pop() else {
+            let Some(depth) = table else { return (deepest, calls) };
+            let Some(missed) = code.keys().find(|address| !at.contains_key(address)) else { return (deepest, calls) };
+            open.push((*missed, depth));
+            continue;
+        };
+        if let Some(known) = at.insert(address, depth) {
+            assert_eq!(known, depth, "two depths at {address:x}");
+            continue;
+        }
+        let instruction = &code[&address];
+        let after = depth + instruction.growth();
+        deepest = deepest.max(after).max(depth + instruction.below());
+        match (instruction.name.as_str(), &instruction.symbol) {
+            ("ret" | "ud2", _) => continue,
+            ("call", Some(symbol)) => calls.push((symbol.clone(), after)),
+            ("call", None) => calls.push((instruction.callee(), after)),
+            ("jmp", Some(symbol)) => {
+                // in place of a call and a return
+                calls.push((symbol.clone(), after - 8));
+                continue;
+            }
+            ("jmp", None) if instruction.operands.starts_with('*') => {
+                table = Some(after);
+                continue;
+            }
+            ("jmp", None) => {
+                open.push((instruction.target(), after));
+                continue;
+            }
+            (name, None) if name.starts_with('j') => open.push((instruction.target(), after)),
+            _ => {}
+        }
+        if let Some((&next, _)) = code.range(address + 1..).next() {
+            open.push((next, after));
+        }
+    }
+}
+
+/// Calls itself for the rest of a list after each entry, which has at least 5 of the 56 bytes of PData: at most 12
+/// calls are open at a time.
+const RECURSIVE: &str = "batch::list::check_list";
+const OPEN_CALLS: i64 = 12;
+
+/// The stack of a function with its return address.
+fn stack(name: &str, functions: &HashMap<String, Code>, path: &mut Vec<String>) -> i64 {
+    assert!(!path.iter().any(|caller| caller == name), "{name} calls itself by way of another function");
+    let Some(code) = functions.get(name) else {
+        assert!(name == "memcpy", "{name} is not in the archive");
+        return 0;
+    };
+    let (deepest, calls) = depths(code);
+    let (own, others): (Vec<_>, Vec<_>) = calls.into_iter().partition(|(callee, _)| callee == name);
+    let again = own.iter().map(|(_, depth)| (OPEN_CALLS - 1) * (8 + depth)).max();
+    assert!(again.is_none() || name == RECURSIVE, "{name} calls itself");
+    path.push(name.to_string());
+    let called = others.iter().map(|(callee, depth)| depth + stack(callee, functions, path)).max();
+    path.pop();
+    again.unwrap_or(0) + 8 + deepest.max(called.unwrap_or(0))
+}
+
+/// The table in the header: pairs of a call, without `grelfint_`, and its bytes.
+fn stated(header: &str) -> BTreeMap<String, i64> {
+    let (_, text) = header.split_once("The stack that a call takes").expect("the heading of the table");
+    let table = text.split("\n *\n").nth(1).expect("an empty line before and after the table");
+    let words: Vec<&str> = table.split_whitespace().filter(|word| *word != "*").collect();
+    let pairs = words.chunks(2).map(|pair| {
+        let bytes = pair[1].replace(',', "").parse().unwrap_or_else(|_| panic!("{pair:?}: not a call and its bytes"));
+        (format!("grelfint_{}", pair[0]), bytes)
+    });
+    pairs.collect()
+}
+
+#[test]
+fn stack_as_stated() {
+    let archive = root().join("target/staticlib/libgrelfint.a");
+    let dump = Command::new("objdump").args(["-dr", "--no-show-raw-insn"]).arg(&archive).output().expect("objdump");
+    assert!(dump.status.success(), "{}", String::from_utf8_lossy(&dump.stderr));
+    let functions = functions(&String::from_utf8(dump.stdout).expect("text"));
+    let calls = functions.keys().filter(|name| name.starts_with("grelfint_"));
+    let measured: BTreeMap<String, i64> =
+        calls.map(|name| (name.clone(), stack(name, &functions, &mut Vec::new()))).collect();
+    for (name, bytes) in &measured {
+        println!("{name} {bytes}");
+    }
+    let header = std::fs::read_to_string(root().join("include/grelfint.h")).expect("the header");
+    assert_eq!(stated(&header), measured);
+}
