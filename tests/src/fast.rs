@@ -2,7 +2,7 @@
 //! benchmark's baseline, behind the C boundary of include/grelfint.h: nodes and
 //! answers by value, slices as pointers and lengths. `sessions.rs` compares it
 //! with the plain reference.
-use super::ffi::{CompileAnswer, Lamp, Node, NodeAnswer, NodeSet, RequestAnswer};
+use grelfint::raw::{CompileAnswer, Lamp, Node, NodeAnswer, NodeSet, RequestAnswer};
 use std::slice::{from_raw_parts, from_raw_parts_mut};
 
 fn sound(node: &Node) -> bool {
