@@ -97,8 +97,9 @@ pub fn actual_levels(node: Node) -> LevelsAnswer {
         return LevelsAnswer { refusal: 1, levels: [0; 32] };
     }
     let mut levels = [0; 32];
-    for i in 0..node.settings.lamp_count as usize {
-        levels[i] = actual_level(node.lamps[i].level, node.settings.step);
+    let lamps = &node.lamps[..node.settings.lamp_count as usize];
+    for (level, lamp) in levels.iter_mut().zip(lamps) {
+        *level = actual_level(lamp.level, node.settings.step);
     }
     LevelsAnswer { refusal: 0, levels }
 }
@@ -573,7 +574,7 @@ pub fn read_code_check(pdata: &[u8]) -> Result<CodeCheck, u8> {
         return Err(FAIL);
     }
     let code = if flags & 2 == 0 { CodeType::Handler } else { CodeType::PlugIn };
-    if length == 0 || length % code.unit() != 0 {
+    if length == 0 || !length.is_multiple_of(code.unit()) {
         return Err(DATA);
     }
     if address + length > EXTERNAL_SIZE {
@@ -752,7 +753,7 @@ fn do_lamp_step(lamp: &mut Lamp, kind: u8, value: u8, time: u8) {
     } else if kind == 1 {
         lamp.level = if lamp.level >= 100 - value { 100 } else { lamp.level + value };
     } else {
-        lamp.level = if lamp.level > value { lamp.level - value } else { 0 };
+        lamp.level = lamp.level.saturating_sub(value);
     }
     lamp.seconds = if time == 0 || lamp.level == 0 {
         0
@@ -847,7 +848,8 @@ fn requests(steps: &[Step], mode: &Mode, hwpid: u16) -> Vec<Vec<u8>> {
     for entry in join(steps, mode.entry_limit) {
         let bytes = entry_bytes(&entry, hwpid);
         match lists.last_mut() {
-            Some(list) if list.len() + bytes.len() + 1 <= mode.list_limit => list.extend_from_slice(&bytes),
+            // there is room for the closing zero too
+            Some(list) if list.len() + bytes.len() < mode.list_limit => list.extend_from_slice(&bytes),
             _ => lists.push(bytes),
         }
     }

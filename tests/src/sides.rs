@@ -6,6 +6,7 @@ use crate::{bindings, fast, in_place, reference};
 use grelfint::raw::{self, *};
 
 #[derive(Clone, Copy)]
+#[allow(clippy::type_complexity)] // the calls have this many parameters
 pub struct Side {
     pub name: &'static str,
     pub start: fn(Settings) -> NodeAnswer,

@@ -338,7 +338,7 @@ impl Session {
         // the high sum sees a byte as often as there are bytes from it to the end
         let seen = i.abs_diff(j) * old.abs_diff(other) as usize;
         self.write_external(|_, external| external.swap(i, j));
-        self.code_check(image, sum, seen % 255 == 0);
+        self.code_check(image, sum, seen.is_multiple_of(255));
         self.write_external(|_, external| external.swap(i, j));
         self.exchanged_00_and_ff(image);
     }
@@ -347,7 +347,7 @@ impl Session {
     fn exchanged_00_and_ff(&mut self, image: Image) {
         let sum = image.checksum(&self.plain);
         let exchanged = |b: &mut u8| {
-            if *b % 255 == 0 {
+            if b.is_multiple_of(255) {
                 *b = !*b;
             }
         };

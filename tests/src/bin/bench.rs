@@ -443,9 +443,12 @@ fn fast_side(bytes: &[u8]) -> u16 {
     u16::from_le_bytes([low, high])
 }
 
+/// A way to compute a checksum, with its name.
+type Checksum = (&'static str, fn(&[u8]) -> u16);
+
 /// Each way to compute the checksum of the same 16,384 bytes, against the first.
 fn compare_checksums(bursts: usize) {
-    const CHECKSUMS: [(&str, fn(&[u8]) -> u16); 4] = [
+    const CHECKSUMS: [Checksum; 4] = [
         ("byte by byte, with carries", byte_by_byte),
         ("plain sums of 64-byte blocks", plain_blocks),
         ("weighted sums of 64-byte blocks", weighted_blocks),
