@@ -1,9 +1,8 @@
-//! Links ../target/staticlib/libgrelfint.a; `-bundle` keeps it out of this
-//! package's rlib, so that `cargo build --lib` works without it. Compiles
-//! c/in_place.c with gcc and links it too. For the benchmark
-//! (.cargo/config.toml sets `ALIGN_FUNCTIONS`) the functions of both start at
-//! multiples of 64 bytes: otherwise their speed depends on where the linker puts
-//! them. Tests link the library as it is.
+//! Compiles c/in_place.c with gcc and links it. For the benchmark
+//! (.cargo/config.toml sets `ALIGN_FUNCTIONS`) its functions and those of the
+//! library start at multiples of 64 bytes: otherwise their speed depends on where
+//! the linker puts them. The library is then a copy that is made here. Tests link
+//! it as it is; the build script of the bindings finds it.
 use std::env;
 use std::path::{Path, PathBuf};
 use std::process::Command;
@@ -12,7 +11,9 @@ fn main() {
     let here = folder("CARGO_MANIFEST_DIR");
     let out = folder("OUT_DIR");
     let align = env::var_os("ALIGN_FUNCTIONS").is_some();
-    link_library(&here.join("../target/staticlib"), align.then_some(&out));
+    if align {
+        align_library(&here, &out);
+    }
     link_in_place(&here, &out, align);
     println!("cargo:rerun-if-changed=build.rs");
     println!("cargo:rerun-if-env-changed=ALIGN_FUNCTIONS");
@@ -23,15 +24,14 @@ fn folder(variable: &str) -> PathBuf {
     env::var_os(variable).expect("cargo sets it").into()
 }
 
-/// Links the archive in this folder, or a copy of it with aligned functions.
-fn link_library(folder: &Path, aligned: Option<&PathBuf>) {
-    let archive = folder.join("libgrelfint.a");
-    if let Some(out) = aligned {
-        let copy = out.join("libgrelfint.a");
-        run(Command::new("objcopy").args(["--set-section-alignment", ".text.*=64"]).arg(&archive).arg(copy));
-    }
-    println!("cargo:rustc-link-search=native={}", aligned.map_or(folder, PathBuf::as_path).display());
-    println!("cargo:rustc-link-lib=static:-bundle=grelfint");
+/// Makes a copy of the library with aligned functions, which is the only one that the linker can find: the configuration
+/// replaces the build script of the bindings.
+fn align_library(here: &Path, out: &Path) {
+    let folder = env::var_os("GRELFINT_LIB_DIR").map_or_else(|| here.join("../target/staticlib"), PathBuf::from);
+    let (archive, copy) = (folder.join("libgrelfint.a"), out.join("libgrelfint.a"));
+    run(Command::new("objcopy").args(["--set-section-alignment", ".text.*=64"]).arg(&archive).arg(copy));
+    println!("cargo:rustc-link-search=native={}", out.display());
+    println!("cargo:rerun-if-env-changed=GRELFINT_LIB_DIR");
     println!("cargo:rerun-if-changed={}", archive.display());
 }
 

@@ -1,9 +1,9 @@
 //! A node with its memories and response buffer, run on one of the sides; frames
 //! built from their fields; code images built for their checksum; books built
 //! from steps.
-use crate::ffi::{Node, NodeSet, RequestAnswer, Settings};
 use crate::reference::{CodeType, Parts, EEPROM_SIZE, EXTERNAL_SIZE};
 use crate::sides::Side;
+use grelfint::raw::{Node, NodeSet, RequestAnswer, SceneAnswer, Settings};
 
 #[derive(Clone)]
 pub struct Board {
@@ -46,6 +46,12 @@ impl Board {
             &mut self.external[..lent.external],
             &mut self.response[..lent.response],
         )
+    }
+
+    /// The call itself; the board's node is not updated.
+    pub fn run_scene(&mut self, node: Node, book: &[u8], scene: usize, lent: Lengths, out: &mut [u8]) -> SceneAnswer {
+        let (eeprom, external) = (&mut self.eeprom[..lent.eeprom], &mut self.external[..lent.external]);
+        (self.side.run_scene)(node, book, scene, eeprom, external, out)
     }
 
     /// The answer and the response bytes of a frame for this node or for all nodes.
@@ -97,6 +103,16 @@ pub fn frame_of(nadr: u16, pnum: u8, pcmd: u8, hwpid: u16, pdata: &[u8]) -> Vec<
     frame.extend_from_slice(&hwpid.to_le_bytes());
     frame.extend_from_slice(pdata);
     frame
+}
+
+/// The same set, but with or without this address.
+pub fn with_address(mut nodes: NodeSet, address: u16, named: bool) -> NodeSet {
+    if named {
+        nodes.insert(address);
+    } else {
+        nodes.remove(address);
+    }
+    nodes
 }
 
 /// PData of a selective batch.

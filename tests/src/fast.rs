@@ -2,7 +2,7 @@
 //! benchmark's baseline, behind the C boundary of include/grelfint.h: nodes and
 //! answers by value, slices as pointers and lengths. `sessions.rs` compares it
 //! with the plain reference.
-use super::ffi::{CompileAnswer, Lamp, Node, NodeAnswer, NodeSet, RequestAnswer};
+use grelfint::raw::{CompileAnswer, Lamp, Node, NodeAnswer, NodeSet, RequestAnswer};
 use std::slice::{from_raw_parts, from_raw_parts_mut};
 
 fn sound(node: &Node) -> bool {
@@ -254,7 +254,7 @@ fn lights(node: &mut Node, pcmd: u8, p: &[u8], mut data: Option<&mut [u8; 56]>) 
         let l = &mut node.lamps[lamp];
         if let Some(data) = data.as_deref_mut() {
             // an unimplemented lamp has level 0
-            data[k] = (((l.level as u32 + step - 1) * inverse >> 16) * step) as u8;
+            data[k] = ((((l.level as u32 + step - 1) * inverse) >> 16) * step) as u8;
             k += 1;
         }
         if lamp < count {
@@ -334,7 +334,7 @@ fn code_check(m: &Memories, p: &[u8], data: &mut [u8; 56], load: &mut bool) -> R
     if p[0] & 0xFC != 0 {
         return Err(1);
     }
-    let bad = if p[0] & 2 == 0 { length % 64 != 0 } else { length % 20 != 0 };
+    let bad = if p[0] & 2 == 0 { !length.is_multiple_of(64) } else { !length.is_multiple_of(20) };
     if length == 0 || bad {
         return Err(6);
     }

@@ -1,8 +1,8 @@
 //! The serial line's rules tuned for speed, without allocation, with the C
 //! boundary of include/grelfint.h: the benchmark's second yardstick, after
 //! plain_uart.rs. `serial.rs` compares it with the reference.
-use super::ffi::{LengthAnswer, ReceiveAnswer, Receiver};
 use super::plain_uart::sound;
+use grelfint::raw::{LengthAnswer, ReceiveAnswer, Receiver};
 use std::slice::{from_raw_parts, from_raw_parts_mut};
 
 const FLAG: u8 = 0x7E;

@@ -1,6 +1,6 @@
 //! c/in_place.c: requests that change the node through a pointer, with a safe
 //! wrapper, and the same call with the node by value.
-use crate::ffi::{Node, RequestAnswer};
+use grelfint::raw::{Node, RequestAnswer};
 
 /// A `RequestAnswer` without the node.
 #[repr(C)]
@@ -30,7 +30,7 @@ extern "C" {
 
 #[inline(always)]
 pub fn request(node: &mut Node, frame: &[u8], eeprom: &mut [u8], external: &mut [u8], response: &mut [u8]) -> Answer {
-    // SAFETY: as for the wrappers in ffi.rs; the node is borrowed for the call
+    // SAFETY: as for the functions in boundary.rs; the node is borrowed for the call
     unsafe {
         in_place_request(
             node,

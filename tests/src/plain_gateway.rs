@@ -1,8 +1,8 @@
 //! The gateway's rules in ordinary Rust without allocation, with the C boundary
 //! of include/grelfint.h: the benchmark's yardstick. `gateway.rs` compares it
 //! with the reference.
-use super::ffi::{BitmapAnswer, BondAnswer, CountAnswer, Desk, Gateway, GatewayAnswer, ReleaseAnswer, Waiting};
 use super::reference_gateway::{is_node, BROADCAST, DESK, HEADER, LATEST, LONGEST, LONGEST_PDATA, LONGEST_WAIT, ROOM};
+use grelfint::raw::{BitmapAnswer, BondAnswer, CountAnswer, Desk, Gateway, GatewayAnswer, ReleaseAnswer, Waiting};
 use std::slice::{from_raw_parts, from_raw_parts_mut};
 
 // ---- records ----

@@ -2,10 +2,10 @@
 //! with one table for the check byte, and with the C boundary of
 //! include/grelfint.h. It is the benchmark's yardstick beside fast_uart.rs, which
 //! is tuned for speed. `serial.rs` compares it with the reference.
-use super::ffi::{LengthAnswer, ReceiveAnswer, Receiver};
 use super::reference_uart::{
     CUT, ESCAPE, ESCAPE_BIT, FLAG, FRAMED, LONGEST, SHORT, SHORTEST, TOO_LONG, WRONG_CHECK_BYTE,
 };
+use grelfint::raw::{LengthAnswer, ReceiveAnswer, Receiver};
 use std::slice::{from_raw_parts, from_raw_parts_mut, Iter};
 
 /// For each byte, the CRC from 0 of that byte.

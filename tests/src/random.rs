@@ -1,10 +1,10 @@
 //! Random nodes, boards, frames and books: mostly valid, often at a limit, and
 //! occasionally with each kind of fault.
-use crate::board::{book_of, code_check_pdata, frame_of, selective_pdata, set_checksum, Board, Lengths};
-use crate::ffi::{Lamp, Node, NodeSet, Settings};
+use crate::board::{book_of, code_check_pdata, frame_of, selective_pdata, set_checksum, with_address, Board, Lengths};
 use crate::reference::{self, CodeType, EEPROM_SIZE, EXTERNAL_SIZE, NODE_SET};
 use crate::rng::Rng;
 use crate::sides::Side;
+use grelfint::raw::{Lamp, Node, NodeSet, Settings};
 
 /// Bytes at the end of each buffer that are never passed to a call.
 pub const GUARD: usize = 64;
@@ -387,7 +387,7 @@ fn spoil_list(g: &mut Rng, list: &mut Vec<u8>) {
 pub fn node_set(g: &mut Rng, own: u16) -> NodeSet {
     let named = g.chance(3, 5);
     let zero = g.chance(1, 6);
-    any_nodes(g).with(own, named).with(0, zero)
+    with_address(with_address(any_nodes(g), own, named), 0, zero)
 }
 
 /// A set that the compiler accepts, of one, several or all nodes; each of these nodes is in most of the sets.
@@ -395,10 +395,10 @@ pub fn good_node_set(g: &mut Rng, nodes: &[Node]) -> NodeSet {
     let mut set = any_nodes(g);
     for node in nodes {
         let named = g.chance(2, 3);
-        set = set.with(node.settings.address, named);
+        set = with_address(set, node.settings.address, named);
     }
-    if set == NodeSet::of([]) {
-        set = NodeSet::of([g.within(1, 239) as u16]);
+    if set == NodeSet::new() {
+        set = NodeSet::from_iter([g.within(1, 239) as u16]);
     }
     set
 }
@@ -406,9 +406,9 @@ pub fn good_node_set(g: &mut Rng, nodes: &[Node]) -> NodeSet {
 /// A set that the compiler refuses: address 0, alone or with others, or nothing.
 pub fn bad_node_set(g: &mut Rng) -> NodeSet {
     match g.below(4) {
-        0 => NodeSet::of([]),
-        1 => NodeSet::of([0]),
-        _ => any_nodes(g).with(0, true),
+        0 => NodeSet::new(),
+        1 => NodeSet::from_iter([0]),
+        _ => with_address(any_nodes(g), 0, true),
     }
 }
 
@@ -418,10 +418,10 @@ fn any_nodes(g: &mut Rng) -> NodeSet {
         0 => 0,
         1 => 1,
         2 => g.within(2, 10),
-        3 => return NodeSet::of(1..=239),
+        3 => return NodeSet::from_iter(1..=239),
         _ => g.within(2, 200),
     };
-    NodeSet::of((0..count).map(|_| g.within(1, 239) as u16))
+    NodeSet::from_iter((0..count).map(|_| g.within(1, 239) as u16))
 }
 
 /// PData of a selective batch; some are too short to have a list.

@@ -1,13 +1,13 @@
 //! Random gateways, and calls on them: often at a limit, and with each kind of
 //! refusal; and records that break the rule.
 use crate::board::frame_of;
-use crate::ffi::{Desk, Gateway, Waiting};
 use crate::random::edge;
 use crate::reference_gateway::{
     is_bonded, nadr, BROADCAST, DESK, FIRST_NODE, HEADER, LAST_NODE, LATEST, LONGEST, LONGEST_WAIT, ROOM,
 };
 use crate::rng::Rng;
 use crate::sides_gateway::{Call, Request};
+use grelfint::raw::{Desk, Gateway, Waiting};
 
 /// PData lengths at the limits of the slots.
 pub const SLOT_LIMITS: [usize; 6] = [0, 16, 17, 40, 41, 56];

@@ -1,9 +1,9 @@
 //! Random messages, streams, cuts and receivers of the serial line: full of
 //! flags and escapes, often at a limit, and with each kind of fault.
-use crate::ffi::Receiver;
 use crate::random::edge;
 use crate::reference_uart::{check_byte, crc_after, ESCAPE, ESCAPE_BIT, FLAG, LONGEST, SHORTEST};
 use crate::rng::Rng;
+use grelfint::raw::Receiver;
 
 pub const LIMITS: [u8; 2] = [62, 64];
 

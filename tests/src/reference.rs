@@ -1,9 +1,9 @@
 //! Document 01, "Exact rules and what to build", with changes 1/12 to 4/12 of
 //! document 02, implemented as plainly as possible, without regard to speed.
 //! Headings name document 01's sections.
-use super::ffi::{
-    CompileAnswer, FrcAnswer, Lamp, LengthAnswer, Node, NodeAnswer, NodeSet, RequestAnswer, SendAnswer, Settings,
-    SlotAnswer,
+use grelfint::raw::{
+    CompileAnswer, FrcAnswer, Lamp, LengthAnswer, LevelsAnswer, Node, NodeAnswer, NodeSet, RequestAnswer, SceneAnswer,
+    SendAnswer, Settings, SlotAnswer,
 };
 
 // ---- Frames: ErrN ----
@@ -90,6 +90,18 @@ pub fn tick_in_place(node: &mut Node) -> u8 {
     let answer = tick(*node);
     *node = answer.node;
     answer.refusal
+}
+
+pub fn actual_levels(node: Node) -> LevelsAnswer {
+    if !node_rule(&node) {
+        return LevelsAnswer { refusal: 1, levels: [0; 32] };
+    }
+    let mut levels = [0; 32];
+    let lamps = &node.lamps[..node.settings.lamp_count as usize];
+    for (level, lamp) in levels.iter_mut().zip(lamps) {
+        *level = actual_level(lamp.level, node.settings.step);
+    }
+    LevelsAnswer { refusal: 0, levels }
 }
 
 // ---- Taking a request ----
@@ -562,7 +574,7 @@ pub fn read_code_check(pdata: &[u8]) -> Result<CodeCheck, u8> {
         return Err(FAIL);
     }
     let code = if flags & 2 == 0 { CodeType::Handler } else { CodeType::PlugIn };
-    if length == 0 || length % code.unit() != 0 {
+    if length == 0 || !length.is_multiple_of(code.unit()) {
         return Err(DATA);
     }
     if address + length > EXTERNAL_SIZE {
@@ -741,7 +753,7 @@ fn do_lamp_step(lamp: &mut Lamp, kind: u8, value: u8, time: u8) {
     } else if kind == 1 {
         lamp.level = if lamp.level >= 100 - value { 100 } else { lamp.level + value };
     } else {
-        lamp.level = if lamp.level > value { lamp.level - value } else { 0 };
+        lamp.level = lamp.level.saturating_sub(value);
     }
     lamp.seconds = if time == 0 || lamp.level == 0 {
         0
@@ -836,7 +848,8 @@ fn requests(steps: &[Step], mode: &Mode, hwpid: u16) -> Vec<Vec<u8>> {
     for entry in join(steps, mode.entry_limit) {
         let bytes = entry_bytes(&entry, hwpid);
         match lists.last_mut() {
-            Some(list) if list.len() + bytes.len() + 1 <= mode.list_limit => list.extend_from_slice(&bytes),
+            // there is room for the closing zero too
+            Some(list) if list.len() + bytes.len() < mode.list_limit => list.extend_from_slice(&bytes),
             _ => lists.push(bytes),
         }
     }
@@ -903,6 +916,33 @@ pub fn compile_default(book: &[u8], scene: usize, address: u16, out: &mut [u8]) 
 
 pub fn compile_selected_default(book: &[u8], scene: usize, nodes: NodeSet, out: &mut [u8]) -> CompileAnswer {
     compile_selected(book, scene, nodes, 0xFFFF, out)
+}
+
+/// Compiles a scene for the node's own address and profile, and leaves the node and the memories as the step machine
+/// does: a node that handles the requests ends in the same state, which `sessions.rs` checks.
+pub fn run_scene(
+    node: Node,
+    book: &[u8],
+    scene: usize,
+    eeprom: &mut [u8],
+    external: &mut [u8],
+    out: &mut [u8],
+) -> SceneAnswer {
+    if !node_rule(&node) {
+        return SceneAnswer { refusal: 1, step: 0, node };
+    }
+    if eeprom.len() != EEPROM_SIZE || external.len() != EXTERNAL_SIZE {
+        return SceneAnswer { refusal: 4, step: 0, node };
+    }
+    let CompileAnswer { refusal, step, .. } = compile(book, scene, node.settings.address, node.settings.hwpid, out);
+    if refusal != 0 {
+        return SceneAnswer { refusal, step, node };
+    }
+    let mut parts = Parts { node, eeprom, external };
+    for &step in &read_book(book).expect("compiled")[scene] {
+        do_step(&mut parts, step);
+    }
+    SceneAnswer { refusal: 0, step: 0, node: parts.node }
 }
 
 /// What `sceneshow` prints for a book.

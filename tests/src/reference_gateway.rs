@@ -2,10 +2,10 @@
 //! document 000, implemented as plainly as possible, without regard to speed. A
 //! sound record is read as a model, a set of addresses and a queue of requests;
 //! the call changes the model, which is then written as a record again.
-use super::ffi::{
+use super::reference::{confirm, earliest_send};
+use grelfint::raw::{
     BitmapAnswer, BondAnswer, CountAnswer, Desk, Gateway, GatewayAnswer, ReleaseAnswer, SendAnswer, Waiting,
 };
-use super::reference::{confirm, earliest_send};
 use std::collections::{BTreeSet, VecDeque};
 
 /// NADR of a request to all nodes.

@@ -2,7 +2,7 @@
 //! 2.3.2 of document 000, implemented as plainly as possible, without regard to
 //! speed. A stream is read in two ways that share only the check byte: byte by
 //! byte by a receiver, and as a whole by cutting it at its flags.
-use super::ffi::{LengthAnswer, ReceiveAnswer, Receiver};
+use grelfint::raw::{LengthAnswer, ReceiveAnswer, Receiver};
 
 pub const FLAG: u8 = 0x7E;
 pub const ESCAPE: u8 = 0x7D;

@@ -1,8 +1,8 @@
 //! Counts of what the calls of a session did, to detect random inputs that miss
 //! a case. What a call did is told from its inputs and the reference.
 use crate::board::Board;
-use crate::ffi::{Lamp, Node, NodeSet, RequestAnswer};
 use crate::reference::{self as r, CodeType, EXTERNAL_SIZE, NODE_SET};
+use grelfint::raw::{Lamp, Node, NodeSet, RequestAnswer};
 use std::collections::BTreeMap;
 use std::fmt::Debug;
 
@@ -28,6 +28,11 @@ pub struct Seen {
     /// The sets that scenes were compiled for.
     pub compiled_sets: Counts<SetKind>,
     pub at_limits: Counts<AtLimit>,
+    /// Refusals of `actual_levels`.
+    pub levels: Counts<u8>,
+    /// Refusals of `run_scene`.
+    pub runs: Counts<u8>,
+    pub run_cases: Counts<Run>,
     pub takers: Counts<Taker>,
 }
 
@@ -559,6 +564,38 @@ impl Compiled {
     }
 }
 
+/// A call of `run_scene`, by its refusal and by what a later refusal would be for.
+#[derive(PartialEq, Eq, PartialOrd, Ord, Debug)]
+pub struct Run {
+    pub refusal: u8,
+    /// Whether EEPROM and external memory have their sizes.
+    pub sizes: [bool; 2],
+    /// The output buffer is too short.
+    pub short: bool,
+}
+
+/// The refusals of `run_scene`, and 0.
+pub const RUN_REFUSALS: [u8; 10] = [0, 1, 4, 6, 7, 81, 82, 83, 84, 9];
+
+impl Run {
+    pub fn every() -> impl Iterator<Item = Run> {
+        let of = |refusal| {
+            let sizes = match refusal {
+                1 => &[[true, true], [false, true], [true, false]][..],
+                4 => &[[false, true], [true, false], [false, false]],
+                _ => &[[true, true]],
+            };
+            sizes.iter().flat_map(move |&sizes| EITHER.map(|short| Run { refusal, sizes, short }))
+        };
+        let all = RUN_REFUSALS.into_iter().flat_map(of);
+        all.filter(|run| match run.refusal {
+            0 => !run.short,
+            9 => run.short,
+            _ => true,
+        })
+    }
+}
+
 /// A limit of the compiler at which a scene was divided or not.
 #[derive(Clone, Copy, PartialEq, Eq, PartialOrd, Ord, Debug)]
 pub struct AtLimit {
@@ -649,6 +686,11 @@ impl Seen {
         if let Some(nodes) = nodes {
             self.compiled_sets.add(SetKind::of(&nodes.bits));
         }
+    }
+
+    pub fn run(&mut self, case: Run) {
+        self.runs.add(case.refusal);
+        self.run_cases.add(case);
     }
 
     /// Counts the limits that the lists of a compiled scene meet.

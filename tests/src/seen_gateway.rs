@@ -1,12 +1,12 @@
 //! Counts of what the calls of a gateway did, to detect random inputs that miss
 //! a case. What a call did follows from its inputs and the record before it.
-use crate::ffi::{Gateway, Waiting};
 use crate::random_gateway::{Clause, SLOT_LIMITS};
 use crate::reference_gateway::{
     is_bonded, is_node, nadr, BROADCAST, DESK, FIRST_NODE, HEADER, LAST_NODE, LATEST, LONGEST, LONGEST_WAIT, ROOM,
 };
 use crate::seen::{Counts, EITHER};
 use crate::sides_gateway::{Answer, Call};
+use grelfint::raw::{Gateway, Waiting};
 
 #[derive(Default, Debug)]
 pub struct Seen {

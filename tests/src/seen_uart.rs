@@ -1,9 +1,9 @@
 //! Counts of what the calls of the serial line did, to detect random inputs that
 //! miss a case. What a call did follows from its inputs and the reference.
-use crate::ffi::{ReceiveAnswer, Receiver};
 use crate::random_uart::LIMITS;
 use crate::reference_uart::{check_byte, framed, Piece, Stream, ESCAPE, ESCAPE_BIT, FLAG, LONGEST, SHORTEST};
 use crate::seen::{Counts, EITHER};
+use grelfint::raw::{ReceiveAnswer, Receiver};
 
 #[derive(Default, Debug)]
 pub struct Seen {

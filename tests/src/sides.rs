@@ -1,15 +1,18 @@
 //! One type for the calls of include/grelfint.h, filled by the library, the
-//! plain reference, and the fast and the in-place implementation, so that a test
-//! is written once.
-use crate::ffi::*;
-use crate::{fast, ffi, in_place, reference};
+//! methods of its bindings, the plain reference, and the fast and the in-place
+//! implementation, so that a test is written once.
+use crate::boundary::{compile_by, compile_selected_by, handle_request_by};
+use crate::{bindings, fast, in_place, reference};
+use grelfint::raw::{self, *};
 
 #[derive(Clone, Copy)]
+#[allow(clippy::type_complexity)] // the calls have this many parameters
 pub struct Side {
     pub name: &'static str,
     pub start: fn(Settings) -> NodeAnswer,
     pub tick: fn(Node) -> NodeAnswer,
     pub tick_in_place: fn(&mut Node) -> u8,
+    pub actual_levels: fn(Node) -> LevelsAnswer,
     pub handle_request: fn(Node, &[u8], &mut [u8], &mut [u8], &mut [u8]) -> RequestAnswer,
     pub view_status: fn(&[u8], &[u8], u8, usize, usize) -> u8,
     pub frc: fn(Node, u8, &[u8], u32, u32) -> FrcAnswer,
@@ -20,6 +23,7 @@ pub struct Side {
     pub compile_default: fn(&[u8], usize, u16, &mut [u8]) -> CompileAnswer,
     pub compile_selected: fn(&[u8], usize, NodeSet, u16, &mut [u8]) -> CompileAnswer,
     pub compile_selected_default: fn(&[u8], usize, NodeSet, &mut [u8]) -> CompileAnswer,
+    pub run_scene: fn(Node, &[u8], usize, &mut [u8], &mut [u8], &mut [u8]) -> SceneAnswer,
 }
 
 macro_rules! side_of {
@@ -29,6 +33,7 @@ macro_rules! side_of {
             start: $module::start,
             tick: $module::tick,
             tick_in_place: $module::tick_in_place,
+            actual_levels: $module::actual_levels,
             handle_request: $module::handle_request,
             view_status: $module::view_status,
             frc: $module::frc,
@@ -39,11 +44,13 @@ macro_rules! side_of {
             compile_default: $module::compile_default,
             compile_selected: $module::compile_selected,
             compile_selected_default: $module::compile_selected_default,
+            run_scene: $module::run_scene,
         }
     };
 }
 
-pub const LIBRARY: Side = side_of!(ffi, "library");
+pub const LIBRARY: Side = side_of!(raw, "library");
+pub const BINDINGS: Side = side_of!(bindings, "bindings");
 pub const REFERENCE: Side = side_of!(reference, "reference");
 
 /// Calls without a fast implementation are the reference's.

@@ -1,9 +1,11 @@
-//! One type for the calls of the gateway, filled by the library, the reference
-//! and the plain implementation, so that a test is written once; and one for a
-//! call with its inputs, so that a test can make every kind of call.
+//! One type for the calls of the gateway, filled by the library, the methods of
+//! its bindings, the reference and the plain implementation, so that a test is
+//! written once; and one for a call with its inputs, so that a test can make every
+//! kind of call.
+use crate::boundary::{release_by, send_by};
 use crate::buffers::Input;
-use crate::ffi::{release_by, send_by, BitmapAnswer, BondAnswer, CountAnswer, Gateway, GatewayAnswer, ReleaseAnswer};
-use crate::{ffi, plain_gateway, reference_gateway};
+use crate::{bindings_gateway, plain_gateway, reference_gateway};
+use grelfint::raw::{self, BitmapAnswer, BondAnswer, CountAnswer, Gateway, GatewayAnswer, ReleaseAnswer};
 
 #[derive(Clone, Copy)]
 pub struct Side {
@@ -20,14 +22,14 @@ pub struct Side {
 
 pub const LIBRARY: Side = Side {
     name: "library",
-    start: ffi::gateway_start,
-    bond: ffi::bond,
-    unbond: ffi::unbond,
-    clear_bonds: ffi::clear_bonds,
-    bond_count: ffi::bond_count,
-    bond_bitmap: ffi::bond_bitmap,
-    send: ffi::send,
-    release: ffi::release,
+    start: raw::gateway_start,
+    bond: raw::bond,
+    unbond: raw::unbond,
+    clear_bonds: raw::clear_bonds,
+    bond_count: raw::bond_count,
+    bond_bitmap: raw::bond_bitmap,
+    send: raw::send,
+    release: raw::release,
 };
 
 pub const REFERENCE: Side = Side {
@@ -40,6 +42,18 @@ pub const REFERENCE: Side = Side {
     bond_bitmap: reference_gateway::bond_bitmap,
     send: reference_gateway::send,
     release: reference_gateway::release,
+};
+
+pub const BINDINGS: Side = Side {
+    name: "bindings",
+    start: bindings_gateway::start,
+    bond: bindings_gateway::bond,
+    unbond: bindings_gateway::unbond,
+    clear_bonds: bindings_gateway::clear_bonds,
+    bond_count: bindings_gateway::bond_count,
+    bond_bitmap: bindings_gateway::bond_bitmap,
+    send: bindings_gateway::send,
+    release: bindings_gateway::release,
 };
 
 pub const PLAIN: Side = Side {

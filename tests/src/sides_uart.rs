@@ -1,8 +1,9 @@
-//! One type for the calls of the serial line, filled by the library, the
-//! reference, and the plain and the fast implementation, so that a test is
-//! written once.
-use crate::ffi::{uart_frame_by, uart_receive_by, LengthAnswer, ReceiveAnswer, Receiver};
-use crate::{fast_uart, ffi, plain_uart, reference_uart};
+//! One type for the calls of the serial line, filled by the library, the methods
+//! of its bindings, the reference, and the plain and the fast implementation, so
+//! that a test is written once.
+use crate::boundary::{uart_frame_by, uart_receive_by};
+use crate::{bindings_uart, fast_uart, plain_uart, reference_uart};
+use grelfint::raw::{self, LengthAnswer, ReceiveAnswer, Receiver};
 
 #[derive(Clone, Copy)]
 pub struct Side {
@@ -13,13 +14,20 @@ pub struct Side {
 }
 
 pub const LIBRARY: Side =
-    Side { name: "library", receiver: ffi::uart_receiver, receive: ffi::uart_receive, frame: ffi::uart_frame };
+    Side { name: "library", receiver: raw::uart_receiver, receive: raw::uart_receive, frame: raw::uart_frame };
 
 pub const REFERENCE: Side = Side {
     name: "reference",
     receiver: reference_uart::receiver,
     receive: reference_uart::receive,
     frame: reference_uart::frame,
+};
+
+pub const BINDINGS: Side = Side {
+    name: "bindings",
+    receiver: bindings_uart::receiver,
+    receive: bindings_uart::receive,
+    frame: bindings_uart::frame,
 };
 
 pub const PLAIN: Side = Side {

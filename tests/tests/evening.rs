@@ -10,8 +10,8 @@
 //! step machine of every node that it is for executes these steps. After every
 //! frame and every tick each node, its lamps and its memories are equal to those
 //! of its step machine; a node that a request is not for stays as it was.
+use grelfint::raw::{self, Gateway, NodeSet, Receiver};
 use grelfint_tests::board::{book_of, Board, Lengths};
-use grelfint_tests::ffi::{self, Gateway, NodeSet, Receiver};
 use grelfint_tests::reference::{self, Step, NODE_SET};
 use grelfint_tests::reference_gateway::{nadr, BROADCAST};
 use grelfint_tests::sides::{LIBRARY, REFERENCE};
@@ -51,7 +51,7 @@ impl Bay {
         let mut library = Board::started(LIBRARY, lamp_count, 5);
         library.node.settings.address = address;
         let machine = Board { side: REFERENCE, ..library.clone() };
-        Bay { library, machine, receiver: ffi::uart_receiver(false) }
+        Bay { library, machine, receiver: raw::uart_receiver(false) }
     }
 
     fn tick(&mut self) {
@@ -131,9 +131,9 @@ struct House {
 
 impl House {
     fn new(lp: bool) -> House {
-        let mut gateway = ffi::gateway_start(lp, DPA_VALUE);
+        let mut gateway = raw::gateway_start(lp, DPA_VALUE);
         for (bonds, (address, ..)) in (1..).zip(NODES) {
-            let answer = ffi::bond(gateway, address);
+            let answer = raw::bond(gateway, address);
             assert_eq!((answer.refusal, answer.count), (0, bonds));
             gateway = answer.gateway;
         }
@@ -141,7 +141,7 @@ impl House {
             lp,
             now: 0,
             gateway,
-            receiver: ffi::uart_receiver(true),
+            receiver: raw::uart_receiver(true),
             bays: NODES.map(|(address, lamps, _)| Bay::new(address, lamps)).into(),
             outbox: VecDeque::new(),
             at_desk: VecDeque::new(),
@@ -156,8 +156,8 @@ impl House {
         let book = book_of(&scenes);
         let mut out = [0; 4096];
         let answer = match address {
-            Some(address) => ffi::compile(&book, scene, address, HWPID, &mut out),
-            None => ffi::compile_selected(&book, scene, NodeSet::of(nodes.iter().copied()), HWPID, &mut out),
+            Some(address) => raw::compile(&book, scene, address, HWPID, &mut out),
+            None => raw::compile_selected(&book, scene, NodeSet::from_iter(nodes.iter().copied()), HWPID, &mut out),
         };
         assert_eq!(answer.refusal, 0);
         let (lengths, mut frames) = out[1..answer.length].split_at(out[0] as usize);
@@ -187,11 +187,11 @@ impl House {
     fn fill_desk(&mut self) {
         while let Some(request) = self.outbox.front() {
             let (hops, response_hops, delay) = request.way();
-            let answer = ffi::send(self.gateway, &request.frame, hops, response_hops, delay, self.now);
+            let answer = raw::send(self.gateway, &request.frame, hops, response_hops, delay, self.now);
             self.gateway = answer.gateway;
             match answer.refusal {
                 0 => self.at_desk.extend(self.outbox.pop_front()),
-                12 => self.gateway = ffi::bond(self.gateway, nadr(&request.frame)).gateway,
+                12 => self.gateway = raw::bond(self.gateway, nadr(&request.frame)).gateway,
                 refusal => return assert_eq!((refusal, self.at_desk.len()), (13, 8)),
             }
         }
@@ -200,7 +200,7 @@ impl House {
     /// A release is tried every millisecond, so the oldest request goes as soon as it may, and not sooner.
     fn release(&mut self) {
         let mut out = [0; 64];
-        let answer = ffi::release(self.gateway, self.now, &mut out);
+        let answer = raw::release(self.gateway, self.now, &mut out);
         self.gateway = answer.gateway;
         let due = self.now >= self.earliest && !self.at_desk.is_empty();
         assert_eq!((answer.refusal, answer.released), (0, due), "at {} ms", self.now);
@@ -241,7 +241,7 @@ impl House {
 
 fn framed(message: &[u8]) -> Vec<u8> {
     let mut line = [0; 132];
-    let answer = ffi::uart_frame(message, &mut line);
+    let answer = raw::uart_frame(message, &mut line);
     assert_eq!(answer.refusal, 0);
     line[..answer.length].to_vec()
 }
@@ -253,7 +253,7 @@ fn receive(receiver: &mut Receiver, mut line: &[u8]) -> Vec<u8> {
     while let (false, Some(size)) = (line.is_empty(), sizes.next()) {
         let (mut part, later) = line.split_at(size.min(line.len()));
         while !part.is_empty() {
-            let answer = ffi::uart_receive(*receiver, part);
+            let answer = raw::uart_receive(*receiver, part);
             assert_eq!(answer.refusal, 0);
             if answer.event != 0 {
                 events.push((answer.event, answer.frame[..answer.length].to_vec()));
@@ -277,28 +277,28 @@ fn evening() {
             house.run(700);
             // eight requests for node 17 wait and stay; for the others it is bonded again
             assert!(house.at_desk.len() == 8 && house.at_desk.iter().all(|request| request.nodes == [17]));
-            house.gateway = ffi::unbond(house.gateway, 17).gateway;
+            house.gateway = raw::unbond(house.gateway, 17).gateway;
             house.order(EVENING, None, &[3, 100]);
             house.run(20_000);
-            assert_eq!(ffi::bond_count(house.gateway).count, 3);
+            assert_eq!(raw::bond_count(house.gateway).count, 3);
 
             // what waits reaches nodes without a bond too
             house.order(NOTES, Some(100), &[100]);
             house.order(WORK, Some(3), &[3]);
             house.run(1);
             assert_eq!(house.at_desk.len(), 2);
-            house.gateway = ffi::clear_bonds(house.gateway).gateway;
+            house.gateway = raw::clear_bonds(house.gateway).gateway;
             house.run(5000);
-            assert_eq!(ffi::bond_count(house.gateway).count, 0);
+            assert_eq!(raw::bond_count(house.gateway).count, 0);
 
             house.order(LONG, None, &[17, 100]);
             house.order(WORK, Some(17), &[17]);
             house.order(NOTES, None, &[3]);
             // not a whole number of seconds, so that ticks fall elsewhere in the next round
             house.run(40_000 + 137 * round);
-            assert_eq!(ffi::bond_bitmap(house.gateway).bitmap[..3], [0, 0, 1 << (17 - 16)]);
+            assert_eq!(raw::bond_bitmap(house.gateway).bitmap[..3], [0, 0, 1 << (17 - 16)]);
             for address in [3, 100] {
-                house.gateway = ffi::bond(house.gateway, address).gateway;
+                house.gateway = raw::bond(house.gateway, address).gateway;
             }
         }
         assert!(house.outbox.is_empty() && house.at_desk.is_empty());

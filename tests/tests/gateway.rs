@@ -1,26 +1,27 @@
 //! The gateway (02, change 6/12): its bonds (000, 3.2) and its desk (003). First
-//! examples, on the library through its C interface, on the reference and on the
-//! plain implementation, one or more for each point of the rules. Then random
-//! histories of the library and of the plain implementation, each call on the
-//! record that the last one left, compared with the reference call by call: the
-//! whole answer with the record, and whole buffers with the guard bytes after
-//! them. Over each history a separate account of what was sent and released
-//! checks the order, the spacing and the number of bonds.
+//! examples, on the library through its C interface and through the methods of
+//! its bindings, on the reference and on the plain implementation, one or more for
+//! each point of the rules. Then random histories of the library, of the bindings
+//! and of the plain implementation, each call on the record that the last one
+//! left, compared with the reference call by call: the whole answer with the
+//! record, and whole buffers with the guard bytes after them. Over each history a
+//! separate account of what was sent and released checks the order, the spacing
+//! and the number of bonds.
 //! Each test prints its seed; `GRELFINT_SEED` sets another. A failure prints all
 //! inputs.
+use grelfint::raw::{BitmapAnswer, CountAnswer, Desk, Gateway, ReleaseAnswer, Waiting};
 use grelfint_tests::board::frame_of;
 use grelfint_tests::buffers::{difference, hex};
-use grelfint_tests::ffi::{BitmapAnswer, CountAnswer, Desk, Gateway, ReleaseAnswer, Waiting};
 use grelfint_tests::on_every_side;
 use grelfint_tests::random::GUARD;
 use grelfint_tests::random_gateway::{self as random, Clause};
 use grelfint_tests::reference_gateway::{nadr, BROADCAST, LATEST, LONGEST_WAIT};
 use grelfint_tests::rng::{seed, Rng};
 use grelfint_tests::seen_gateway::{clauses_broken_in, faults, Seen};
-use grelfint_tests::sides_gateway::{Answer, Call, Request, Side, LIBRARY, PLAIN, REFERENCE};
+use grelfint_tests::sides_gateway::{Answer, Call, Request, Side, BINDINGS, LIBRARY, PLAIN, REFERENCE};
 use std::collections::{BTreeSet, VecDeque};
 
-on_every_side! { [on_library: LIBRARY, on_reference: REFERENCE, on_plain: PLAIN,] [
+on_every_side! { [on_library: LIBRARY, on_bindings: BINDINGS, on_reference: REFERENCE, on_plain: PLAIN,] [
     new_gateways,
     addresses_that_can_be_bonded,
     bonded_once,
@@ -890,7 +891,7 @@ fn sound_records(side: Side) {
 
 // ---- random histories ----
 /// The sides that are compared with the reference.
-const TESTED: [Side; 2] = [LIBRARY, PLAIN];
+const TESTED: [Side; 3] = [LIBRARY, BINDINGS, PLAIN];
 
 /// Makes the same calls on each tested side and on the reference.
 struct Session {

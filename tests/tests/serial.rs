@@ -1,15 +1,15 @@
 //! The serial line (02, change 5/12). First examples, on the library through its
-//! C interface, on the reference, and on the plain and the fast implementation:
-//! the guide's (000, 2.3.2) and one or more for each point of the rules. Then
-//! random calls of the library and of both implementations, compared with the
-//! reference call by call: the whole answer with the record, and whole buffers
-//! with the guard bytes after them. For all cuts, the frames and drops of
-//! all calls, and the last record, are those of the whole stream, which the
-//! reference also reads without a receiver.
+//! C interface and through the methods of its bindings, on the reference, and on
+//! the plain and the fast implementation: the guide's (000, 2.3.2) and one or more
+//! for each point of the rules. Then random calls of the library, of the bindings
+//! and of both implementations, compared with the reference call by call: the
+//! whole answer with the record, and whole buffers with the guard bytes after
+//! them. For all cuts, the frames and drops of all calls, and the last record, are
+//! those of the whole stream, which the reference also reads without a receiver.
 //! Each test prints its seed; `GRELFINT_SEED` sets another. A failure prints all
 //! inputs.
+use grelfint::raw::{LengthAnswer, ReceiveAnswer, Receiver};
 use grelfint_tests::buffers::{difference, hex, Input};
-use grelfint_tests::ffi::{LengthAnswer, ReceiveAnswer, Receiver};
 use grelfint_tests::on_every_side;
 use grelfint_tests::random::GUARD;
 use grelfint_tests::random_uart::{self as random, LIMITS};
@@ -19,9 +19,11 @@ use grelfint_tests::reference_uart::{
 };
 use grelfint_tests::rng::{seed, Rng};
 use grelfint_tests::seen_uart::{Escaped, Frame, Received, Record, Seen, Sent};
-use grelfint_tests::sides_uart::{Side, FAST, LIBRARY, PLAIN, REFERENCE};
+use grelfint_tests::sides_uart::{Side, BINDINGS, FAST, LIBRARY, PLAIN, REFERENCE};
 
-on_every_side! { [on_library: LIBRARY, on_reference: REFERENCE, on_plain: PLAIN, on_fast: FAST,] [
+on_every_side! { [
+    on_library: LIBRARY, on_bindings: BINDINGS, on_reference: REFERENCE, on_plain: PLAIN, on_fast: FAST,
+] [
     guide_example_framed,
     guide_example_received,
     new_receivers,
@@ -639,7 +641,7 @@ fn damaged_bits(side: Side) {
 
 // ---- random calls ----
 /// The sides that are compared with the reference.
-const TESTED: [Side; 3] = [LIBRARY, PLAIN, FAST];
+const TESTED: [Side; 4] = [LIBRARY, BINDINGS, PLAIN, FAST];
 
 /// Makes the same calls on each tested side and on the reference.
 struct Session {

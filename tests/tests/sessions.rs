@@ -3,15 +3,19 @@
 //! the number of calls in `random_sessions`. A failure prints all inputs.
 //! After every call the whole answer and every whole buffer are compared, with
 //! the guard bytes after it, including buffers that are only read.
-use grelfint_tests::board::{book_of, code_check_pdata, frame_of, selective_pdata, set_checksum, Board, Lengths};
+use grelfint::raw::{CompileAnswer, Lamp, Node, NodeSet, RequestAnswer, SceneAnswer, Settings};
+use grelfint_tests::board::{
+    book_of, code_check_pdata, frame_of, selective_pdata, set_checksum, with_address, Board, Lengths,
+};
 use grelfint_tests::buffers::{difference, hex, Input};
 use grelfint_tests::fast;
-use grelfint_tests::ffi::{CompileAnswer, Lamp, Node, NodeSet, RequestAnswer, Settings};
 use grelfint_tests::random::{self, BATCH_LIST, EXCESS, GUARD, SELECTIVE_LIST};
 use grelfint_tests::reference::{self as r, CodeType, EEPROM_SIZE, EXTERNAL_SIZE, NODE_SET};
 use grelfint_tests::rng::{number, seed, Rng};
-use grelfint_tests::seen::{AtLimit, BrokenList, Compiled, Profile, Requests, Seen, SelectiveBatch, SetKind, Taker};
-use grelfint_tests::sides::{Side, FAST, IN_PLACE, LIBRARY, REFERENCE};
+use grelfint_tests::seen::{
+    AtLimit, BrokenList, Compiled, Profile, Requests, Run, Seen, SelectiveBatch, SetKind, Taker, RUN_REFUSALS,
+};
+use grelfint_tests::sides::{Side, BINDINGS, FAST, IN_PLACE, LIBRARY, REFERENCE};
 use std::hint::black_box;
 use std::ops::Range;
 
@@ -188,7 +192,7 @@ impl Session {
         let (list, place) = random::broken_list(g, &node, reason, whole, BATCH_LIST);
         let (shorter, place_in_it) = random::broken_list(g, &node, reason, whole, SELECTIVE_LIST);
         let nodes = random::node_set(g, own);
-        let selective = |selected| selective_pdata(nodes.with(own, selected), &shorter);
+        let selective = |selected| selective_pdata(with_address(nodes, own, selected), &shorter);
         let nothing = RequestAnswer { addressed: true, ..RequestAnswer::zeros(node) };
         let error = RequestAnswer { length: if nadr == 0x00FF { 0 } else { 8 }, ..nothing };
         for (pcmd, pdata, want) in [
@@ -209,7 +213,7 @@ impl Session {
                 let mut pdata = [start, &[length]].concat();
                 pdata.resize(end, self.g.pick(&[0, 1, 5, 0xFF]));
                 let nadr = self.g.pick(&[self.plain.node.settings.address, 0x00FF]);
-                self.take(&frame_of(nadr, 2, pcmd, 0xFFFF, &pdata), Lengths::USUAL);
+                _ = self.take(&frame_of(nadr, 2, pcmd, 0xFFFF, &pdata), Lengths::USUAL);
             }
         }
     }
@@ -233,7 +237,7 @@ impl Session {
         let own = node.settings.address;
         let nadr = g.pick(&[own, 0x00FF]);
         let (hwpid, list) = (random::hwpid(g, &node), random::any_list(g, &node, SELECTIVE_LIST));
-        let nodes = random::node_set(g, own).with(own, true);
+        let nodes = with_address(random::node_set(g, own), own, true);
         let frame = frame_of(nadr, 2, 0x0B, hwpid, &selective_pdata(nodes, &list));
         let mut batch = self.tested.clone();
         let mut want = batch.request(node, &frame_of(nadr, 2, 5, hwpid, &list), Lengths::USUAL);
@@ -264,7 +268,7 @@ impl Session {
     fn not_selected(&mut self) {
         let (g, node) = (&mut self.g, self.plain.node);
         let own = node.settings.address;
-        let nodes = random::node_set(g, own).with(own, false);
+        let nodes = with_address(random::node_set(g, own), own, false);
         let mut list = random::any_list(g, &node, SELECTIVE_LIST);
         list.resize(list.len().max(1), 0);
         let (nadr, hwpid) = (g.pick(&[own, 0x00FF]), g.pick(&[node.settings.hwpid, 0xFFFF]));
@@ -334,7 +338,7 @@ impl Session {
         // the high sum sees a byte as often as there are bytes from it to the end
         let seen = i.abs_diff(j) * old.abs_diff(other) as usize;
         self.write_external(|_, external| external.swap(i, j));
-        self.code_check(image, sum, seen % 255 == 0);
+        self.code_check(image, sum, seen.is_multiple_of(255));
         self.write_external(|_, external| external.swap(i, j));
         self.exchanged_00_and_ff(image);
     }
@@ -343,7 +347,7 @@ impl Session {
     fn exchanged_00_and_ff(&mut self, image: Image) {
         let sum = image.checksum(&self.plain);
         let exchanged = |b: &mut u8| {
-            if *b % 255 == 0 {
+            if b.is_multiple_of(255) {
                 *b = !*b;
             }
         };
@@ -363,6 +367,13 @@ impl Session {
             format!("tick in place of {node:?}\nanswer   {refusal} {lent:?}\nexpected {b:?}")
         });
         b.node
+    }
+
+    fn actual_levels(&mut self, node: Node) {
+        let (a, b) = ((self.tested.side.actual_levels)(node), r::actual_levels(node));
+        self.count(b.refusal);
+        self.expect(a == b, || format!("actual levels of {node:?}\nanswer   {a:?}\nexpected {b:?}"));
+        self.seen.levels.add(b.refusal);
     }
 
     fn start(&mut self) {
@@ -590,6 +601,24 @@ impl SceneCall {
         SceneCall { book, scene: 0, to, hwpid: 0xFFFF, left_out: g.chance(1, 2), room, out }
     }
 
+    /// With these faults: book, scene, target of the last step, room. The other steps are good; returns the number of the
+    /// last one.
+    fn faulty(g: &mut Rng, to: To, [book, scene, step, room]: [bool; 4]) -> (SceneCall, u8) {
+        let mut steps = random::scene(g, 0);
+        steps.truncate(63);
+        let number = steps.len() as u8;
+        steps.push(random::step_with(g, [false, step, false, false]));
+        let room = if room { g.within(0, ROOM - 1) } else { ROOM };
+        let mut call = SceneCall::only(g, to, &steps, room);
+        if book {
+            call.book.push(0);
+        }
+        if scene {
+            call.scene = g.pick(&[1, 16, usize::MAX]);
+        }
+        (call, number)
+    }
+
     /// A side's answer and the output buffer after the call. The book is passed separately, so that it may be guarded.
     fn compile(&self, side: Side, book: &[u8]) -> (CompileAnswer, Vec<u8>) {
         let mut out = self.out.clone();
@@ -706,21 +735,10 @@ impl Session {
 
     /// A call with these faults: address or nodes (1), book (6), scene (7), step (82), room (9). The first is told.
     fn faulty_call(&mut self, selective: bool, faults: [bool; 5]) {
-        let [to, book, scene, step, room] = faults;
+        let [to, in_scene @ ..] = faults;
         let g = &mut self.g;
-        let mut steps = random::scene(g, 0);
-        steps.truncate(63);
-        let number = steps.len() as u8;
-        steps.push(random::step_with(g, [false, step, false, false]));
         let to = if to { To::bad(g, selective) } else { To::good(g, selective) };
-        let room = if room { g.within(0, ROOM - 1) } else { ROOM };
-        let mut call = SceneCall::only(g, to, &steps, room);
-        if book {
-            call.book.push(0);
-        }
-        if scene {
-            call.scene = g.pick(&[1, 16, usize::MAX]);
-        }
+        let (call, number) = SceneCall::faulty(g, to, in_scene);
         let Some(first) = faults.iter().position(|&fault| fault) else {
             let (answer, _) = self.compile(&call);
             self.expect(answer.refusal == 0, || format!("{answer:?} without a fault\n{}", call.inputs(&self.plain)));
@@ -769,6 +787,77 @@ impl Session {
         }
     }
 
+    /// Runs a scene on `node`, which may differ from the boards' node.
+    fn run_scene(&mut self, node: Node, call: &SceneCall, lent: Lengths) -> SceneAnswer {
+        let before = Board { node, ..self.tested.clone() };
+        let book = Input::new(&call.book);
+        let (mut out, mut want) = (call.out.clone(), call.out.clone());
+        let a = self.tested.run_scene(node, book.part(), call.scene, lent, &mut out[..call.room]);
+        let b = self.plain.run_scene(node, &call.book, call.scene, lent, &mut want[..call.room]);
+        self.count(b.refusal);
+        let fault =
+            differences(&self.tested, &self.plain) + &difference("output", &out, &want) + &book.difference("book");
+        self.expect(a == b && fault.is_empty(), || {
+            format!("{fault}run: answer {a:?}\nexpected {b:?}\nlent {lent:?}\n{}", call.inputs(&before))
+        });
+        let sizes = [lent.eeprom == EEPROM_SIZE, lent.external == EXTERNAL_SIZE];
+        self.seen.run(Run { refusal: b.refusal, sizes, short: call.room < ROOM });
+        if b.refusal == 0 {
+            self.same_as_handled(before, call, b.node, &out);
+        }
+        b
+    }
+
+    /// A run ends as the side's own compiler and its requests do, one after the other. The response buffer is theirs.
+    fn same_as_handled(&self, before: Board, call: &SceneCall, after: Node, out: &[u8]) {
+        let mut end = before.clone();
+        let Settings { address, hwpid, .. } = end.node.settings;
+        let mut compiled = call.out.clone();
+        let answer = (end.side.compile)(&call.book, call.scene, address, hwpid, &mut compiled[..call.room]);
+        for frame in requests_in(&compiled).0 {
+            end.node = end.request(end.node, frame, Lengths::USUAL).node;
+        }
+        end.response.copy_from_slice(&before.response);
+        let fault = differences(&self.tested, &end) + &difference("output", out, &compiled);
+        self.expect(answer.refusal == 0 && after == end.node && fault.is_empty(), || {
+            format!("{fault}run: {after:?}\ncompiled and handled: {:?}\n{}", end.node, call.inputs(&before))
+        });
+    }
+
+    /// A random scene on `node`; occasionally, or `often`, with a memory of another size.
+    fn random_run(&mut self, node: Node, often: bool) {
+        let call = SceneCall::random(&mut self.g, &self.plain.node);
+        let lent = random::lengths(&mut self.g, often);
+        let answer = self.run_scene(node, &call, lent);
+        if node == self.plain.node {
+            self.set_node(answer.node);
+        }
+    }
+
+    /// A run with these faults: node (1), memory (4), book (6), scene (7), step (82), room (9). The first is told, and
+    /// nothing is written.
+    fn faulty_run(&mut self, faults: [bool; 6]) {
+        let [node, memory, in_scene @ ..] = faults;
+        let (mut own, mut lent) = (self.plain.node, Lengths::USUAL);
+        if node {
+            own.settings.step = 3;
+        }
+        if memory {
+            let [less, more] = [lent.external - 1, lent.eeprom + 1];
+            lent = self.g.pick(&[Lengths { external: less, ..lent }, Lengths { eeprom: more, ..lent }]);
+        }
+        let (call, number) = SceneCall::faulty(&mut self.g, To::Address(own.settings.address), in_scene);
+        let before = self.tested.clone();
+        let answer = self.run_scene(own, &call, lent);
+        let refusal = faults.iter().position(|&fault| fault).map_or(0, |first| [1, 4, 6, 7, 82, 9][first]);
+        let step = if refusal == 82 { number } else { 0 };
+        let want = SceneAnswer { refusal, step, node: if refusal == 0 { answer.node } else { own } };
+        let untouched = refusal == 0 || differences(&self.tested, &before).is_empty();
+        self.expect(answer == want && untouched, || {
+            format!("built for {want:?}\nanswer {answer:?}\nlent {lent:?}\n{}", call.inputs(&before))
+        });
+    }
+
     /// One scene, compiled once for chosen nodes, is taken by several nodes.
     fn chosen_nodes(&mut self) {
         let g = &mut self.g;
@@ -800,9 +889,9 @@ impl Session {
         }
         let lent = random::lengths(g, often);
         if node == self.plain.node {
-            self.take(&frame, lent);
+            _ = self.take(&frame, lent);
         } else {
-            self.request(node, &frame, lent);
+            _ = self.request(node, &frame, lent);
         }
     }
 
@@ -819,24 +908,25 @@ impl Session {
                     self.set_node(after);
                 }
             }
-            84..=88 => self.frc(node),
+            84..=87 => self.frc(node),
+            88 => self.actual_levels(node),
             89..=91 => self.random_view(),
             92..=93 => self.confirm(),
-            94..=95 => self.timing(),
+            94 => self.timing(),
+            95 => self.random_run(node, often),
             96 if self.g.chance(1, 2) => self.start(),
             _ => self.scene(),
         }
     }
 }
 
-#[test]
-fn random_sessions() {
-    let wanted = number("GRELFINT_CALLS", 1_200_000);
-    let mut s = Session::new("random_sessions", LIBRARY);
+/// So many random calls of all kinds on one side.
+fn sessions(test: &'static str, side: Side, wanted: u64) {
+    let mut s = Session::new(test, side);
     while s.seen.calls < wanted {
         s.run(1, 400, Session::random_call);
     }
-    println!("random_sessions: {:?}", s.seen);
+    println!("{test}: {:?}", s.seen);
     if wanted >= 100_000 {
         let refusals: Vec<u8> = s.seen.refusals.0.keys().copied().collect();
         assert_eq!(refusals, [0, 1, 2, 3, 4, 5, 6, 7, 9, 10, 15, 16, 81, 82, 83, 84]);
@@ -845,7 +935,24 @@ fn random_sessions() {
         assert!(s.seen.loads > 0);
         s.seen.assert_every_kind_of_request();
         assert!(errors[0] * 2 > errors.iter().sum::<u64>(), "valid requests are rare");
+        s.seen.levels.assert_each([0, 1], wanted / 20_000);
+        s.seen.runs.assert_each(RUN_REFUSALS, wanted / 50_000);
     }
+}
+
+fn wanted_calls() -> u64 {
+    number("GRELFINT_CALLS", 1_200_000)
+}
+
+#[test]
+fn random_sessions() {
+    sessions("random_sessions", LIBRARY, wanted_calls());
+}
+
+/// The methods of the bindings, for a share of the calls.
+#[test]
+fn random_sessions_of_the_bindings() {
+    sessions("random_sessions_of_the_bindings", BINDINGS, wanted_calls() / 8);
 }
 
 /// The node's own address and 0x00FF are addressed, no other of the 65,536 values.
@@ -874,7 +981,7 @@ fn every_pnum_and_pcmd() {
                 let mut frame = nadr.to_le_bytes().to_vec();
                 frame.extend_from_slice(&[pnum, pcmd, 0xFF, 0xFF]);
                 frame.extend_from_slice(&pdata);
-                s.take(&frame, Lengths::USUAL);
+                _ = s.take(&frame, Lengths::USUAL);
             }
         }
     }
@@ -901,7 +1008,7 @@ fn every_length_byte() {
     for side in TESTED {
         let mut s = Session::new("every_length_byte", side);
         let own = s.plain.node.settings.address;
-        let selecting = NodeSet::of([own]).bits;
+        let selecting = NodeSet::from_iter([own]).bits;
         for (pcmd, before) in [(5, &[][..]), (0x0B, &selecting)] {
             for whole in 0..=2 {
                 s.every_length_byte(pcmd, &[before, &entry.repeat(whole)].concat());
@@ -931,8 +1038,8 @@ fn every_address_and_bit() {
         let mut s = Session::new("every_address_and_bit", side);
         for address in 1..240 {
             for bit in 0..240 {
-                let alone = NodeSet::of([bit]);
-                let all_others = NodeSet::of((0..240).filter(|&other| other != bit));
+                let alone = NodeSet::from_iter([bit]);
+                let all_others = NodeSet::from_iter((0..240).filter(|&other| other != bit));
                 assert_eq!(s.is_selected(address, alone), address == bit, "node {address}, bit {bit}");
                 assert_eq!(s.is_selected(address, all_others), address != bit, "node {address}, all but bit {bit}");
             }
@@ -1081,20 +1188,20 @@ fn every_length() {
         for response in 0..=80 {
             let mut frame = s.random_frame();
             frame.resize(frame_length, 0);
-            s.take(&frame, Lengths { response, ..Lengths::USUAL });
+            _ = s.take(&frame, Lengths { response, ..Lengths::USUAL });
         }
     }
     for eeprom in 0..=EEPROM_SIZE + EXCESS {
         for external in [0, EXTERNAL_SIZE - 1, EXTERNAL_SIZE, EXTERNAL_SIZE + 1] {
             let lent = Lengths { eeprom, external, ..Lengths::USUAL };
             let frame = s.random_frame();
-            s.take(&frame, lent);
+            _ = s.take(&frame, lent);
             s.view_status(lent, 3, 0, 1);
         }
     }
     for external in (0..=EXTERNAL_SIZE + EXCESS).step_by(61) {
         let frame = s.random_frame();
-        s.take(&frame, Lengths { external, ..Lengths::USUAL });
+        _ = s.take(&frame, Lengths { external, ..Lengths::USUAL });
     }
 }
 
@@ -1115,7 +1222,7 @@ fn every_power_and_time() {
                 } else if time > 1 {
                     break;
                 }
-                s.request(node, &frame, Lengths::USUAL);
+                _ = s.request(node, &frame, Lengths::USUAL);
             }
         }
     }
@@ -1172,6 +1279,59 @@ fn one_scene_for_chosen_nodes() {
     }
 }
 
+/// Scenes that are run by one call, on nodes and memories of which some are refused.
+#[test]
+fn random_runs() {
+    for side in [LIBRARY, BINDINGS] {
+        let mut s = Session::new("random_runs", side);
+        s.run(400, 50, |s| {
+            let own = random::node(&mut s.g);
+            s.set_node(own);
+            let node = if s.g.chance(1, 8) { random::broken(&mut s.g, own) } else { own };
+            let often = s.g.chance(1, 2);
+            s.random_run(node, often);
+        });
+        println!("random_runs: {:?}", s.seen);
+        s.seen.run_cases.assert_each(Run::every(), 10);
+    }
+}
+
+/// Every set of faults of a run.
+#[test]
+fn first_refusal_of_a_run() {
+    for side in [LIBRARY, BINDINGS] {
+        let mut s = Session::new("first_refusal_of_a_run", side);
+        s.run(20, 1, |s| {
+            for set in 0..64u8 {
+                s.faulty_run([1, 2, 4, 8, 16, 32].map(|bit| set & bit != 0));
+            }
+        });
+    }
+}
+
+/// Every level at every step, on every lamp that is there; every level and step of a node that breaks the rule too.
+#[test]
+fn every_actual_level() {
+    for side in [LIBRARY, BINDINGS] {
+        let mut s = Session::new("every_actual_level", side);
+        for step in 0..=255 {
+            for level in 0..=255 {
+                let mut node = random::node(&mut s.g);
+                node.settings.step = step;
+                let lamp = s.g.below(node.settings.lamp_count as usize);
+                node.lamps[lamp] = Lamp { level, seconds: 0 };
+                s.actual_levels(node);
+                let answer = (side.actual_levels)(node);
+                let is_sound = level <= 100 && r::STEPS.contains(&step);
+                assert_eq!(answer.refusal, !is_sound as u8, "{node:?}");
+                if is_sound {
+                    assert_eq!(answer.levels[lamp], level.div_ceil(step) * step, "{node:?}");
+                }
+            }
+        }
+    }
+}
+
 /// Every set of faults of a call, in both modes.
 #[test]
 fn first_refusal_of_the_compiler() {
@@ -1190,7 +1350,7 @@ fn first_refusal_of_the_compiler() {
 fn every_set_of_one_address() {
     let mut s = Session::new("every_set_of_one_address", LIBRARY);
     for address in 0..240 {
-        let nodes = NodeSet::of([address]);
+        let nodes = NodeSet::from_iter([address]);
         let call = SceneCall::only(&mut s.g, To::Nodes(nodes), &[[0, 0, 1, 0]], ROOM);
         let (answer, out) = s.compile(&call);
         if address == 0 {

@@ -1,19 +1,24 @@
-//! Examples from the documents, run on the library through its C interface, on
-//! the plain reference, and on the fast and the in-place implementation:
-//! document 01's worked examples (those marked P are also proved, but cheap to
-//! run), broken lists and bad steps (02, change 1/12), keep with a time (02,
-//! change 2/12), selective batches and scenes for chosen nodes (02, change
+//! Examples from the documents, run on the library through its C interface and
+//! through the methods of its bindings, on the plain reference, and on the fast
+//! and the in-place implementation: document 01's worked examples (those marked P
+//! are also proved, but cheap to run), settings, actual levels, views, scenes that
+//! one call runs, broken lists and bad steps (02, change 1/12), keep with a time
+//! (02, change 2/12), selective batches and scenes for chosen nodes (02, change
 //! 3/12), checksums of code images (02, change 4/12), the light standard's step
 //! table and examples (001), the confirmation's timing (003), and the guide's
 //! batch and confirmation examples (000).
+use grelfint::raw::{
+    CompileAnswer, FrcAnswer, Lamp, LevelsAnswer, Node, NodeAnswer, NodeSet, RequestAnswer, SceneAnswer, Settings,
+};
 use grelfint_tests::board::{book_of, code_check_pdata, frame_of, selective_pdata, set_checksum, Board, Lengths};
-use grelfint_tests::ffi::{CompileAnswer, FrcAnswer, Lamp, Node, NodeSet, RequestAnswer};
 use grelfint_tests::on_every_side;
 use grelfint_tests::reference::{self, CodeType, EXTERNAL_SIZE};
-use grelfint_tests::sides::{Side, FAST, IN_PLACE, LIBRARY, REFERENCE};
+use grelfint_tests::sides::{Side, BINDINGS, FAST, IN_PLACE, LIBRARY, REFERENCE};
 use std::slice::from_ref;
 
-on_every_side! { [on_library: LIBRARY, on_reference: REFERENCE, on_fast: FAST, on_in_place: IN_PLACE,] [
+on_every_side! { [
+    on_library: LIBRARY, on_bindings: BINDINGS, on_reference: REFERENCE, on_fast: FAST, on_in_place: IN_PLACE,
+] [
     external_read_at_the_end,
     level_100_is_accepted_101_is_not,
     one_bad_entry_changes_no_lamp,
@@ -24,6 +29,18 @@ on_every_side! { [on_library: LIBRARY, on_reference: REFERENCE, on_fast: FAST, o
     checksums,
     batches_of_one_byte_and_of_a_short_entry,
     compiled_scene,
+    settings_in_range,
+    settings_out_of_range,
+    broken_nodes,
+    actual_levels_of_the_lamps,
+    views_of_the_memories,
+    scene_run_by_one_call,
+    scenes_run_one_after_the_other,
+    scene_of_every_kind_of_step,
+    scene_of_several_requests,
+    scene_without_steps,
+    scenes_that_are_not_run,
+    bad_steps_of_a_run,
     broken_lists,
     lists_broken_after_whole_entries,
     lists_broken_at_the_longest_pdata,
@@ -237,6 +254,278 @@ fn compiled_scene(side: Side) {
         20, 0,
     ];
     assert_eq!((a.refusal, &out[..a.length]), (0, &want[..]));
+}
+
+// ---- document 01, "Node and lamps" ----
+/// Those of `Board::started` with this change.
+fn settings_with(change: impl FnOnce(&mut Settings)) -> Settings {
+    let mut settings = Settings { address: 1, hwpid: 0x2471, dpa_value: 7, lamp_count: 3, step: 1 };
+    change(&mut settings);
+    settings
+}
+
+fn settings_in_range(side: Side) {
+    let addresses = [1, 2, 239].map(|address| settings_with(|s| s.address = address));
+    let counts = [1, 2, 32].map(|count| settings_with(|s| s.lamp_count = count));
+    let steps = [1, 2, 4, 5, 10, 20, 25, 50, 100].map(|step| settings_with(|s| s.step = step));
+    let others = [0, 0xFFFF].map(|word| settings_with(|s| (s.hwpid, s.dpa_value) = (word, word as u8)));
+    for settings in addresses.into_iter().chain(counts).chain(steps).chain(others) {
+        assert_eq!((side.start)(settings), NodeAnswer { refusal: 0, node: Node { settings, ..Node::ZERO } });
+    }
+}
+
+fn settings_out_of_range(side: Side) {
+    let addresses = [0, 240, 255, 256, 257, 0xFFFF].map(|address| settings_with(|s| s.address = address));
+    let counts = [0, 33, 255].map(|count| settings_with(|s| s.lamp_count = count));
+    let steps = [0, 3, 6, 8, 99, 101, 200, 255].map(|step| settings_with(|s| s.step = step));
+    for settings in addresses.into_iter().chain(counts).chain(steps) {
+        assert_eq!((side.start)(settings), NodeAnswer { refusal: 1, node: Node::ZERO }, "{settings:?}");
+    }
+}
+
+/// Each breaks the node rule in one way. The calls that have a node alone refuse it and leave it as it was.
+fn broken_nodes(side: Side) {
+    let mut sound = Board::started(side, 3, 10).node;
+    sound.lamps[0] = Lamp { level: 15, seconds: 1 };
+    let mut broken = [sound; 7];
+    broken[0].settings.address = 240;
+    broken[1].settings.lamp_count = 33;
+    broken[2].settings.step = 3;
+    broken[3].lamps[1].level = 101;
+    broken[4].lamps[0].seconds = 7621;
+    broken[5].lamps[1].seconds = 1;
+    broken[6].lamps[3].level = 1;
+    for node in broken.into_iter().chain([Node::ZERO]) {
+        assert_eq!((side.tick)(node), NodeAnswer { refusal: 1, node });
+        let mut lent = node;
+        assert_eq!(((side.tick_in_place)(&mut lent), lent), (1, node));
+        assert_eq!((side.actual_levels)(node), LevelsAnswer { refusal: 1, levels: [0; 32] });
+        assert_eq!((side.frc)(node, 0x10, &[0x71, 0], 1, 1), FrcAnswer { refusal: 1, value: 0 });
+    }
+}
+
+/// The light standard's levels, 0 and 100; then the same at other steps. Lamps from the count on have none.
+fn actual_levels_of_the_lamps(side: Side) {
+    let requested = [15, 21, 11, 2, 0, 1, 99, 100];
+    for (step, actual) in [
+        (1, requested),
+        (4, [16, 24, 12, 4, 0, 4, 100, 100]),
+        (10, [20, 30, 20, 10, 0, 10, 100, 100]),
+        (25, [25, 25, 25, 25, 0, 25, 100, 100]),
+        (100, [100, 100, 100, 100, 0, 100, 100, 100]),
+    ] {
+        for first in [0, 24] {
+            let mut node = Board::started(side, 8 + first as u8, step).node;
+            let mut levels = [0; 32];
+            assert_eq!((side.actual_levels)(node), LevelsAnswer { refusal: 0, levels });
+            for (lamp, level) in requested.into_iter().enumerate() {
+                node.lamps[first + lamp] = Lamp { level, seconds: if level == 0 { 0 } else { 7620 } };
+            }
+            levels[first..first + 8].copy_from_slice(&actual);
+            assert_eq!((side.actual_levels)(node), LevelsAnswer { refusal: 0, levels }, "step {step}");
+        }
+    }
+}
+
+// ---- document 01, "Memories": reading in place ----
+fn views_of_the_memories(side: Side) {
+    let (eeprom, external) = ([3; 192], vec![4; EXTERNAL_SIZE + 1]);
+    for (pnum, start, count, refusal) in [
+        (3, 0, 55, 0),
+        (3, 0, 56, 15),
+        (3, 191, 1, 0),
+        (3, 191, 2, 16),
+        (3, 192, 0, 16),
+        (3, 191, 0, 0),
+        (3, usize::MAX, 1, 16),
+        (3, usize::MAX, 56, 15),
+        (4, 0, 54, 0),
+        (4, 0, 55, 15),
+        (4, 0x3FFF, 1, 0),
+        (4, 0x3FFF, 2, 16),
+        (4, 0x4000, 0, 16),
+        (5, 0, 1, 10),
+        (2, usize::MAX, usize::MAX, 10),
+    ] {
+        let view = |eeprom: &[u8], external: &[u8]| (side.view_status)(eeprom, external, pnum, start, count);
+        assert_eq!(view(&eeprom, &external[1..]), refusal, "PNUM {pnum}, {count} bytes from {start} on");
+        assert_eq!(view(&eeprom[1..], &external[1..]), 4);
+        assert_eq!(view(&eeprom, &external), 4);
+    }
+}
+
+// ---- document 01, "Scenes": a scene that one call compiles and runs ----
+const ROOM: usize = 4096;
+
+/// Runs a scene on a board, and compares the whole answer, the memories, and the output: these bytes, then what was there.
+/// Only EEPROM changes, at these bytes.
+#[track_caller]
+fn assert_run(board: &mut Board, book: &[u8], scene: usize, after: Node, eeprom: &[(usize, u8)], output: &[u8]) {
+    let mut end = board.clone();
+    for &(at, byte) in eeprom {
+        end.eeprom[at] = byte;
+    }
+    let mut out = [0xEE; ROOM + 1];
+    let answer = board.run_scene(board.node, book, scene, Lengths::USUAL, &mut out[..ROOM]);
+    assert_eq!(answer, SceneAnswer { refusal: 0, step: 0, node: after });
+    assert_eq!(out[..output.len()], *output);
+    assert!(out[output.len()..].iter().all(|&byte| byte == 0xEE), "a byte after the output changed");
+    assert!(board.eeprom == end.eeprom && board.external == end.external, "memories");
+    assert_eq!(board.response, end.response);
+    board.node = after;
+}
+
+/// The book of the worked example, for the node's own profile.
+fn scene_run_by_one_call(side: Side) {
+    let book = [1, 4, 0, 2, 0, 0, 0x0A, 0, 0, 2, 0x64, 2];
+    let output = [1, 0x13, 1, 0, 2, 5, 0x71, 0x24, 0x0C, 0x71, 0, 0x71, 0x24, 5, 0, 0, 0, 0x0A, 0xE4, 2, 0];
+    let mut b = Board::started(side, 3, 1);
+    let mut after = b.node;
+    after.lamps[0] = Lamp { level: 10, seconds: 0 };
+    after.lamps[2] = Lamp { level: 100, seconds: 120 };
+    assert_run(&mut b, &book, 0, after, &[], &output);
+    // another address and profile; lamp 2 is not there, but in the request
+    let mut b = Board::started(side, 1, 1);
+    (b.node.settings.address, b.node.settings.hwpid) = (239, 0xFFFF);
+    let mut after = b.node;
+    after.lamps[0].level = 10;
+    let output = [1, 0x13, 239, 0, 2, 5, 0xFF, 0xFF, 0x0C, 0x71, 0, 0xFF, 0xFF, 5, 0, 0, 0, 0x0A, 0xE4, 2, 0];
+    assert_run(&mut b, &book, 0, after, &[], &output);
+}
+
+/// Each run starts from the node that the last one left: a raise, the same again, and a lower by more than there is.
+fn scenes_run_one_after_the_other(side: Side) {
+    let book = book_of(&[vec![[1, 0, 60, 0x85]], vec![[2, 0, 70, 0], [2, 1, 1, 1]]]);
+    let mut b = Board::started(side, 2, 10);
+    let entry = |pcmd, last: &[u8]| {
+        let pdata = [&[5 + last.len() as u8, 0x71, pcmd, 0x71, 0x24], last, &[0]].concat();
+        [&[1, 6 + pdata.len() as u8, 1, 0, 2, 5, 0x71, 0x24], &pdata[..]].concat()
+    };
+    for level in [60, 100] {
+        let mut after = b.node;
+        after.lamps[0] = Lamp { level, seconds: 5 };
+        assert_run(&mut b, &book, 0, after, &[], &entry(1, &[1, 0, 0, 0, 0x80 | 60, 0x85]));
+    }
+    let mut after = b.node;
+    after.lamps[0] = Lamp { level: 30, seconds: 0 };
+    assert_run(&mut b, &book, 1, after, &[], &entry(2, &[3, 0, 0, 0, 70, 0x81, 1]));
+}
+
+/// Lamps, RAM and EEPROM; steps on memories join if the target is larger by 1.
+fn scene_of_every_kind_of_step(side: Side) {
+    let steps =
+        [[0, 1, 50, 0], [1, 1, 5, 0x81], [2, 1, 10, 0], [3, 0, 7, 0], [3, 47, 8, 0], [4, 190, 9, 0], [4, 191, 10, 0]];
+    let mut b = Board::started(side, 3, 1);
+    let mut after = b.node;
+    after.lamps[1] = Lamp { level: 45, seconds: 0 };
+    (after.ram[0], after.ram[47]) = (7, 8);
+    let output = [
+        &[1, 60, 1, 0, 2, 5, 0x71, 0x24][..],
+        &[10, 0x71, 0, 0x71, 0x24, 2, 0, 0, 0, 50],
+        &[11, 0x71, 1, 0x71, 0x24, 2, 0, 0, 0, 0x85, 0x81],
+        &[10, 0x71, 2, 0x71, 0x24, 2, 0, 0, 0, 10],
+        &[7, 5, 1, 0x71, 0x24, 0, 7],
+        &[7, 5, 1, 0x71, 0x24, 47, 8],
+        &[8, 3, 1, 0x71, 0x24, 190, 9, 10],
+        &[0],
+    ];
+    assert_run(&mut b, &book_of(&[steps.to_vec()]), 0, after, &[(190, 9), (191, 10)], &output.concat());
+}
+
+/// Steps on one lamp do not join: five entries of ten bytes fill a list. All of them run, in their order.
+fn scene_of_several_requests(side: Side) {
+    let steps = vec![[1, 0, 1, 0]; 64];
+    let entry = [10, 0x71, 1, 0x71, 0x24, 1, 0, 0, 0, 1];
+    let request = |entries| [&[1, 0, 2, 5, 0x71, 0x24], &entry.repeat(entries)[..], &[0]].concat();
+    let output = [&[13], &[57; 12][..], &[47], &request(5).repeat(12), &request(4)].concat();
+    let mut b = Board::started(side, 1, 1);
+    let mut after = b.node;
+    after.lamps[0].level = 64;
+    assert_run(&mut b, &book_of(&[steps]), 0, after, &[], &output);
+}
+
+fn scene_without_steps(side: Side) {
+    let mut b = Board::started(side, 3, 1);
+    b.node.lamps[1] = Lamp { level: 7, seconds: 8 };
+    let node = b.node;
+    assert_run(&mut b, &book_of(&[vec![[0, 0, 1, 0]], vec![]]), 1, node, &[], &[0]);
+}
+
+/// A refused run: the whole answer, and no buffer is written.
+#[track_caller]
+fn assert_not_run(board: &Board, (book, scene): (&[u8], usize), lent: Lengths, room: usize, want: SceneAnswer) {
+    let mut b = board.clone();
+    let mut out = [0xEE; ROOM];
+    assert_eq!(b.run_scene(want.node, book, scene, lent, &mut out[..room]), want);
+    assert!(out.iter().all(|&byte| byte == 0xEE), "output");
+    assert!(b.eeprom == board.eeprom && b.external == board.external && b.response == board.response, "buffers");
+}
+
+/// Each refusal alone, and with every later one.
+fn scenes_that_are_not_run(side: Side) {
+    let mut b = Board::started(side, 3, 1);
+    b.eeprom.push(0);
+    b.external.push(0);
+    let usual = Lengths::USUAL;
+    let good = book_of(&[vec![[0, 0, 10, 0], [4, 5, 6, 0]]]);
+    let bad_step = book_of(&[vec![[0, 0, 10, 0], [4, 192, 6, 0]]]);
+    let malformed = [&bad_step[..], &[0]].concat();
+    let mut broken = b.node;
+    broken.lamps[0].seconds = 1;
+    let refused = |refusal, node| SceneAnswer { refusal, step: 0, node };
+    for lent in [usual, Lengths { eeprom: 193, ..usual }] {
+        for (book, scene, room) in [(&good, 0, ROOM), (&malformed, 1, 0)] {
+            assert_not_run(&b, (book, scene), lent, room, refused(1, broken));
+        }
+    }
+    for lent in [
+        Lengths { eeprom: 191, ..usual },
+        Lengths { eeprom: 193, ..usual },
+        Lengths { external: EXTERNAL_SIZE - 1, ..usual },
+        Lengths { external: EXTERNAL_SIZE + 1, ..usual },
+        Lengths { eeprom: 0, external: 0, ..usual },
+    ] {
+        for (book, scene, room) in [(&good, 0, ROOM), (&malformed, 1, 0)] {
+            assert_not_run(&b, (book, scene), lent, room, refused(4, b.node));
+        }
+    }
+    for room in [ROOM, 0] {
+        for scene in [0, 1] {
+            assert_not_run(&b, (&malformed, scene), usual, room, refused(6, b.node));
+            assert_not_run(&b, (&[], scene), usual, room, refused(6, b.node));
+        }
+        for scene in [1, 16, 256, usize::MAX] {
+            assert_not_run(&b, (&bad_step, scene), usual, room, refused(7, b.node));
+        }
+        assert_not_run(&b, (&[0], 0), usual, room, refused(7, b.node));
+        assert_not_run(&b, (&bad_step, 0), usual, room, SceneAnswer { step: 1, ..refused(82, b.node) });
+    }
+    for room in [0, 1, 100, ROOM - 1] {
+        assert_not_run(&b, (&good, 0), usual, room, refused(9, b.node));
+    }
+}
+
+/// The first bad part of the first bad step, however short the output buffer is. The good steps before it are not executed.
+fn bad_steps_of_a_run(side: Side) {
+    let b = Board::started(side, 3, 1);
+    for number in [0, 1, 63] {
+        for (refusal, step) in [
+            (81, [5, 0, 0, 0]),
+            (82, [0, 32, 101, 0x80]),
+            (82, [3, 48, 0, 1]),
+            (83, [1, 31, 101, 0x80]),
+            (84, [2, 31, 100, 0x80]),
+            (84, [4, 191, 255, 1]),
+        ] {
+            let mut steps = vec![[0, 0, 10, 0]; 64];
+            steps[number] = step;
+            let book = book_of(&[steps]);
+            for room in [ROOM, 0] {
+                let want = SceneAnswer { refusal, step: number as u8, node: b.node };
+                assert_not_run(&b, (&book, 0), Lengths::USUAL, room, want);
+            }
+        }
+    }
 }
 
 // ---- the whole answer of a request ----
@@ -721,10 +1010,13 @@ fn selective_batch_of_memories(side: Side) {
     let list = [7, 3, 1, 0xFF, 0xFF, 191, 3, 7, 5, 1, 0xFF, 0xFF, 48, 5, 8, 4, 3, 0xFF, 0xFF, 0xFF, 0x3F, 4, 0];
     let mut b = Board::started(side, 3, 1);
     let before = b.node;
-    assert_eq!(b.take(2, 0x0B, &selective_pdata(NodeSet::of([2]).with(1, true), &list)), (0, vec![]));
+    assert_eq!(b.take(2, 0x0B, &selective_pdata(NodeSet::from_iter([1, 2]), &list)), (0, vec![]));
     assert_eq!((b.eeprom[191], b.external[0x3FFF], b.node), (3, 4, before));
     let mut b = Board::started(side, 3, 1);
-    assert_eq!(b.frame(&frame_of(1, 2, 0x0B, 0xFFFF, &selective_pdata(NodeSet::of([2]), &list))), (vec![], false));
+    assert_eq!(
+        b.frame(&frame_of(1, 2, 0x0B, 0xFFFF, &selective_pdata(NodeSet::from_iter([2]), &list))),
+        (vec![], false)
+    );
     assert_eq!((b.eeprom[191], b.external[0x3FFF], b.node), (0, 0, before));
 }
 
@@ -742,7 +1034,9 @@ fn not_selected_tests_nothing_further(side: Side) {
         &[10, 0x71, 0, 0xFF, 0xFF, 1, 0, 0, 0, 10, 4, 0],
     ];
     for list in lists {
-        for nodes in [NodeSet::of([]), NodeSet::of([2, 9]), NodeSet::of(2..240), NodeSet::of([0])] {
+        for nodes in
+            [NodeSet::from_iter([]), NodeSet::from_iter([2, 9]), NodeSet::from_iter(2..240), NodeSet::from_iter([0])]
+        {
             assert_not_selected(&node_at(side, 1, &LIT), &selective_pdata(nodes, list));
         }
     }
@@ -762,7 +1056,7 @@ fn selective_batch_without_a_list(side: Side) {
 
 /// The place counts in PData, which has thirty bytes before the list.
 fn assert_broken_selective(side: Side, list: &[u8], reason: u8, place: u8) {
-    for nodes in [NodeSet::of([1]), NodeSet::of(0..240)] {
+    for nodes in [NodeSet::from_iter([1]), NodeSet::from_iter(0..240)] {
         assert_answer(side, [2, 0x0B], 0xFFFF, &selective_pdata(nodes, list), 6, (reason, place));
     }
 }
@@ -800,7 +1094,7 @@ fn selective_lists_at_the_longest_pdata(side: Side) {
 
 /// A wrong HWPID, an unknown PNUM and an unknown PCMD are answered by every node, whatever PData is.
 fn errors_before_the_selection(side: Side) {
-    let [selected, not_selected] = [[1], [2]].map(|nodes| selective_pdata(NodeSet::of(nodes), &[4, 0]));
+    let [selected, not_selected] = [[1], [2]].map(|nodes| selective_pdata(NodeSet::from_iter(nodes), &[4, 0]));
     for pdata in [&selected[..], &not_selected, &[], &[0; 30]] {
         assert_no_reason(side, [2, 0x0B], 0x1234, pdata, 7);
         assert_no_reason(side, [6, 0x0B], 0xFFFF, pdata, 3);
@@ -813,14 +1107,14 @@ fn errors_before_the_selection(side: Side) {
 fn address_0_selects_no_node(side: Side) {
     for address in [1, 8, 239] {
         let b = node_at(side, address, &LIT);
-        assert_not_selected(&b, &selective_pdata(NodeSet::of([0]), &LIST));
-        assert_selected(&b, &NodeSet::of([0, address]).bits);
+        assert_not_selected(&b, &selective_pdata(NodeSet::from_iter([0]), &LIST));
+        assert_selected(&b, &NodeSet::from_iter([0, address]).bits);
     }
 }
 
 /// Entries with PNUM 02 are errors in lists of both kinds, and the entry after them runs.
 fn batches_inside_lists(side: Side) {
-    let all = NodeSet::of(0..240);
+    let all = NodeSet::from_iter(0..240);
     let write = [7, 5, 1, 0xFF, 0xFF, 0, 9, 0]; // a list: RAM byte 0 becomes 9
     let set = [10, 0x71, 0, 0xFF, 0xFF, 2, 0, 0, 0, 20, 0]; // lamp 1 to 20
     let b = Board::started(side, 3, 1);
@@ -845,7 +1139,7 @@ fn batches_inside_lists(side: Side) {
 
 /// Only batch, code check and selective batch are known.
 fn other_os_commands(side: Side) {
-    let selecting = selective_pdata(NodeSet::of([1]), &[0]);
+    let selecting = selective_pdata(NodeSet::from_iter([1]), &[0]);
     for pcmd in (0..=255).filter(|pcmd| ![0x05, 0x0A, 0x0B].contains(pcmd)) {
         for pdata in [&selecting[..], &[0], &[]] {
             assert_no_reason(side, [2, pcmd], 0xFFFF, pdata, 2);
@@ -858,7 +1152,7 @@ fn another_nodes_selective_batch(side: Side) {
     let b = Board::started(side, 3, 1);
     for nadr in [2, 0x0101, 0xFF00, 0] {
         for list in [&LIST[..], &[4, 0], &[]] {
-            let pdata = selective_pdata(NodeSet::of([1]), list);
+            let pdata = selective_pdata(NodeSet::from_iter([1]), list);
             assert_answered(&b, &frame_of(nadr, 2, 0x0B, 0xFFFF, &pdata), &[], RequestAnswer::zeros(b.node));
         }
     }
@@ -900,7 +1194,7 @@ fn compiled_for_chosen_nodes(side: Side) {
         0x0C, 0x71, 0x00, 0xFF, 0xFF, 0x05, 0x00, 0x00, 0x00, 0x0A, 0xE4, 0x02, // set of lamps 0 and 2
         0x00,
     ];
-    assert_chosen(side, &BOOK, NodeSet::of([1, 9]), 0xFFFF, &want);
+    assert_chosen(side, &BOOK, NodeSet::from_iter([1, 9]), 0xFFFF, &want);
 }
 
 /// The HWPID is in the request and in each entry.
@@ -913,12 +1207,12 @@ fn compiled_for_chosen_nodes_of_a_profile(side: Side) {
         7, 5, 1, 0x71, 0x24, 47, 0xAB, //
         0,
     ];
-    assert_chosen(side, &book, NodeSet::of([239]), 0x2471, &want);
+    assert_chosen(side, &book, NodeSet::from_iter([239]), 0x2471, &want);
 }
 
 fn no_request_for_chosen_nodes(side: Side) {
-    assert_chosen(side, &[1, 4, 0, 0], NodeSet::of([1]), 0xFFFF, &[0]);
-    assert_chosen(side, &[1, 4, 0, 0], NodeSet::of(1..240), 0x2471, &[0]);
+    assert_chosen(side, &[1, 4, 0, 0], NodeSet::from_iter([1]), 0xFFFF, &[0]);
+    assert_chosen(side, &[1, 4, 0, 0], NodeSet::from_iter(1..240), 0x2471, &[0]);
 }
 
 /// PData of 20 bytes: an address and nineteen values.
@@ -1003,10 +1297,22 @@ fn assert_refused(side: Side, book: &[u8], scene: usize, nodes: NodeSet, room: u
 }
 
 fn node_sets_of_the_compiler(side: Side) {
-    for nodes in [NodeSet::of([]), NodeSet::of([0]), NodeSet::of([0, 1]), NodeSet::of([0, 239]), NodeSet::of(0..240)] {
+    for nodes in [
+        NodeSet::from_iter([]),
+        NodeSet::from_iter([0]),
+        NodeSet::from_iter([0, 1]),
+        NodeSet::from_iter([0, 239]),
+        NodeSet::from_iter(0..240),
+    ] {
         assert_refused(side, &BOOK, 0, nodes, 4096, 1, 0);
     }
-    for nodes in [NodeSet::of([1]), NodeSet::of([7]), NodeSet::of([8]), NodeSet::of([239]), NodeSet::of(1..240)] {
+    for nodes in [
+        NodeSet::from_iter([1]),
+        NodeSet::from_iter([7]),
+        NodeSet::from_iter([8]),
+        NodeSet::from_iter([239]),
+        NodeSet::from_iter(1..240),
+    ] {
         let front = [&[1, 0x31, 0xFF, 0, 2, 0x0B, 0xFF, 0xFF], &nodes.bits[..]].concat();
         assert_chosen(side, &BOOK, nodes, 0xFFFF, &[&front[..], &LIST].concat());
     }
@@ -1014,11 +1320,11 @@ fn node_sets_of_the_compiler(side: Side) {
 
 /// A call with every fault, of which the first is mended each time.
 fn refusals_for_chosen_nodes(side: Side) {
-    let nodes = NodeSet::of([1, 9]);
+    let nodes = NodeSet::from_iter([1, 9]);
     let bad = book_of(&[vec![[0, 0, 10, 0], [0, 32, 101, 0x80]]]);
     let cut = &bad[..bad.len() - 1];
-    assert_refused(side, cut, 1, NodeSet::of([]), 0, 1, 0);
-    assert_refused(side, cut, 1, NodeSet::of([0, 1]), 0, 1, 0);
+    assert_refused(side, cut, 1, NodeSet::from_iter([]), 0, 1, 0);
+    assert_refused(side, cut, 1, NodeSet::from_iter([0, 1]), 0, 1, 0);
     assert_refused(side, cut, 1, nodes, 0, 6, 0);
     assert_refused(side, &bad, 1, nodes, 0, 7, 0);
     assert_refused(side, &bad, 0, nodes, 0, 82, 1);
@@ -1036,7 +1342,7 @@ fn refusals_for_chosen_nodes(side: Side) {
 fn scene_for_two_of_four_nodes(side: Side) {
     let steps = [[0, 0, 10, 2], [0, 1, 20, 2], [1, 0, 5, 0], [1, 2, 100, 0x85], [4, 7, 0xAB, 0]];
     let mut out = vec![0xEE; 4096];
-    let answer = (side.compile_selected)(&book_of(&[steps.to_vec()]), 0, NodeSet::of([1, 9]), 0x2471, &mut out);
+    let answer = (side.compile_selected)(&book_of(&[steps.to_vec()]), 0, NodeSet::from_iter([1, 9]), 0x2471, &mut out);
     assert_eq!((answer.refusal, out[0]), (0, 2));
     let after = [(15, 0), (20, 120), (100, 5)];
     let requests = [&out[3..3 + out[1] as usize], &out[3 + out[1] as usize..answer.length]];

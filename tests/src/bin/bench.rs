@@ -9,11 +9,12 @@
 //! Then measures ways to compute a checksum against the loop that adds byte by
 //! byte with carries.
 //! `BENCH_BURSTS` sets the number of bursts for each figure.
+use grelfint::raw::{CompileAnswer, Gateway, GatewayAnswer, Node, NodeSet, Receiver};
 use grelfint_tests::board::{code_check_pdata, frame_of, Board, Lengths};
-use grelfint_tests::ffi::{
+use grelfint_tests::boundary::{
     bond_by, bond_count_by, handle_request_by, release_by, send_by, uart_frame_by, uart_receive_by, Bond, BondCount,
-    CompileAnswer, Gateway, GatewayAnswer, HandleRequest, Node, NodeSet, Receiver, Release, Send, UartFrame,
-    UartReceive, BOND, BOND_COUNT, HANDLE_REQUEST, RELEASE, SEND, UART_FRAME, UART_RECEIVE, UNBOND,
+    HandleRequest, Release, Send, UartFrame, UartReceive, BOND, BOND_COUNT, HANDLE_REQUEST, RELEASE, SEND, UART_FRAME,
+    UART_RECEIVE, UNBOND,
 };
 use grelfint_tests::reference::{CodeType, EXTERNAL_SIZE};
 use grelfint_tests::reference_gateway;
@@ -194,7 +195,7 @@ fn batch(entries: u8) -> Vec<u8> {
 
 /// The thirty nodes for which a scene is compiled in the second mode; node 1 is one of them.
 fn thirty_nodes() -> NodeSet {
-    NodeSet::of((1..240).step_by(8))
+    NodeSet::from_iter((1..240).step_by(8))
 }
 
 /// Two lamp entries of twelve and thirteen bytes and the closing zero after the nodes: 56 bytes of PData.
@@ -442,9 +443,12 @@ fn fast_side(bytes: &[u8]) -> u16 {
     u16::from_le_bytes([low, high])
 }
 
+/// A way to compute a checksum, with its name.
+type Checksum = (&'static str, fn(&[u8]) -> u16);
+
 /// Each way to compute the checksum of the same 16,384 bytes, against the first.
 fn compare_checksums(bursts: usize) {
-    const CHECKSUMS: [(&str, fn(&[u8]) -> u16); 4] = [
+    const CHECKSUMS: [Checksum; 4] = [
         ("byte by byte, with carries", byte_by_byte),
         ("plain sums of 64-byte blocks", plain_blocks),
         ("weighted sums of 64-byte blocks", weighted_blocks),
@@ -455,8 +459,8 @@ fn compare_checksums(bursts: usize) {
     for (name, checksum) in CHECKSUMS {
         assert_eq!(checksum(&library.external), CodeType::Handler.checksum(&library.external), "{name}");
     }
-    library.request(library.node, &frame, Lengths::USUAL);
-    assert_eq!(library.response[8], 1, "the library's checksum");
+    let answer = library.request(library.node, &frame, Lengths::USUAL);
+    assert_eq!((answer.refusal, library.response[8]), (0, 1), "the library's checksum");
     let times = time_bursts::<5>(bursts, |program, calls| match CHECKSUMS.get(program) {
         Some((_, checksum)) => time(calls, || {
             black_box(checksum(black_box(&library.external)));
