@@ -43,16 +43,20 @@ int main(void)
     };
     const grelfint_settings settings = {.address = 1, .hwpid = 0x2471, .dpa_value = 7, .lamp_count = 3, .step = 1};
     const bool lp = false; /* an STD network */
-    grelfint_gateway gateway = grelfint_bond(grelfint_gateway_start(lp, 7), 1).gateway;
+    grelfint_bond_answer bonded = grelfint_bond(grelfint_gateway_start(lp, 7), 1);
+    grelfint_node_answer started = grelfint_start(settings);
+    grelfint_gateway gateway = bonded.gateway;
     uint8_t confirmation[GRELFINT_RESPONSE], line[GRELFINT_UART_FRAMED];
 
-    node = grelfint_start(settings).node;
+    if (bonded.refusal != GRELFINT_OK || started.refusal != GRELFINT_OK)
+        return 1;
+    node = started.node;
     for (size_t i = 0; i < 3; i++) {
         grelfint_gateway_answer sent =
             grelfint_send(gateway, requests[i], sizeof requests[i], HOPS, RESPONSE_HOPS, DELAY, now);
 
         if (sent.refusal != GRELFINT_OK)
-            return sent.refusal; /* GRELFINT_REFUSED_FULL: release one and try again */
+            return sent.refusal; /* a real gateway releases one at GRELFINT_REFUSED_FULL and tries again */
         gateway = sent.gateway;
     }
     while (gateway.desk.count > 0) {
@@ -67,7 +71,7 @@ int main(void)
             continue;
         }
         /* 2. The interface is ready, and nothing is left to read: step 6 has read the last response. */
-        /* 3. Send the request. */
+        /* 3. Send the request. Framing is not refused: the line has room for every message. */
         size_t length = grelfint_uart_frame(released.frame, released.frame_length, line, sizeof line).length;
         print("request", released.frame, released.frame_length);
         length = write_line(line, length);
@@ -75,7 +79,7 @@ int main(void)
         print("confirmation", confirmation, released.length);
         /* 5. Wait till the request has reached the node, and the node has prepared its response. */
         now += (confirmation[GRELFINT_AT_HOPS] + 1u) * confirmation[GRELFINT_AT_TIMESLOT] * GRELFINT_SLOT_MS + DELAY;
-        /* 6. Read the response, which has travelled back. A broadcast has none. */
+        /* 6. Read the response, which has travelled back. A broadcast has none. Every response has a timeslot. */
         if (length > 0) {
             uint8_t slot = grelfint_timeslot(length - GRELFINT_RESPONSE_HEADER, lp).slot;
 

@@ -70,6 +70,8 @@ static void handle(const uint8_t *frame, size_t length)
         check(answer.refusal);
     if (answer.reason != GRELFINT_REASON_NONE)
         printf("    broken list: %s, at byte %u of PData\n", reasons[answer.reason], answer.place);
+    if (answer.load) /* firmware would write the checked code to its flash */
+        printf("    load the code\n");
     if (answer.length > 0) /* firmware would transmit the response */
         printf("    response: %zu bytes, ErrN %u\n", answer.length, response[GRELFINT_AT_ERRN]);
 }

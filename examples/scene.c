@@ -12,7 +12,7 @@
 static const grelfint_settings settings = {.address = 1, .hwpid = 0x2471, .dpa_value = 7, .lamp_count = 3, .step = 25};
 static const bool lp = false; /* an STD network */
 
-static uint8_t book[GRELFINT_BOOK + 1]; /* one more than the longest book, to see that the input is longer */
+static uint8_t book[GRELFINT_BOOK + 1]; /* one more than the longest book, so that a longer input is noticed */
 static uint8_t out[GRELFINT_COMPILED];
 static uint8_t eeprom[GRELFINT_EEPROM], external[GRELFINT_EXTERNAL], response[GRELFINT_RESPONSE];
 

@@ -27,7 +27,7 @@ static void print(const grelfint_receive_answer *answer)
 
 /* A call stops after each frame and each drop, so a part is handed in until it
  * is used up. False if the record is broken (a refused call takes nothing) or if
- * the lines cannot be written. */
+ * the output cannot be written. */
 static bool receive(grelfint_receiver *receiver, const uint8_t *part, size_t length)
 {
     while (length > 0) {

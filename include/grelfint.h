@@ -12,25 +12,29 @@
  *     if (answer.refusal != GRELFINT_OK)
  *         ..
  *
- * There are few exceptions: a refused grelfint_start has no node to return, a
- * scene that is refused for a step comes with the number of that step, two
- * calls return the refusal itself, and two that cannot be refused a record.
+ * Four calls differ. grelfint_tick_in_place and grelfint_view_status return the
+ * refusal itself, and the first of them changes a node in place.
+ * grelfint_uart_receiver and grelfint_gateway_start cannot be refused and
+ * return a record alone. A refused grelfint_start returns a node of zeros, and
+ * a scene that is refused for a step comes with the number of that step.
  *
  * A call accepts every value of its parameters. Only pointers have rules, which
  * nothing checks:
  *
- * - A pointer to bytes is followed by the number of bytes. It must not be null,
- *   even if that number is 0; the address of any byte will do.
+ * - A pointer to bytes is followed by their number, and has to point to that
+ *   many. It must not be null, even if the number is 0; the address of any byte
+ *   will do. Neither may the node of grelfint_tick_in_place be null.
  * - A buffer that a call writes must not overlap another one of the same call:
  *   a request and its response need two buffers.
  *
- * No call allocates, blocks, keeps a pointer or has global data. Calls may run
+ * No call allocates, blocks, keeps a pointer or uses global data. Calls may run
  * at the same time in several threads, as long as they share no buffer that one
  * of them writes. Of the C library they need memcpy alone.
  *
- * The stack that a call takes, in bytes, by the machine code of this version.
- * The arguments and the answer are the caller's: a node has 184 bytes, a
- * gateway 600, and the largest answer 688 (grelfint_release).
+ * The stack that a call takes, in bytes, counted in the machine code of this
+ * version: with its return address and all that it calls, but for memcpy. The
+ * arguments and the answer are the caller's: a node has 184 bytes, a gateway
+ * 600, and the largest answer 688 (grelfint_release).
  *
  *     start                        59      confirm             8
  *     tick                        468      uart_receiver       8
@@ -57,7 +61,8 @@
 #include <stddef.h>
 #include <stdint.h>
 
-/* The second number grows with every change of a record, a call or a rule. */
+/* The second number is that of the last change request that is in it. Until the
+ * first number is 1, a change may add fields to records. */
 #define GRELFINT_VERSION "0.6.0"
 #define GRELFINT_VERSION_MAJOR 0
 #define GRELFINT_VERSION_MINOR 6
@@ -104,7 +109,7 @@ extern "C" {
 #define GRELFINT_REFUSED_BOOK 6     /* the bytes are not a scene book */
 #define GRELFINT_REFUSED_SCENE 7    /* the book has no scene of that number */
 
-/* From 81 on: the first bad step of the scene, whose number, from 0, is in the
+/* 81 to 84: the first bad step of the scene, whose number, from 0, is in the
  * answer. If several of its fields are bad, it is the first of them. */
 #define GRELFINT_REFUSED_STEP_KIND 81   /* over 4 */
 #define GRELFINT_REFUSED_STEP_TARGET 82 /* over 31 for a lamp, 47 for RAM, 191
@@ -120,7 +125,8 @@ extern "C" {
 #define GRELFINT_REFUSED_FRAMED 11  /* the framed message does not fit */
 #define GRELFINT_REFUSED_ADDRESS 12 /* at a gateway: an address that is not 1 to
                                      * 239; already bonded, to add; not bonded,
-                                     * to remove or to send to */
+                                     * to remove or to send to (a broadcast
+                                     * needs no bond) */
 #define GRELFINT_REFUSED_FULL 13    /* eight requests wait */
 #define GRELFINT_REFUSED_TIME 14    /* a time before the last one given, or over
                                      * GRELFINT_TIME_MAX */
@@ -130,13 +136,13 @@ extern "C" {
 /* ==== Frames ====
  *
  * A request is NADR (2 bytes), PNUM, PCMD, HWPID (2 bytes) and PData.
- * A response has the same fields, with the node's address and HWPID and with
- * GRELFINT_PCMD_RESPONSE set, then ErrN, DpaValue and data.
+ * A response has the same header, with the node's address and HWPID and with
+ * GRELFINT_PCMD_RESPONSE set, then ErrN, DpaValue and data. With an error it
+ * has no data.
  * A confirmation is the first six bytes of a request, 0xFF in the place of
  * ErrN, DpaValue, hops, timeslot and response hops.
  *
- * A name without another word is a size in bytes: of the longest request, the
- * longest response, a memory, and so on. */
+ * Sizes are in bytes; PDATA, FRAME and RESPONSE are the longest ones. */
 #define GRELFINT_FRAME_HEADER 6
 #define GRELFINT_PDATA 56
 #define GRELFINT_FRAME 62
@@ -169,7 +175,8 @@ extern "C" {
 
 /* The requests, with their PData and the data of the response. */
 #define GRELFINT_PCMD_LIGHTS_SET 0x00   /* lamps and powers, see below; the
-                                         * actual level before, of each lamp */
+                                         * actual level of each of these lamps
+                                         * before, 0 if there is no such lamp */
 #define GRELFINT_PCMD_LIGHTS_RAISE 0x01 /* the same */
 #define GRELFINT_PCMD_LIGHTS_LOWER 0x02 /* the same */
 #define GRELFINT_PCMD_LIGHTS_ENUMERATE 0x3E /* none; the number of lamps */
@@ -183,8 +190,11 @@ extern "C" {
 #define GRELFINT_PCMD_OS_SELECTIVE_BATCH 0x0B /* a node set, a list; none */
 #define GRELFINT_PCMD_OS_CODE_CHECK 0x0A /* flags (bit 0 to load the code, bit 1
                                           * for a plug-in), then 2 bytes each:
-                                          * address in external memory, length,
-                                          * checksum; 1 if it matches, else 0 */
+                                          * address in external memory; length,
+                                          * a multiple of 64, or of 20 for a
+                                          * plug-in; checksum (Fletcher-16 from
+                                          * 1, or from 3 for a plug-in). 1 if it
+                                          * matches, else 0 */
 #define GRELFINT_PCMD_RESPONSE 0x80      /* set in the PCMD of a response */
 
 /* ErrN: HWPID is tested first, then PNUM, PCMD and what the peripheral tests. A
@@ -194,18 +204,19 @@ extern "C" {
 #define GRELFINT_ERRN_PCMD 2     /* unknown PCMD */
 #define GRELFINT_ERRN_PNUM 3     /* unknown PNUM */
 #define GRELFINT_ERRN_ADDR 4     /* outside the memory */
-#define GRELFINT_ERRN_DATA_LEN 5 /* length of PData */
-#define GRELFINT_ERRN_DATA 6     /* content of PData */
+#define GRELFINT_ERRN_DATA_LEN 5 /* length of PData, or too long a block */
+#define GRELFINT_ERRN_DATA 6     /* content; for lamps also length of PData */
 #define GRELFINT_ERRN_HWPID 7    /* another profile */
 
 /* The list of a batch: entries and a closing zero byte. An entry is its length
  * (which counts itself), PNUM, PCMD, HWPID (2 bytes) and PData. If the list can
  * be read, the batch has ErrN 0 and its entries run in order. An entry with an
- * error changes nothing and does not stop the others. OS requests are not for
- * lists: they are such an error. */
+ * error changes nothing and does not stop the others; every OS request in a
+ * list is such an error. */
 #define GRELFINT_ENTRY_HEADER 5
 
-/* Why a list cannot be read: the first fault from its start. Nothing runs. */
+/* Why a list cannot be read: the first fault from its start. Nothing runs. (A
+ * list without any byte is ErrN 5, without a reason.) */
 #define GRELFINT_REASON_NONE 0
 #define GRELFINT_REASON_SHORT 1    /* a length of 1 to 4 */
 #define GRELFINT_REASON_PAST_END 2 /* an entry that reaches past the end */
@@ -215,7 +226,7 @@ extern "C" {
 /* ==== The node ==== */
 
 #define GRELFINT_LAMPS 32 /* the most lamps of a node */
-#define GRELFINT_RAM 48
+#define GRELFINT_RAM 48   /* sizes of the memories, in bytes */
 #define GRELFINT_EEPROM 192
 #define GRELFINT_EXTERNAL 16384
 #define GRELFINT_RAM_BLOCK 48 /* the most bytes of one read or write */
@@ -223,9 +234,11 @@ extern "C" {
 #define GRELFINT_EXTERNAL_BLOCK 54
 
 /* PData of set, raise and lower: a bitmap of lamps (lamp 0 is bit 0 of byte 0),
- * and for each of them a power, followed by a time if POWER_TIMED is set. A
- * level without a time ends a running timer. KEEP leaves level and timer, or
- * with a time starts it anew. Lamps that the node does not have are ignored. */
+ * and for each of them, the lowest first, a power, followed by a time if
+ * POWER_TIMED is set. Raise and lower count from the requested level, up to 100
+ * and down to 0. A level without a time ends a running timer, and at level 0
+ * none runs. KEEP leaves level and timer, or with a time starts it anew. Powers
+ * of lamps that the node does not have are tested, but change nothing. */
 #define GRELFINT_BITMAP 4
 #define GRELFINT_LEVEL_MAX 100     /* powers are 0 to 100, */
 #define GRELFINT_POWER_KEEP 127    /* or this; others are errors */
@@ -342,17 +355,19 @@ grelfint_levels_answer grelfint_actual_levels(grelfint_node node);
  *
  * Answer:   length of the response; load; addressed; reason and place; node
  *           afterwards. An error of the request is no refusal: the response
- *           has it in response[GRELFINT_AT_ERRN], and nothing is changed. There
- *           is no response (length 0) to a broadcast, to a frame for another
- *           node, and to a selective batch whose set does not name this node.
+ *           has it in response[GRELFINT_AT_ERRN], and nothing is changed.
+ *           There is no response (length 0) to a broadcast, to a frame for
+ *           another node, and to a selective batch whose set does not name this
+ *           node (its HWPID and the length of its PData are tested first).
  * Refusals: NODE, FRAME, RESPONSE, MEMORY.
  * Written:  `eeprom` and `external` as the request asks; the first `length`
  *           bytes of `response`.
  *
+ *     node = answer.node;
  *     if (answer.length > 0)
  *         transmit(response, answer.length);
  *     if (answer.load)
- *         load the code that was checked; */
+ *         load_code(); */
 GRELFINT_MUST_USE GRELFINT_NONNULL
 grelfint_request_answer grelfint_handle_request(
     grelfint_node node,
@@ -366,6 +381,7 @@ grelfint_request_answer grelfint_handle_request(
  * command    GRELFINT_FRC_ON: is the lamp's actual level not 0, or its bit in
  *            `stuck` set? GRELFINT_FRC_ALARM: is its bit in `alarm` set?
  * user_data  GRELFINT_PNUM_LIGHTS, then the lamp in the low five bits of a byte
+ *            (further bytes are ignored)
  * stuck, alarm
  *            of the hardware: bit i belongs to lamp i
  *
@@ -381,6 +397,8 @@ grelfint_frc_answer grelfint_frc(
 /* Tests whether a read request for a part of EEPROM or external memory would
  * succeed, so that the part can be read without a frame. No byte is read.
  *
+ * eeprom, external
+ *           both memories, whichever is asked for
  * pnum      GRELFINT_PNUM_EEPROM or GRELFINT_PNUM_EXTERNAL
  * start, count
  *           the part: `count` bytes from memory[start] on
@@ -396,17 +414,18 @@ uint8_t grelfint_view_status(
 /* ==== Scenes ====
  *
  * A book is the number of its scenes (1 byte), a location for each, and the
- * steps of all scenes in order. A location is the offset of the first step in
- * the book (2 bytes) and the number of steps (1 byte). A step is kind, target
- * (a lamp, or an address in a memory), value, and a time byte or 0. A step for
- * a lamp that the node does not have changes nothing. */
+ * steps of all scenes in order, with nothing between or after them. A location
+ * is the offset of the first step in the book (2 bytes) and the number of steps
+ * (1 byte). A step is kind, target (a lamp, or an address in a memory), value,
+ * and a time byte or 0. A lamp's step without a time ends its timer, and a step
+ * for a lamp that the node does not have changes nothing. */
 #define GRELFINT_SCENES 16 /* the most scenes of a book */
 #define GRELFINT_STEPS 64  /* the most steps of a scene */
 #define GRELFINT_BOOK 4145 /* the longest book */
 #define GRELFINT_BOOK_LOCATION 3
 #define GRELFINT_BOOK_STEP 4
 #define GRELFINT_COMPILED 4096 /* enough for every compiled scene */
-#define GRELFINT_NODE_SET 30
+#define GRELFINT_NODE_SET 30   /* bytes of a set of nodes */
 
 #define GRELFINT_KIND_SET 0    /* a lamp's level becomes the value */
 #define GRELFINT_KIND_RAISE 1  /* it goes up by the value, to 100 at most */
@@ -420,13 +439,15 @@ typedef struct grelfint_compile_answer {
     size_t length; /* bytes of the output */
 } grelfint_compile_answer;
 
-/* A set of nodes, 1 to 239. To name node a: set.bits[a / 8] |= 1 << a % 8; */
+/* A set of nodes, 1 to 239. To name node a in a set that starts as zeros:
+ *     set.bits[a / 8] |= 1 << a % 8; */
 typedef struct grelfint_node_set {
     uint8_t bits[GRELFINT_NODE_SET];
 } grelfint_node_set;
 
 /* Compiles a scene into requests to one node or to all nodes. A node that
- * handles them in order ends as if it had done the steps one by one.
+ * handles them in order, with no tick and no other request between them, ends
+ * as if it had done the steps one by one.
  *
  * book      the scene book
  * scene     number of the scene, from 0
@@ -513,10 +534,11 @@ grelfint_slot_answer grelfint_timeslot(size_t pdata_length, bool lp);
  *            from the gateway to the node, and back
  * request_length, response_length
  *            bytes after the header of the request and of the response
- * delay      that the node needs to answer, in ms
+ * delay      what the node needs to prepare its response, in ms
  * broadcast  the response adds no time, but its length is still tested
  *
- * Answer:   milliseconds.
+ * Answer:   milliseconds: (hops + 1) slots of the request, the delay, and
+ *           (response_hops + 1) slots of the response.
  * Refusals: PDATA (either length). */
 GRELFINT_MUST_USE
 grelfint_send_answer grelfint_earliest_send(
@@ -526,12 +548,14 @@ grelfint_send_answer grelfint_earliest_send(
 /* Writes the confirmation that a gateway gives for a request.
  *
  * frame     the request; NADR is not tested
+ * dpa_value, hops, response_hops
+ *           written as they are; for a broadcast 0 response hops
  * out       room of at least GRELFINT_RESPONSE bytes, as for a response
  *
  * Answer:   length: GRELFINT_CONFIRMATION.
  * Refusals: FRAME, RESPONSE.
- * Written:  the first `length` bytes of `out`. For a broadcast the response
- *           hops are written as 0. */
+ * Written:  the first `length` bytes of `out`. The timeslot is that of the
+ *           request's PData. */
 GRELFINT_MUST_USE GRELFINT_NONNULL
 grelfint_length_answer grelfint_confirm(
     const uint8_t *frame, size_t frame_length,
@@ -631,12 +655,12 @@ grelfint_length_answer grelfint_uart_frame(
  * A gateway keeps the bonds of its nodes, and a desk of requests on their way
  * to the network. Times are in ms from any moment that the caller chooses, and
  * never go back. */
-#define GRELFINT_BONDS 32
-#define GRELFINT_DESK 8 /* the most requests that wait */
+#define GRELFINT_BONDS 32 /* bytes of the bitmap of bonds */
+#define GRELFINT_DESK 8   /* the most requests that wait */
 #define GRELFINT_NETWORK_STD 0
 #define GRELFINT_NETWORK_STD_LP 1
-#define GRELFINT_TIME_MAX UINT64_C(0x10000000000) /* 2^40 ms, 34 years */
-#define GRELFINT_WAIT_MAX 116735 /* the longest wait for a release, in ms */
+#define GRELFINT_TIME_MAX UINT64_C(0x10000000000) /* 2^40 ms, almost 35 years */
+#define GRELFINT_WAIT_MAX 116735 /* from a release to `next`, at most, in ms */
 
 /* A request that waits. */
 typedef struct grelfint_waiting {
@@ -765,9 +789,10 @@ grelfint_gateway_answer grelfint_send(
     const uint8_t *frame, size_t frame_length,
     uint8_t hops, uint8_t response_hops, uint16_t delay, uint64_t time);
 
-/* Releases the oldest request that waits, if the mesh is free: not before the
- * last release plus grelfint_earliest_send of that request with the longest
- * response. The first request may be released at any time.
+/* Releases the oldest request that waits, if the mesh is free. It is free from
+ * grelfint_earliest_send after the last release on, computed for the request
+ * released then and a response of 56 bytes of data. The first request of a
+ * gateway may be released at any time.
  *
  * time      the present, in ms
  * out       room for the confirmation, at least GRELFINT_RESPONSE bytes, even
@@ -777,7 +802,11 @@ grelfint_gateway_answer grelfint_send(
  *           gateway. Too early or with none waiting, `released` is false and
  *           only the time is recorded; gateway.desk.next is the earliest time.
  * Refusals: NODE, RESPONSE, TIME.
- * Written:  the first `length` bytes of `out`, as by grelfint_confirm. */
+ * Written:  the first `length` bytes of `out`, as by grelfint_confirm.
+ *
+ *     gateway = answer.gateway;
+ *     if (answer.released)
+ *         transmit(answer.frame, answer.frame_length); */
 GRELFINT_MUST_USE GRELFINT_NONNULL
 grelfint_release_answer grelfint_release(
     grelfint_gateway gateway, uint64_t time,

@@ -666,7 +666,6 @@ static void scenes(void)
     check("no room", grelfint_compile_default(book, sizeof book, 0, 1, out, 4095).refusal == 9);
 }
 
-/* Compiles for these nodes; refused, nothing is written. */
 /* The levels to drive, for each dimming step: the next multiple from 1 up, and
  * the level itself at 100. Lamps from the lamp count on have none. */
 static void levels(void)
@@ -689,6 +688,7 @@ static void levels(void)
     }
 }
 
+/* Compiles for these nodes; refused, nothing is written. */
 static void chosen_refused(const char *name, const uint8_t *book, size_t book_length, size_t scene,
                            grelfint_node_set nodes, size_t room, uint8_t refusal)
 {
