@@ -112,12 +112,9 @@ fn main() -> Result<(), Box<dyn Error>> {
     }
     println!("EEPROM byte 5 is {:02X}", board.eeprom[5]);
 
-    // The same in one call, and a scene with a bad step.
-    for level in [80, 101] {
-        match board.node.run_scene(&book(level), 0, &mut board.eeprom, &mut board.external, &mut out) {
-            Ok(()) => board.print("scene", "run")?,
-            Err(refused) => board.print("bad scene", &format!("refused: {refused}"))?,
-        }
+    // A scene with a bad step has no requests.
+    if let Err(refused) = compile(&book(101), 0, ADDRESS, HWPID, &mut out) {
+        board.print("bad scene", &format!("refused: {refused}"))?;
     }
     Ok(())
 }

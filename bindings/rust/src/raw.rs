@@ -174,19 +174,6 @@ pub struct CompileAnswer {
     pub length: usize,
 }
 
-/// Of `run_scene`.
-#[repr(C)]
-#[must_use = "the answer holds the node afterwards"]
-#[derive(Clone, Copy, Debug, PartialEq, Eq)]
-pub struct SceneAnswer {
-    /// 0, or the refusal.
-    pub refusal: u8,
-    /// The first bad step, with refusals 81 to 84.
-    pub step: u8,
-    /// Afterwards.
-    pub node: Node,
-}
-
 // ---- serial line ----
 /// A receiver on the serial line, from [`Receiver::at_gateway`] or
 /// [`Receiver::at_node`]. A caller stores it between calls and need not look
@@ -444,18 +431,6 @@ extern "C" {
         out: *mut u8,
         out_length: usize,
     ) -> CompileAnswer;
-    pub fn grelfint_run_scene(
-        node: Node,
-        book: *const u8,
-        book_length: usize,
-        scene: usize,
-        eeprom: *mut u8,
-        eeprom_length: usize,
-        external: *mut u8,
-        external_length: usize,
-        out: *mut u8,
-        out_length: usize,
-    ) -> SceneAnswer;
     pub fn grelfint_gateway_start(lp: bool, dpa_value: u8) -> Gateway;
     pub fn grelfint_bond(gateway: Gateway, address: u16) -> BondAnswer;
     pub fn grelfint_unbond(gateway: Gateway, address: u16) -> BondAnswer;
@@ -582,31 +557,6 @@ pub fn compile_selected(book: &[u8], scene: usize, nodes: NodeSet, hwpid: u16, o
 /// `grelfint_compile_selected_default`.
 pub fn compile_selected_default(book: &[u8], scene: usize, nodes: NodeSet, out: &mut [u8]) -> CompileAnswer {
     unsafe { grelfint_compile_selected_default(book.as_ptr(), book.len(), scene, nodes, out.as_mut_ptr(), out.len()) }
-}
-
-/// `grelfint_run_scene`.
-pub fn run_scene(
-    node: Node,
-    book: &[u8],
-    scene: usize,
-    eeprom: &mut [u8],
-    external: &mut [u8],
-    out: &mut [u8],
-) -> SceneAnswer {
-    unsafe {
-        grelfint_run_scene(
-            node,
-            book.as_ptr(),
-            book.len(),
-            scene,
-            eeprom.as_mut_ptr(),
-            eeprom.len(),
-            external.as_mut_ptr(),
-            external.len(),
-            out.as_mut_ptr(),
-            out.len(),
-        )
-    }
 }
 
 /// `grelfint_gateway_start`.
