@@ -137,7 +137,7 @@ pub struct LengthAnswer {
 pub struct SlotAnswer {
     /// 0, or the refusal.
     pub refusal: u8,
-    /// In units of 10 ms.
+    /// In units of [`SLOT_MS`](crate::SLOT_MS).
     pub slot: u8,
 }
 
