@@ -31,7 +31,7 @@ impl Board {
         let mut reply = match handled.response.map(|response| response.data()) {
             Some(Ok(data)) => format!("data {data:?}"),
             Some(Err(error)) => format!("error: {error}"),
-            None if handled.addressed => "carried out, no response".to_string(),
+            None if handled.addressed => "no response".to_string(),
             None => "for another node".to_string(),
         };
         if let Some(fault) = handled.fault {

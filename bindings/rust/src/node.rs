@@ -58,8 +58,9 @@ pub struct Handled<'a> {
     /// To be sent; none for a broadcast, for a frame to another node, and for a
     /// selective batch whose node set does not name this node.
     pub response: Option<Response<'a>>,
-    /// NADR is this node's address or 0x00FF. A broadcast that was carried out and
-    /// a frame for another node both have no response; this separates them.
+    /// NADR is this node's address or the broadcast address. It tells a broadcast
+    /// from a frame for another node, which both have no response. The request may
+    /// still have an error, or be a selective batch that does not name this node.
     pub addressed: bool,
     /// A code check matched and asked to load the code.
     pub load: bool,

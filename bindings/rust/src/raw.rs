@@ -90,7 +90,9 @@ pub struct RequestAnswer {
     pub length: usize,
     /// A code check matched and asked to load the code.
     pub load: bool,
-    /// Not refused, and NADR is this node's address or 0x00FF.
+    /// Not refused, and NADR is this node's address or the broadcast address. The
+    /// request may still have an error, or be a selective batch that does not name
+    /// this node.
     pub addressed: bool,
     /// Why the list of a batch cannot be read, or 0.
     pub reason: u8,
