@@ -3,8 +3,8 @@
 //! it leaves of a node, is put into the same records again.
 use grelfint::node::Response;
 use grelfint::raw::{
-    CompileAnswer, FrcAnswer, LengthAnswer, LevelsAnswer, Node, NodeAnswer, NodeSet, RequestAnswer, SceneAnswer,
-    SendAnswer, Settings, SlotAnswer,
+    CompileAnswer, FrcAnswer, LengthAnswer, LevelsAnswer, Node, NodeAnswer, NodeSet, RequestAnswer, SendAnswer,
+    Settings, SlotAnswer,
 };
 use grelfint::scene::{self, Compiled};
 use grelfint::timing::{self, Network, Route};
@@ -137,14 +137,7 @@ pub fn earliest_send(
     }
 }
 
-/// Refusal and step; exactly a bad step has one.
-fn numbers_of(refused: SceneRefusal) -> (u8, u8) {
-    let refusal = refused.refusal.into();
-    assert_eq!(refused.step.is_some(), (81..=84).contains(&refusal), "{refused:?}");
-    (refusal, refused.step.unwrap_or(0))
-}
-
-/// The requests of a compiled scene are those of its bytes.
+/// The requests of a compiled scene are those of its bytes. A refusal has a step exactly if it is for a bad step.
 fn compiled(result: Result<Compiled, SceneRefusal>, buffer: *const u8) -> CompileAnswer {
     match result {
         Ok(compiled) => {
@@ -157,8 +150,9 @@ fn compiled(result: Result<Compiled, SceneRefusal>, buffer: *const u8) -> Compil
             CompileAnswer { refusal: 0, step: 0, length: bytes.len() }
         }
         Err(refused) => {
-            let (refusal, step) = numbers_of(refused);
-            CompileAnswer { refusal, step, length: 0 }
+            let refusal = refused.refusal.into();
+            assert_eq!(refused.step.is_some(), (81..=84).contains(&refusal), "{refused:?}");
+            CompileAnswer { refusal, step: refused.step.unwrap_or(0), length: 0 }
         }
     }
 }
@@ -181,19 +175,4 @@ pub fn compile_selected(book: &[u8], scene: usize, nodes: NodeSet, hwpid: u16, o
 pub fn compile_selected_default(book: &[u8], scene: usize, nodes: NodeSet, out: &mut [u8]) -> CompileAnswer {
     let buffer = out.as_ptr();
     compiled(scene::compile_selected_default(book, scene, &nodes, out), buffer)
-}
-
-pub fn run_scene(
-    mut node: Node,
-    book: &[u8],
-    scene: usize,
-    eeprom: &mut [u8],
-    external: &mut [u8],
-    out: &mut [u8],
-) -> SceneAnswer {
-    let (refusal, step) = match node.run_scene(book, scene, eeprom, external, out) {
-        Ok(()) => (0, 0),
-        Err(refused) => numbers_of(refused),
-    };
-    SceneAnswer { refusal, step, node }
 }

@@ -3,7 +3,7 @@
 //! from steps.
 use crate::reference::{CodeType, Parts, EEPROM_SIZE, EXTERNAL_SIZE};
 use crate::sides::Side;
-use grelfint::raw::{Node, NodeSet, RequestAnswer, SceneAnswer, Settings};
+use grelfint::raw::{Node, NodeSet, RequestAnswer, Settings};
 
 #[derive(Clone)]
 pub struct Board {
@@ -46,12 +46,6 @@ impl Board {
             &mut self.external[..lent.external],
             &mut self.response[..lent.response],
         )
-    }
-
-    /// The call itself; the board's node is not updated.
-    pub fn run_scene(&mut self, node: Node, book: &[u8], scene: usize, lent: Lengths, out: &mut [u8]) -> SceneAnswer {
-        let (eeprom, external) = (&mut self.eeprom[..lent.eeprom], &mut self.external[..lent.external]);
-        (self.side.run_scene)(node, book, scene, eeprom, external, out)
     }
 
     /// The answer and the response bytes of a frame for this node or for all nodes.

@@ -2,8 +2,8 @@
 //! document 02, implemented as plainly as possible, without regard to speed.
 //! Headings name document 01's sections.
 use grelfint::raw::{
-    CompileAnswer, FrcAnswer, Lamp, LengthAnswer, LevelsAnswer, Node, NodeAnswer, NodeSet, RequestAnswer, SceneAnswer,
-    SendAnswer, Settings, SlotAnswer,
+    CompileAnswer, FrcAnswer, Lamp, LengthAnswer, LevelsAnswer, Node, NodeAnswer, NodeSet, RequestAnswer, SendAnswer,
+    Settings, SlotAnswer,
 };
 
 // ---- Frames: ErrN ----
@@ -916,33 +916,6 @@ pub fn compile_default(book: &[u8], scene: usize, address: u16, out: &mut [u8]) 
 
 pub fn compile_selected_default(book: &[u8], scene: usize, nodes: NodeSet, out: &mut [u8]) -> CompileAnswer {
     compile_selected(book, scene, nodes, 0xFFFF, out)
-}
-
-/// Compiles a scene for the node's own address and profile, and leaves the node and the memories as the step machine
-/// does: a node that handles the requests ends in the same state, which `sessions.rs` checks.
-pub fn run_scene(
-    node: Node,
-    book: &[u8],
-    scene: usize,
-    eeprom: &mut [u8],
-    external: &mut [u8],
-    out: &mut [u8],
-) -> SceneAnswer {
-    if !node_rule(&node) {
-        return SceneAnswer { refusal: 1, step: 0, node };
-    }
-    if eeprom.len() != EEPROM_SIZE || external.len() != EXTERNAL_SIZE {
-        return SceneAnswer { refusal: 4, step: 0, node };
-    }
-    let CompileAnswer { refusal, step, .. } = compile(book, scene, node.settings.address, node.settings.hwpid, out);
-    if refusal != 0 {
-        return SceneAnswer { refusal, step, node };
-    }
-    let mut parts = Parts { node, eeprom, external };
-    for &step in &read_book(book).expect("compiled")[scene] {
-        do_step(&mut parts, step);
-    }
-    SceneAnswer { refusal: 0, step: 0, node: parts.node }
 }
 
 /// What `sceneshow` prints for a book.

@@ -30,9 +30,6 @@ pub struct Seen {
     pub at_limits: Counts<AtLimit>,
     /// Refusals of `actual_levels`.
     pub levels: Counts<u8>,
-    /// Refusals of `run_scene`.
-    pub runs: Counts<u8>,
-    pub run_cases: Counts<Run>,
     pub takers: Counts<Taker>,
 }
 
@@ -564,38 +561,6 @@ impl Compiled {
     }
 }
 
-/// A call of `run_scene`, by its refusal and by what a later refusal would be for.
-#[derive(PartialEq, Eq, PartialOrd, Ord, Debug)]
-pub struct Run {
-    pub refusal: u8,
-    /// Whether EEPROM and external memory have their sizes.
-    pub sizes: [bool; 2],
-    /// The output buffer is too short.
-    pub short: bool,
-}
-
-/// The refusals of `run_scene`, and 0.
-pub const RUN_REFUSALS: [u8; 10] = [0, 1, 4, 6, 7, 81, 82, 83, 84, 9];
-
-impl Run {
-    pub fn every() -> impl Iterator<Item = Run> {
-        let of = |refusal| {
-            let sizes = match refusal {
-                1 => &[[true, true], [false, true], [true, false]][..],
-                4 => &[[false, true], [true, false], [false, false]],
-                _ => &[[true, true]],
-            };
-            sizes.iter().flat_map(move |&sizes| EITHER.map(|short| Run { refusal, sizes, short }))
-        };
-        let all = RUN_REFUSALS.into_iter().flat_map(of);
-        all.filter(|run| match run.refusal {
-            0 => !run.short,
-            9 => run.short,
-            _ => true,
-        })
-    }
-}
-
 /// A limit of the compiler at which a scene was divided or not.
 #[derive(Clone, Copy, PartialEq, Eq, PartialOrd, Ord, Debug)]
 pub struct AtLimit {
@@ -686,11 +651,6 @@ impl Seen {
         if let Some(nodes) = nodes {
             self.compiled_sets.add(SetKind::of(&nodes.bits));
         }
-    }
-
-    pub fn run(&mut self, case: Run) {
-        self.runs.add(case.refusal);
-        self.run_cases.add(case);
     }
 
     /// Counts the limits that the lists of a compiled scene meet.

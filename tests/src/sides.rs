@@ -23,7 +23,6 @@ pub struct Side {
     pub compile_default: fn(&[u8], usize, u16, &mut [u8]) -> CompileAnswer,
     pub compile_selected: fn(&[u8], usize, NodeSet, u16, &mut [u8]) -> CompileAnswer,
     pub compile_selected_default: fn(&[u8], usize, NodeSet, &mut [u8]) -> CompileAnswer,
-    pub run_scene: fn(Node, &[u8], usize, &mut [u8], &mut [u8], &mut [u8]) -> SceneAnswer,
 }
 
 macro_rules! side_of {
@@ -44,7 +43,6 @@ macro_rules! side_of {
             compile_default: $module::compile_default,
             compile_selected: $module::compile_selected,
             compile_selected_default: $module::compile_selected_default,
-            run_scene: $module::run_scene,
         }
     };
 }

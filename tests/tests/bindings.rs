@@ -1,8 +1,15 @@
-//! What the bindings add to the C interface: enums for its numbers, and node
-//! sets. Their calls are tested with those of the library, as one more side.
+//! What the bindings add to the C interface: enums for its numbers, node sets,
+//! and the requests of a compiled scene. Their calls are tested with those of the
+//! library, as one more side.
 use grelfint::node::{ErrN, FrcValue, ListReason};
+use grelfint::scene::{compile, compile_selected};
 use grelfint::serial::DropCause;
-use grelfint::{Network, NodeSet, Refusal, SceneRefusal, UnknownNumber};
+use grelfint::{Network, NodeSet, Refusal, SceneRefusal, UnknownNumber, COMPILED, NADR_BROADCAST};
+use grelfint_tests::board::{book_of, Board};
+use grelfint_tests::random;
+use grelfint_tests::reference::{do_step, EEPROM_SIZE, EXTERNAL_SIZE};
+use grelfint_tests::rng::{seed, Rng};
+use grelfint_tests::sides::BINDINGS;
 use std::collections::BTreeSet;
 use std::fmt::{Debug, Display};
 use std::panic::catch_unwind;
@@ -79,6 +86,41 @@ fn refused_scenes_name_the_step() {
     let refusal = Refusal::StepValue;
     assert_eq!(SceneRefusal { refusal, step: Some(63) }.to_string(), format!("step 63: {refusal}"));
     assert_eq!(SceneRefusal { refusal, step: None }.to_string(), refusal.to_string());
+}
+
+/// A node that handles the requests of a scene, in the order of the iterator, ends as the step machine: a scene for this
+/// node, for all nodes, and for a set of nodes.
+#[test]
+fn requests_of_a_scene() {
+    let mut g = Rng::new(seed("requests_of_a_scene"));
+    for _ in 0..300 {
+        let (node, steps) = (random::node(&mut g), random::scene(&mut g, 0));
+        let before = random::board(&mut g, BINDINGS, node);
+        let mut end = before.clone();
+        let mut parts = end.parts();
+        steps.iter().for_each(|&step| do_step(&mut parts, step));
+        end.node = parts.node;
+        let (own, book) = (node.settings.address, book_of(&[steps]));
+        let hwpid = g.pick(&[node.settings.hwpid, 0xFFFF]);
+        let (mut out, nodes) = ([0; COMPILED], random::good_node_set(&mut g, &[node]));
+        for mode in 0..3 {
+            let compiled = match mode {
+                0 => compile(&book, 0, own, hwpid, &mut out),
+                1 => compile(&book, 0, NADR_BROADCAST, hwpid, &mut out),
+                _ => compile_selected(&book, 0, &nodes, hwpid, &mut out),
+            };
+            let Board { mut node, mut eeprom, mut external, mut response, .. } = before.clone();
+            for frame in compiled.expect("a good scene").requests() {
+                let memories = (&mut eeprom[..EEPROM_SIZE], &mut external[..EXTERNAL_SIZE]);
+                let handled = node.handle_request(frame, memories.0, memories.1, &mut response).expect("not refused");
+                assert!(handled.addressed && !handled.load && handled.fault.is_none(), "{handled:?}");
+                assert_eq!(handled.response.map(|response| response.data()), (mode == 0).then_some(Ok(&[][..])));
+            }
+            let as_stepped = mode < 2 || nodes.contains(own);
+            let want = if as_stepped { &end } else { &before };
+            assert!(node == want.node && eeprom == want.eeprom && external == want.external, "{book:02X?}, {node:?}");
+        }
+    }
 }
 
 /// Bit a % 8 of byte a / 8 for address a, whatever else is in the set.

@@ -43,15 +43,14 @@ fn header() -> PathBuf {
     repository().join("include/grelfint.h")
 }
 
-/// The macros of the header that name a number, or several, and what they stand for.
-fn macros_of_numbers() -> Vec<(String, String)> {
+/// The macros of the header that name a number, or several.
+fn macros_of_numbers() -> Vec<String> {
     let defined = output_of(Command::new("gcc").args(["-dM", "-E"]).arg(header()));
-    let macros = defined.lines().filter_map(|line| line.strip_prefix("#define GRELFINT_"));
-    let macros = macros.map(|rest| rest.split_once(' ').unwrap_or((rest, "")));
-    let is_number = |name: &str| {
-        !name.contains('(') && !name.starts_with("VERSION") && !["H", "MUST_USE", "NONNULL"].contains(&name)
+    let macros = defined.lines().filter_map(|line| line.strip_prefix("#define GRELFINT_")?.split(' ').next());
+    let is_number = |name: &&str| {
+        !name.contains('(') && !name.starts_with("VERSION") && !["H", "MUST_USE", "NONNULL"].contains(name)
     };
-    macros.filter(|(name, _)| is_number(name)).map(|(name, body)| (name.to_string(), body.to_string())).collect()
+    macros.filter(is_number).map(str::to_string).collect()
 }
 
 /// Compiles a C program with this body of `main`, and returns what it prints.
@@ -66,11 +65,9 @@ fn printed_by_c(name: &str, body: &str) -> String {
 }
 
 fn of_the_header() -> Constants {
-    let print = |(name, body): (String, String)| {
-        // the numbers of a list may be in braces
-        let values = if body.starts_with('{') { format!("GRELFINT_{name}") } else { format!("{{GRELFINT_{name}}}") };
+    let print = |name: String| {
         format!(
-            "    {{\n        const unsigned long long values[] = {values};\n        printf(\"{name}\");\n        \
+            "    {{\n        const unsigned long long values[] = {{GRELFINT_{name}}};\n        printf(\"{name}\");\n        \
              for (size_t i = 0; i < sizeof values / sizeof *values; i++)\n            printf(\" %llu\", values[i]);\n        \
              printf(\"\\n\");\n    }}\n"
         )
@@ -91,7 +88,7 @@ fn of_the_bindings() -> Constants {
     let constants = of_the_bindings! {
         LAMPS SCENES STEPS DESK
         RAM EEPROM EXTERNAL RAM_BLOCK EEPROM_BLOCK EXTERNAL_BLOCK FRAME_HEADER PDATA FRAME RESPONSE_HEADER RESPONSE
-        CONFIRMATION ENTRY_HEADER BOOK BOOK_LOCATION BOOK_STEP COMPILED NODE_SET BONDS UART_FRAME UART_FRAMED
+        CONFIRMATION ENTRY_HEADER BITMAP BOOK BOOK_LOCATION BOOK_STEP COMPILED NODE_SET BONDS UART_FRAME UART_FRAMED
         AT_NADR AT_PNUM AT_PCMD AT_HWPID AT_PDATA AT_ERRN AT_DPA_VALUE AT_DATA AT_HOPS AT_TIMESLOT AT_RESPONSE_HOPS
         OK REFUSED_NODE REFUSED_FRAME REFUSED_RESPONSE REFUSED_MEMORY REFUSED_PDATA REFUSED_BOOK REFUSED_SCENE
         REFUSED_STEP_KIND REFUSED_STEP_TARGET REFUSED_STEP_VALUE REFUSED_STEP_TIME REFUSED_OUTPUT REFUSED_VIEW
@@ -107,7 +104,7 @@ fn of_the_bindings() -> Constants {
         REASON_NONE REASON_SHORT REASON_PAST_END REASON_UNCLOSED REASON_TRAILING
         KIND_SET KIND_RAISE KIND_LOWER KIND_RAM KIND_EEPROM
         EVENT_NONE EVENT_FRAME EVENT_DROPPED CAUSE_NONE CAUSE_TOO_LONG CAUSE_CUT CAUSE_SHORT CAUSE_CHECK_BYTE
-        NETWORK_STD NETWORK_STD_LP TIME_MAX WAIT_MAX
+        SLOT_MS NETWORK_STD NETWORK_STD_LP TIME_MAX WAIT_MAX
     };
     constants.into_iter().map(|(name, values)| (name.to_string(), values)).collect()
 }

@@ -3,7 +3,7 @@
 //! the number of calls in `random_sessions`. A failure prints all inputs.
 //! After every call the whole answer and every whole buffer are compared, with
 //! the guard bytes after it, including buffers that are only read.
-use grelfint::raw::{CompileAnswer, Lamp, Node, NodeSet, RequestAnswer, SceneAnswer, Settings};
+use grelfint::raw::{CompileAnswer, Lamp, Node, NodeSet, RequestAnswer, Settings};
 use grelfint_tests::board::{
     book_of, code_check_pdata, frame_of, selective_pdata, set_checksum, with_address, Board, Lengths,
 };
@@ -12,9 +12,7 @@ use grelfint_tests::fast;
 use grelfint_tests::random::{self, BATCH_LIST, EXCESS, GUARD, SELECTIVE_LIST};
 use grelfint_tests::reference::{self as r, CodeType, EEPROM_SIZE, EXTERNAL_SIZE, NODE_SET};
 use grelfint_tests::rng::{number, seed, Rng};
-use grelfint_tests::seen::{
-    AtLimit, BrokenList, Compiled, Profile, Requests, Run, Seen, SelectiveBatch, SetKind, Taker, RUN_REFUSALS,
-};
+use grelfint_tests::seen::{AtLimit, BrokenList, Compiled, Profile, Requests, Seen, SelectiveBatch, SetKind, Taker};
 use grelfint_tests::sides::{Side, BINDINGS, FAST, IN_PLACE, LIBRARY, REFERENCE};
 use std::hint::black_box;
 use std::ops::Range;
@@ -787,77 +785,6 @@ impl Session {
         }
     }
 
-    /// Runs a scene on `node`, which may differ from the boards' node.
-    fn run_scene(&mut self, node: Node, call: &SceneCall, lent: Lengths) -> SceneAnswer {
-        let before = Board { node, ..self.tested.clone() };
-        let book = Input::new(&call.book);
-        let (mut out, mut want) = (call.out.clone(), call.out.clone());
-        let a = self.tested.run_scene(node, book.part(), call.scene, lent, &mut out[..call.room]);
-        let b = self.plain.run_scene(node, &call.book, call.scene, lent, &mut want[..call.room]);
-        self.count(b.refusal);
-        let fault =
-            differences(&self.tested, &self.plain) + &difference("output", &out, &want) + &book.difference("book");
-        self.expect(a == b && fault.is_empty(), || {
-            format!("{fault}run: answer {a:?}\nexpected {b:?}\nlent {lent:?}\n{}", call.inputs(&before))
-        });
-        let sizes = [lent.eeprom == EEPROM_SIZE, lent.external == EXTERNAL_SIZE];
-        self.seen.run(Run { refusal: b.refusal, sizes, short: call.room < ROOM });
-        if b.refusal == 0 {
-            self.same_as_handled(before, call, b.node, &out);
-        }
-        b
-    }
-
-    /// A run ends as the side's own compiler and its requests do, one after the other. The response buffer is theirs.
-    fn same_as_handled(&self, before: Board, call: &SceneCall, after: Node, out: &[u8]) {
-        let mut end = before.clone();
-        let Settings { address, hwpid, .. } = end.node.settings;
-        let mut compiled = call.out.clone();
-        let answer = (end.side.compile)(&call.book, call.scene, address, hwpid, &mut compiled[..call.room]);
-        for frame in requests_in(&compiled).0 {
-            end.node = end.request(end.node, frame, Lengths::USUAL).node;
-        }
-        end.response.copy_from_slice(&before.response);
-        let fault = differences(&self.tested, &end) + &difference("output", out, &compiled);
-        self.expect(answer.refusal == 0 && after == end.node && fault.is_empty(), || {
-            format!("{fault}run: {after:?}\ncompiled and handled: {:?}\n{}", end.node, call.inputs(&before))
-        });
-    }
-
-    /// A random scene on `node`; occasionally, or `often`, with a memory of another size.
-    fn random_run(&mut self, node: Node, often: bool) {
-        let call = SceneCall::random(&mut self.g, &self.plain.node);
-        let lent = random::lengths(&mut self.g, often);
-        let answer = self.run_scene(node, &call, lent);
-        if node == self.plain.node {
-            self.set_node(answer.node);
-        }
-    }
-
-    /// A run with these faults: node (1), memory (4), book (6), scene (7), step (82), room (9). The first is told, and
-    /// nothing is written.
-    fn faulty_run(&mut self, faults: [bool; 6]) {
-        let [node, memory, in_scene @ ..] = faults;
-        let (mut own, mut lent) = (self.plain.node, Lengths::USUAL);
-        if node {
-            own.settings.step = 3;
-        }
-        if memory {
-            let [less, more] = [lent.external - 1, lent.eeprom + 1];
-            lent = self.g.pick(&[Lengths { external: less, ..lent }, Lengths { eeprom: more, ..lent }]);
-        }
-        let (call, number) = SceneCall::faulty(&mut self.g, To::Address(own.settings.address), in_scene);
-        let before = self.tested.clone();
-        let answer = self.run_scene(own, &call, lent);
-        let refusal = faults.iter().position(|&fault| fault).map_or(0, |first| [1, 4, 6, 7, 82, 9][first]);
-        let step = if refusal == 82 { number } else { 0 };
-        let want = SceneAnswer { refusal, step, node: if refusal == 0 { answer.node } else { own } };
-        let untouched = refusal == 0 || differences(&self.tested, &before).is_empty();
-        self.expect(answer == want && untouched, || {
-            format!("built for {want:?}\nanswer {answer:?}\nlent {lent:?}\n{}", call.inputs(&before))
-        });
-    }
-
     /// One scene, compiled once for chosen nodes, is taken by several nodes.
     fn chosen_nodes(&mut self) {
         let g = &mut self.g;
@@ -913,8 +840,7 @@ impl Session {
             89..=91 => self.random_view(),
             92..=93 => self.confirm(),
             94 => self.timing(),
-            95 => self.random_run(node, often),
-            96 if self.g.chance(1, 2) => self.start(),
+            95 if self.g.chance(1, 2) => self.start(),
             _ => self.scene(),
         }
     }
@@ -936,7 +862,6 @@ fn sessions(test: &'static str, side: Side, wanted: u64) {
         s.seen.assert_every_kind_of_request();
         assert!(errors[0] * 2 > errors.iter().sum::<u64>(), "valid requests are rare");
         s.seen.levels.assert_each([0, 1], wanted / 20_000);
-        s.seen.runs.assert_each(RUN_REFUSALS, wanted / 50_000);
     }
 }
 
@@ -1254,17 +1179,19 @@ fn all_timing() {
 
 #[test]
 fn random_scenes() {
-    let mut s = Session::new("random_scenes", LIBRARY);
-    s.run(800, 50, |s| {
-        s.scene();
-        let node = random::node(&mut s.g);
-        s.set_node(node);
-    });
-    println!("random_scenes: {:?}", s.seen);
-    s.seen.compiled.assert_each(Compiled::every(), 25);
-    s.seen.compiled_sets.assert_each(SetKind::EVERY, 100);
-    s.seen.at_limits.assert_each(AtLimit::every(), 100);
-    s.seen.takers.assert_each(Taker::every(), 100);
+    for side in [LIBRARY, BINDINGS] {
+        let mut s = Session::new("random_scenes", side);
+        s.run(800, 50, |s| {
+            s.scene();
+            let node = random::node(&mut s.g);
+            s.set_node(node);
+        });
+        println!("random_scenes: {:?}", s.seen);
+        s.seen.compiled.assert_each(Compiled::every(), 25);
+        s.seen.compiled_sets.assert_each(SetKind::EVERY, 100);
+        s.seen.at_limits.assert_each(AtLimit::every(), 100);
+        s.seen.takers.assert_each(Taker::every(), 100);
+    }
 }
 
 /// Of several nodes that get the same requests, the chosen ones that accept the profile end as the step machine, and the others stay as
@@ -1276,36 +1203,6 @@ fn one_scene_for_chosen_nodes() {
         s.run(1, 3000, Session::chosen_nodes);
         println!("one_scene_for_chosen_nodes: {:?}", s.seen);
         s.seen.takers.assert_each(Taker::every(), 300);
-    }
-}
-
-/// Scenes that are run by one call, on nodes and memories of which some are refused.
-#[test]
-fn random_runs() {
-    for side in [LIBRARY, BINDINGS] {
-        let mut s = Session::new("random_runs", side);
-        s.run(400, 50, |s| {
-            let own = random::node(&mut s.g);
-            s.set_node(own);
-            let node = if s.g.chance(1, 8) { random::broken(&mut s.g, own) } else { own };
-            let often = s.g.chance(1, 2);
-            s.random_run(node, often);
-        });
-        println!("random_runs: {:?}", s.seen);
-        s.seen.run_cases.assert_each(Run::every(), 10);
-    }
-}
-
-/// Every set of faults of a run.
-#[test]
-fn first_refusal_of_a_run() {
-    for side in [LIBRARY, BINDINGS] {
-        let mut s = Session::new("first_refusal_of_a_run", side);
-        s.run(20, 1, |s| {
-            for set in 0..64u8 {
-                s.faulty_run([1, 2, 4, 8, 16, 32].map(|bit| set & bit != 0));
-            }
-        });
     }
 }
 
@@ -1335,14 +1232,16 @@ fn every_actual_level() {
 /// Every set of faults of a call, in both modes.
 #[test]
 fn first_refusal_of_the_compiler() {
-    let mut s = Session::new("first_refusal_of_the_compiler", LIBRARY);
-    s.run(20, 1, |s| {
-        for set in 0..32u8 {
-            let faults = [1, 2, 4, 8, 16].map(|bit| set & bit != 0);
-            s.faulty_call(false, faults);
-            s.faulty_call(true, faults);
-        }
-    });
+    for side in [LIBRARY, BINDINGS] {
+        let mut s = Session::new("first_refusal_of_the_compiler", side);
+        s.run(20, 1, |s| {
+            for set in 0..32u8 {
+                let faults = [1, 2, 4, 8, 16].map(|bit| set & bit != 0);
+                s.faulty_call(false, faults);
+                s.faulty_call(true, faults);
+            }
+        });
+    }
 }
 
 /// A set of one address is in the request as it came, unless the address is 0.

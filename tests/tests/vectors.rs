@@ -2,14 +2,12 @@
 //! through the methods of its bindings, on the plain reference, and on the fast
 //! and the in-place implementation: document 01's worked examples (those marked P
 //! are also proved, but cheap to run), settings, actual levels, views, scenes that
-//! one call runs, broken lists and bad steps (02, change 1/12), keep with a time
+//! a node handles, broken lists and bad steps (02, change 1/12), keep with a time
 //! (02, change 2/12), selective batches and scenes for chosen nodes (02, change
 //! 3/12), checksums of code images (02, change 4/12), the light standard's step
 //! table and examples (001), the confirmation's timing (003), and the guide's
 //! batch and confirmation examples (000).
-use grelfint::raw::{
-    CompileAnswer, FrcAnswer, Lamp, LevelsAnswer, Node, NodeAnswer, NodeSet, RequestAnswer, SceneAnswer, Settings,
-};
+use grelfint::raw::{CompileAnswer, FrcAnswer, Lamp, LevelsAnswer, Node, NodeAnswer, NodeSet, RequestAnswer, Settings};
 use grelfint_tests::board::{book_of, code_check_pdata, frame_of, selective_pdata, set_checksum, Board, Lengths};
 use grelfint_tests::on_every_side;
 use grelfint_tests::reference::{self, CodeType, EXTERNAL_SIZE};
@@ -34,13 +32,12 @@ on_every_side! { [
     broken_nodes,
     actual_levels_of_the_lamps,
     views_of_the_memories,
-    scene_run_by_one_call,
-    scenes_run_one_after_the_other,
+    scene_for_the_nodes_own_profile,
+    scenes_one_after_the_other,
     scene_of_every_kind_of_step,
     scene_of_several_requests,
     scene_without_steps,
-    scenes_that_are_not_run,
-    bad_steps_of_a_run,
+    refusals_for_an_address,
     broken_lists,
     lists_broken_after_whole_entries,
     lists_broken_at_the_longest_pdata,
@@ -354,47 +351,53 @@ fn views_of_the_memories(side: Side) {
     }
 }
 
-// ---- document 01, "Scenes": a scene that one call compiles and runs ----
+// ---- document 01, "Scenes": compiled for a node, which handles the requests ----
 const ROOM: usize = 4096;
 
-/// Runs a scene on a board, and compares the whole answer, the memories, and the output: these bytes, then what was there.
-/// Only EEPROM changes, at these bytes.
+/// Compiles a scene for the address and profile of a board's node; the output is these bytes, then what was there. The
+/// node answers each request without an error. Of the memories only EEPROM changes, at these bytes.
 #[track_caller]
-fn assert_run(board: &mut Board, book: &[u8], scene: usize, after: Node, eeprom: &[(usize, u8)], output: &[u8]) {
+fn assert_handled(board: &mut Board, book: &[u8], scene: usize, after: Node, eeprom: &[(usize, u8)], output: &[u8]) {
     let mut end = board.clone();
     for &(at, byte) in eeprom {
         end.eeprom[at] = byte;
     }
+    let Settings { address, hwpid, dpa_value, .. } = board.node.settings;
     let mut out = [0xEE; ROOM + 1];
-    let answer = board.run_scene(board.node, book, scene, Lengths::USUAL, &mut out[..ROOM]);
-    assert_eq!(answer, SceneAnswer { refusal: 0, step: 0, node: after });
+    let answer = (board.side.compile)(book, scene, address, hwpid, &mut out[..ROOM]);
+    assert_eq!(answer, CompileAnswer { refusal: 0, step: 0, length: output.len() });
     assert_eq!(out[..output.len()], *output);
     assert!(out[output.len()..].iter().all(|&byte| byte == 0xEE), "a byte after the output changed");
+    let (lengths, mut rest) = output[1..].split_at(output[0].into());
+    for &length in lengths {
+        let (request, after) = rest.split_at(length.into());
+        assert_eq!(board.frame(request), (frame_of(address, 2, 0x85, hwpid, &[0, dpa_value]), false));
+        rest = after;
+    }
+    assert_eq!((board.node, rest), (after, &[][..]));
     assert!(board.eeprom == end.eeprom && board.external == end.external, "memories");
-    assert_eq!(board.response, end.response);
-    board.node = after;
 }
 
 /// The book of the worked example, for the node's own profile.
-fn scene_run_by_one_call(side: Side) {
+fn scene_for_the_nodes_own_profile(side: Side) {
     let book = [1, 4, 0, 2, 0, 0, 0x0A, 0, 0, 2, 0x64, 2];
     let output = [1, 0x13, 1, 0, 2, 5, 0x71, 0x24, 0x0C, 0x71, 0, 0x71, 0x24, 5, 0, 0, 0, 0x0A, 0xE4, 2, 0];
     let mut b = Board::started(side, 3, 1);
     let mut after = b.node;
     after.lamps[0] = Lamp { level: 10, seconds: 0 };
     after.lamps[2] = Lamp { level: 100, seconds: 120 };
-    assert_run(&mut b, &book, 0, after, &[], &output);
+    assert_handled(&mut b, &book, 0, after, &[], &output);
     // another address and profile; lamp 2 is not there, but in the request
     let mut b = Board::started(side, 1, 1);
     (b.node.settings.address, b.node.settings.hwpid) = (239, 0xFFFF);
     let mut after = b.node;
     after.lamps[0].level = 10;
     let output = [1, 0x13, 239, 0, 2, 5, 0xFF, 0xFF, 0x0C, 0x71, 0, 0xFF, 0xFF, 5, 0, 0, 0, 0x0A, 0xE4, 2, 0];
-    assert_run(&mut b, &book, 0, after, &[], &output);
+    assert_handled(&mut b, &book, 0, after, &[], &output);
 }
 
-/// Each run starts from the node that the last one left: a raise, the same again, and a lower by more than there is.
-fn scenes_run_one_after_the_other(side: Side) {
+/// Each scene starts from the node that the last one left: a raise, the same again, and a lower by more than there is.
+fn scenes_one_after_the_other(side: Side) {
     let book = book_of(&[vec![[1, 0, 60, 0x85]], vec![[2, 0, 70, 0], [2, 1, 1, 1]]]);
     let mut b = Board::started(side, 2, 10);
     let entry = |pcmd, last: &[u8]| {
@@ -404,11 +407,11 @@ fn scenes_run_one_after_the_other(side: Side) {
     for level in [60, 100] {
         let mut after = b.node;
         after.lamps[0] = Lamp { level, seconds: 5 };
-        assert_run(&mut b, &book, 0, after, &[], &entry(1, &[1, 0, 0, 0, 0x80 | 60, 0x85]));
+        assert_handled(&mut b, &book, 0, after, &[], &entry(1, &[1, 0, 0, 0, 0x80 | 60, 0x85]));
     }
     let mut after = b.node;
     after.lamps[0] = Lamp { level: 30, seconds: 0 };
-    assert_run(&mut b, &book, 1, after, &[], &entry(2, &[3, 0, 0, 0, 70, 0x81, 1]));
+    assert_handled(&mut b, &book, 1, after, &[], &entry(2, &[3, 0, 0, 0, 70, 0x81, 1]));
 }
 
 /// Lamps, RAM and EEPROM; steps on memories join if the target is larger by 1.
@@ -429,7 +432,7 @@ fn scene_of_every_kind_of_step(side: Side) {
         &[8, 3, 1, 0x71, 0x24, 190, 9, 10],
         &[0],
     ];
-    assert_run(&mut b, &book_of(&[steps.to_vec()]), 0, after, &[(190, 9), (191, 10)], &output.concat());
+    assert_handled(&mut b, &book_of(&[steps.to_vec()]), 0, after, &[(190, 9), (191, 10)], &output.concat());
 }
 
 /// Steps on one lamp do not join: five entries of ten bytes fill a list. All of them run, in their order.
@@ -441,89 +444,45 @@ fn scene_of_several_requests(side: Side) {
     let mut b = Board::started(side, 1, 1);
     let mut after = b.node;
     after.lamps[0].level = 64;
-    assert_run(&mut b, &book_of(&[steps]), 0, after, &[], &output);
+    assert_handled(&mut b, &book_of(&[steps]), 0, after, &[], &output);
 }
 
 fn scene_without_steps(side: Side) {
     let mut b = Board::started(side, 3, 1);
     b.node.lamps[1] = Lamp { level: 7, seconds: 8 };
     let node = b.node;
-    assert_run(&mut b, &book_of(&[vec![[0, 0, 1, 0]], vec![]]), 1, node, &[], &[0]);
+    assert_handled(&mut b, &book_of(&[vec![[0, 0, 1, 0]], vec![]]), 1, node, &[], &[0]);
 }
 
-/// A refused run: the whole answer, and no buffer is written.
-#[track_caller]
-fn assert_not_run(board: &Board, (book, scene): (&[u8], usize), lent: Lengths, room: usize, want: SceneAnswer) {
-    let mut b = board.clone();
-    let mut out = [0xEE; ROOM];
-    assert_eq!(b.run_scene(want.node, book, scene, lent, &mut out[..room]), want);
-    assert!(out.iter().all(|&byte| byte == 0xEE), "output");
-    assert!(b.eeprom == board.eeprom && b.external == board.external && b.response == board.response, "buffers");
-}
-
-/// Each refusal alone, and with every later one.
-fn scenes_that_are_not_run(side: Side) {
-    let mut b = Board::started(side, 3, 1);
-    b.eeprom.push(0);
-    b.external.push(0);
-    let usual = Lengths::USUAL;
+/// Each refusal alone, and with every later one. No byte is written.
+fn refusals_for_an_address(side: Side) {
     let good = book_of(&[vec![[0, 0, 10, 0], [4, 5, 6, 0]]]);
     let bad_step = book_of(&[vec![[0, 0, 10, 0], [4, 192, 6, 0]]]);
     let malformed = [&bad_step[..], &[0]].concat();
-    let mut broken = b.node;
-    broken.lamps[0].seconds = 1;
-    let refused = |refusal, node| SceneAnswer { refusal, step: 0, node };
-    for lent in [usual, Lengths { eeprom: 193, ..usual }] {
-        for (book, scene, room) in [(&good, 0, ROOM), (&malformed, 1, 0)] {
-            assert_not_run(&b, (book, scene), lent, room, refused(1, broken));
-        }
+    let assert_refused = |book: &[u8], scene, address, room, refusal, step| {
+        let mut out = [0xEE; ROOM];
+        let answer = (side.compile)(book, scene, address, 0x2471, &mut out[..room]);
+        assert_eq!(answer, CompileAnswer { refusal, step, length: 0 }, "{book:02X?}, {scene}, {address}, {room}");
+        assert!(out.iter().all(|&byte| byte == 0xEE), "output");
+    };
+    for address in [0, 240, 254, 256, 0xFF01, 0xFFFF] {
+        assert_refused(&good, 0, address, ROOM, 1, 0);
+        assert_refused(&malformed, 1, address, 0, 1, 0);
     }
-    for lent in [
-        Lengths { eeprom: 191, ..usual },
-        Lengths { eeprom: 193, ..usual },
-        Lengths { external: EXTERNAL_SIZE - 1, ..usual },
-        Lengths { external: EXTERNAL_SIZE + 1, ..usual },
-        Lengths { eeprom: 0, external: 0, ..usual },
-    ] {
-        for (book, scene, room) in [(&good, 0, ROOM), (&malformed, 1, 0)] {
-            assert_not_run(&b, (book, scene), lent, room, refused(4, b.node));
-        }
-    }
-    for room in [ROOM, 0] {
-        for scene in [0, 1] {
-            assert_not_run(&b, (&malformed, scene), usual, room, refused(6, b.node));
-            assert_not_run(&b, (&[], scene), usual, room, refused(6, b.node));
-        }
-        for scene in [1, 16, 256, usize::MAX] {
-            assert_not_run(&b, (&bad_step, scene), usual, room, refused(7, b.node));
-        }
-        assert_not_run(&b, (&[0], 0), usual, room, refused(7, b.node));
-        assert_not_run(&b, (&bad_step, 0), usual, room, SceneAnswer { step: 1, ..refused(82, b.node) });
-    }
-    for room in [0, 1, 100, ROOM - 1] {
-        assert_not_run(&b, (&good, 0), usual, room, refused(9, b.node));
-    }
-}
-
-/// The first bad part of the first bad step, however short the output buffer is. The good steps before it are not executed.
-fn bad_steps_of_a_run(side: Side) {
-    let b = Board::started(side, 3, 1);
-    for number in [0, 1, 63] {
-        for (refusal, step) in [
-            (81, [5, 0, 0, 0]),
-            (82, [0, 32, 101, 0x80]),
-            (82, [3, 48, 0, 1]),
-            (83, [1, 31, 101, 0x80]),
-            (84, [2, 31, 100, 0x80]),
-            (84, [4, 191, 255, 1]),
-        ] {
-            let mut steps = vec![[0, 0, 10, 0]; 64];
-            steps[number] = step;
-            let book = book_of(&[steps]);
-            for room in [ROOM, 0] {
-                let want = SceneAnswer { refusal, step: number as u8, node: b.node };
-                assert_not_run(&b, (&book, 0), Lengths::USUAL, room, want);
+    for address in [1, 239, 255] {
+        for room in [ROOM, 0] {
+            for scene in [0, 1] {
+                assert_refused(&malformed, scene, address, room, 6, 0);
+                assert_refused(&[], scene, address, room, 6, 0);
             }
+            for scene in [1, 16, 256, usize::MAX] {
+                assert_refused(&bad_step, scene, address, room, 7, 0);
+            }
+            assert_refused(&[0], 0, address, room, 7, 0);
+            assert_refused(&bad_step, 0, address, room, 82, 1);
+        }
+        for room in [0, 1, 100, ROOM - 1] {
+            assert_refused(&good, 0, address, room, 9, 0);
         }
     }
 }

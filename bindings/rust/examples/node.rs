@@ -1,9 +1,9 @@
 //! A lamp node from its start to a scene. It prints the lines of `node.expected`.
 use grelfint::scene::compile;
 use grelfint::{
-    Node, Refusal, Settings, ADDRESS_MAX, COMPILED, EEPROM, EXTERNAL, HWPID_ANY, KIND_EEPROM, KIND_SET, NADR_BROADCAST,
-    PCMD_LIGHTS_LOWER, PCMD_LIGHTS_RAISE, PCMD_LIGHTS_SET, PCMD_OS_BATCH, PNUM_LIGHTS, PNUM_OS, POWER_TIMED, RESPONSE,
-    TIME_SECONDS,
+    Node, Refusal, Settings, ADDRESS_MAX, BITMAP, COMPILED, EEPROM, EXTERNAL, HWPID_ANY, KIND_EEPROM, KIND_SET, LAMPS,
+    NADR_BROADCAST, PCMD_LIGHTS_LOWER, PCMD_LIGHTS_RAISE, PCMD_LIGHTS_SET, PCMD_OS_BATCH, PNUM_LIGHTS, PNUM_OS,
+    POWER_TIMED, RESPONSE, TIME_SECONDS,
 };
 use std::error::Error;
 
@@ -31,7 +31,7 @@ impl Board {
         let mut reply = match handled.response.map(|response| response.data()) {
             Some(Ok(data)) => format!("data {data:?}"),
             Some(Err(error)) => format!("error: {error}"),
-            None if handled.addressed => "carried out, no response".to_string(),
+            None if handled.addressed => "no response".to_string(),
             None => "for another node".to_string(),
         };
         if let Some(fault) = handled.fault {
@@ -63,7 +63,7 @@ fn entry(pnum: u8, pcmd: u8, pdata: &[u8]) -> Vec<u8> {
 }
 
 /// PData for one lamp: a bitmap of the lamps, then a power byte.
-fn one_lamp(lamp: u8, power: u8) -> [u8; 5] {
+fn one_lamp(lamp: u8, power: u8) -> [u8; BITMAP + 1] {
     [1 << lamp, 0, 0, 0, power]
 }
 
@@ -89,7 +89,7 @@ fn main() -> Result<(), Box<dyn Error>> {
     board.handle("broken batch", &request(ADDRESS, PNUM_OS, PCMD_OS_BATCH, &list[..raise.len()]))?;
 
     // All lamps of all nodes up by 10. A node does this without a response.
-    let pdata = [&[0xFF; 4][..], &[10; 32]].concat();
+    let pdata = [&[0xFF; BITMAP][..], &[10; LAMPS]].concat();
     board.handle("broadcast", &request(NADR_BROADCAST, PNUM_LIGHTS, PCMD_LIGHTS_RAISE, &pdata))?;
     board.handle("other node", &request(ADDRESS_MAX, PNUM_LIGHTS, PCMD_LIGHTS_SET, &one_lamp(0, 0)))?;
 
@@ -112,12 +112,9 @@ fn main() -> Result<(), Box<dyn Error>> {
     }
     println!("EEPROM byte 5 is {:02X}", board.eeprom[5]);
 
-    // The same in one call, and a scene with a bad step.
-    for level in [80, 101] {
-        match board.node.run_scene(&book(level), 0, &mut board.eeprom, &mut board.external, &mut out) {
-            Ok(()) => board.print("scene", "run")?,
-            Err(refused) => board.print("bad scene", &format!("refused: {refused}"))?,
-        }
+    // A scene with a bad step has no requests.
+    if let Err(refused) = compile(&book(101), 0, ADDRESS, HWPID, &mut out) {
+        board.print("bad scene", &format!("refused: {refused}"))?;
     }
     Ok(())
 }

@@ -38,6 +38,8 @@ pub const RESPONSE: usize = 64;
 pub const CONFIRMATION: usize = 11;
 /// An entry of a list without PData: its length, PNUM, PCMD and HWPID.
 pub const ENTRY_HEADER: usize = 5;
+/// The bitmap of lamps in PData: lamp 0 is bit 0 of its first byte.
+pub const BITMAP: usize = 4;
 /// The longest book.
 pub const BOOK: usize = 4145;
 /// A scene's entry in the contents of a book: offset and number of steps.
@@ -74,7 +76,7 @@ pub const AT_DPA_VALUE: usize = 7;
 pub const AT_DATA: usize = 8;
 /// The hops in a confirmation.
 pub const AT_HOPS: usize = 8;
-/// The timeslot in a confirmation, in units of 10 ms.
+/// The timeslot in a confirmation, in units of [`SLOT_MS`].
 pub const AT_TIMESLOT: usize = 9;
 /// The response hops in a confirmation.
 pub const AT_RESPONSE_HOPS: usize = 10;
@@ -255,7 +257,9 @@ pub const CAUSE_SHORT: u8 = 3;
 /// A wrong check byte.
 pub const CAUSE_CHECK_BYTE: u8 = 4;
 
-// ---- gateway ----
+// ---- timing and gateway ----
+/// The unit of timeslots, in ms.
+pub const SLOT_MS: u32 = 10;
 /// An STD network.
 pub const NETWORK_STD: u8 = 0;
 /// An STD+LP network.

@@ -1,7 +1,7 @@
-//! The node: its second, its lamps, requests, and scenes.
+//! The node: its second, its lamps, and requests.
 use crate::numbered::{known, numbered};
 use crate::refusal::accepted;
-use crate::{raw, Node, Refusal, SceneRefusal, Settings};
+use crate::{raw, Node, Refusal, Settings};
 use crate::{AT_DATA, AT_ERRN, ERRN_NONE, LAMPS, REASON_NONE};
 use core::error::Error;
 
@@ -58,8 +58,9 @@ pub struct Handled<'a> {
     /// To be sent; none for a broadcast, for a frame to another node, and for a
     /// selective batch whose node set does not name this node.
     pub response: Option<Response<'a>>,
-    /// NADR is this node's address or 0x00FF. A broadcast that was carried out and
-    /// a frame for another node both have no response; this separates them.
+    /// NADR is this node's address or the broadcast address. It tells a broadcast
+    /// from a frame for another node, which both have no response. The request may
+    /// still have an error, or be a selective batch that does not name this node.
     pub addressed: bool,
     /// A code check matched and asked to load the code.
     pub load: bool,
@@ -151,28 +152,5 @@ impl Node {
             load,
             fault: (reason != REASON_NONE).then(|| ListFault { reason: known(reason), place }),
         })
-    }
-
-    /// Compiles a scene of a book for this node's own address and HWPID, and
-    /// handles its requests. Node and memories end as if the steps of the scene had
-    /// been executed one by one.
-    ///
-    /// Refusals: [`Refusal::Node`], [`Refusal::Memory`], [`Refusal::Book`],
-    /// [`Refusal::Scene`], [`Refusal::StepKind`] to [`Refusal::StepTime`] with the
-    /// step, [`Refusal::Output`]. Written: this node, `eeprom`, and the compiled
-    /// scene to the front of `out`, which has at least
-    /// [`COMPILED`](crate::COMPILED) bytes.
-    pub fn run_scene(
-        &mut self,
-        book: &[u8],
-        scene: usize,
-        eeprom: &mut [u8],
-        external: &mut [u8],
-        out: &mut [u8],
-    ) -> Result<(), SceneRefusal> {
-        let answer = raw::run_scene(*self, book, scene, eeprom, external, out);
-        SceneRefusal::accepted(answer.refusal, answer.step)?;
-        *self = answer.node;
-        Ok(())
     }
 }

@@ -90,7 +90,9 @@ pub struct RequestAnswer {
     pub length: usize,
     /// A code check matched and asked to load the code.
     pub load: bool,
-    /// Not refused, and NADR is this node's address or 0x00FF.
+    /// Not refused, and NADR is this node's address or the broadcast address. The
+    /// request may still have an error, or be a selective batch that does not name
+    /// this node.
     pub addressed: bool,
     /// Why the list of a batch cannot be read, or 0.
     pub reason: u8,
@@ -137,7 +139,7 @@ pub struct LengthAnswer {
 pub struct SlotAnswer {
     /// 0, or the refusal.
     pub refusal: u8,
-    /// In units of 10 ms.
+    /// In units of [`SLOT_MS`](crate::SLOT_MS).
     pub slot: u8,
 }
 
@@ -172,19 +174,6 @@ pub struct CompileAnswer {
     pub step: u8,
     /// Bytes of the output.
     pub length: usize,
-}
-
-/// Of `run_scene`.
-#[repr(C)]
-#[must_use = "the answer holds the node afterwards"]
-#[derive(Clone, Copy, Debug, PartialEq, Eq)]
-pub struct SceneAnswer {
-    /// 0, or the refusal.
-    pub refusal: u8,
-    /// The first bad step, with refusals 81 to 84.
-    pub step: u8,
-    /// Afterwards.
-    pub node: Node,
 }
 
 // ---- serial line ----
@@ -444,18 +433,6 @@ extern "C" {
         out: *mut u8,
         out_length: usize,
     ) -> CompileAnswer;
-    pub fn grelfint_run_scene(
-        node: Node,
-        book: *const u8,
-        book_length: usize,
-        scene: usize,
-        eeprom: *mut u8,
-        eeprom_length: usize,
-        external: *mut u8,
-        external_length: usize,
-        out: *mut u8,
-        out_length: usize,
-    ) -> SceneAnswer;
     pub fn grelfint_gateway_start(lp: bool, dpa_value: u8) -> Gateway;
     pub fn grelfint_bond(gateway: Gateway, address: u16) -> BondAnswer;
     pub fn grelfint_unbond(gateway: Gateway, address: u16) -> BondAnswer;
@@ -582,31 +559,6 @@ pub fn compile_selected(book: &[u8], scene: usize, nodes: NodeSet, hwpid: u16, o
 /// `grelfint_compile_selected_default`.
 pub fn compile_selected_default(book: &[u8], scene: usize, nodes: NodeSet, out: &mut [u8]) -> CompileAnswer {
     unsafe { grelfint_compile_selected_default(book.as_ptr(), book.len(), scene, nodes, out.as_mut_ptr(), out.len()) }
-}
-
-/// `grelfint_run_scene`.
-pub fn run_scene(
-    node: Node,
-    book: &[u8],
-    scene: usize,
-    eeprom: &mut [u8],
-    external: &mut [u8],
-    out: &mut [u8],
-) -> SceneAnswer {
-    unsafe {
-        grelfint_run_scene(
-            node,
-            book.as_ptr(),
-            book.len(),
-            scene,
-            eeprom.as_mut_ptr(),
-            eeprom.len(),
-            external.as_mut_ptr(),
-            external.len(),
-            out.as_mut_ptr(),
-            out.len(),
-        )
-    }
 }
 
 /// `grelfint_gateway_start`.

@@ -28,8 +28,8 @@ pub struct Route {
     pub delay: u16,
 }
 
-/// The timeslot for a length of PData, in units of 10 ms: 4, 5 or 6, and 4 more in
-/// an STD+LP network.
+/// The timeslot for a length of PData, in units of [`SLOT_MS`](crate::SLOT_MS): 4,
+/// 5 or 6, and 4 more in an STD+LP network.
 ///
 /// Refusals: [`Refusal::PData`].
 pub fn timeslot(pdata_length: usize, network: Network) -> Result<u8, Refusal> {
