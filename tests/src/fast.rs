@@ -2,7 +2,7 @@
 //! benchmark's baseline, behind the C boundary of include/grelfint.h: nodes and
 //! answers by value, slices as pointers and lengths. `sessions.rs` compares it
 //! with the plain reference.
-use grelfint::raw::{CompileAnswer, Lamp, Node, NodeAnswer, NodeSet, RequestAnswer};
+use grelfint::raw::{CompileAnswer, Lamp, LevelsAnswer, Node, NodeAnswer, NodeSet, RequestAnswer};
 use std::slice::{from_raw_parts, from_raw_parts_mut};
 
 fn sound(node: &Node) -> bool {
@@ -36,6 +36,33 @@ pub extern "C" fn tick(mut node: Node) -> NodeAnswer {
         l.seconds = left;
     }
     NodeAnswer { refusal: 0, node }
+}
+
+/// Multiplying by it, and dropping 16 bits, divides by the step.
+#[inline]
+fn inverse_of(step: u32) -> u32 {
+    65536 / step + 1
+}
+
+/// The smallest multiple of the step that is not below the lamp's level.
+#[inline]
+fn actual_level(lamp: &Lamp, step: u32, inverse: u32) -> u8 {
+    ((((lamp.level as u32 + step - 1) * inverse) >> 16) * step) as u8
+}
+
+#[inline(never)]
+pub extern "C" fn actual_levels(node: Node) -> LevelsAnswer {
+    let mut levels = [0; 32];
+    if !sound(&node) {
+        return LevelsAnswer { refusal: 1, levels };
+    }
+    let step = node.settings.step as u32;
+    let inverse = inverse_of(step);
+    // lamps from the count on have level 0
+    for (actual, lamp) in levels.iter_mut().zip(&node.lamps) {
+        *actual = actual_level(lamp, step, inverse);
+    }
+    LevelsAnswer { refusal: 0, levels }
 }
 
 struct Memories<'a> {
@@ -235,8 +262,7 @@ fn lights(node: &mut Node, pcmd: u8, p: &[u8], mut data: Option<&mut [u8; 56]>) 
     }
     let count = node.settings.lamp_count as usize;
     let step = node.settings.step as u32;
-    // multiplying by it divides by the step
-    let inverse = 65536 / step + 1;
+    let inverse = inverse_of(step);
     let mut rest = mask;
     let mut i = 0;
     let mut k = 0;
@@ -254,7 +280,7 @@ fn lights(node: &mut Node, pcmd: u8, p: &[u8], mut data: Option<&mut [u8; 56]>) 
         let l = &mut node.lamps[lamp];
         if let Some(data) = data.as_deref_mut() {
             // an unimplemented lamp has level 0
-            data[k] = ((((l.level as u32 + step - 1) * inverse) >> 16) * step) as u8;
+            data[k] = actual_level(l, step, inverse);
             k += 1;
         }
         if lamp < count {

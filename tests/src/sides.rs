@@ -60,6 +60,7 @@ pub const FAST: Side = Side {
         *node = answer.node;
         answer.refusal
     },
+    actual_levels: |node| fast::actual_levels(node),
     handle_request: |node, frame, eeprom, external, response| {
         handle_request_by(fast::handle_request, node, frame, eeprom, external, response)
     },

@@ -1209,7 +1209,7 @@ fn one_scene_for_chosen_nodes() {
 /// Every level at every step, on every lamp that is there; every level and step of a node that breaks the rule too.
 #[test]
 fn every_actual_level() {
-    for side in [LIBRARY, BINDINGS] {
+    for side in [LIBRARY, BINDINGS, FAST] {
         let mut s = Session::new("every_actual_level", side);
         for step in 0..=255 {
             for level in 0..=255 {
@@ -1307,17 +1307,19 @@ fn every_byte_of_a_step() {
     }
 }
 
-/// An implementation that the benchmark times beside the library follows the same rules: requests, some to a node that
-/// breaks the node rule, and ticks.
+/// An implementation that the benchmark times beside the library follows the same rules: requests and actual levels, some
+/// of a node that breaks the node rule, and ticks.
 fn agrees(test: &'static str, side: Side) {
     let mut s = Session::new(test, side);
     s.run(450, 300, |s| {
         let own = s.plain.node;
         let node = if s.g.chance(1, 30) { random::broken(&mut s.g, own) } else { own };
         s.random_request(node, false);
+        s.actual_levels(node);
         let after = s.tick(s.plain.node);
         s.set_node(after);
     });
+    s.seen.levels.assert_each([0, 1], 1000);
     s.seen.refusals.assert_each(0..=4, 1000);
     s.seen.assert_every_kind_of_request();
 }

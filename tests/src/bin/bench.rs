@@ -93,6 +93,12 @@ fn time_tick_in_place(side: Side, node: Node, calls: u32) -> f64 {
     })
 }
 
+fn time_levels(side: Side, node: Node, calls: u32) -> f64 {
+    time(calls, || {
+        black_box(&(side.actual_levels)(*black_box(&node)));
+    })
+}
+
 fn time_receive(function: UartReceive, receiver: Receiver, line: &[u8], calls: u32) -> f64 {
     time(calls, || {
         black_box(&uart_receive_by(function, *black_box(&receiver), black_box(line)));
@@ -394,6 +400,13 @@ fn compare_ticks(bursts: usize) {
     compare::<2>("tick in place", bursts, |side, calls| time_tick_in_place(sides[side], node, calls));
 }
 
+fn compare_levels(bursts: usize) {
+    let node = board(LIBRARY).node;
+    assert_eq!((LIBRARY.actual_levels)(node), (FAST.actual_levels)(node));
+    let sides = [LIBRARY, FAST];
+    compare::<2>("actual levels of 32 lamps", bursts, |side, calls| time_levels(sides[side], node, calls));
+}
+
 // ---- checksums from start value 1 ----
 /// Document 01's rule as it stands.
 fn byte_by_byte(bytes: &[u8]) -> u16 {
@@ -480,6 +493,7 @@ fn main() {
     compare_requests(bursts);
     compare_compilers(bursts);
     compare_ticks(bursts);
+    compare_levels(bursts);
     compare_serial_line(bursts);
     compare_gateway(bursts);
     compare_checksums(bursts);
