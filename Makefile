@@ -12,9 +12,9 @@ check:
 	.ci/run
 
 install: all
-	install -d $(installed)/include $(installed)/lib/pkgconfig
-	install -m 644 include/grelfint.h $(installed)/include
-	install -m 644 target/staticlib/libgrelfint.a $(installed)/lib
-	sed 's|@PREFIX@|$(PREFIX)|; s|@VERSION@|$(VERSION)|' grelfint.pc.in >$(installed)/lib/pkgconfig/grelfint.pc
+	install -d "$(installed)/include" "$(installed)/lib/pkgconfig"
+	install -m 644 include/grelfint.h "$(installed)/include"
+	install -m 644 target/staticlib/libgrelfint.a "$(installed)/lib"
+	sed 's|@PREFIX@|$(PREFIX)|; s|@VERSION@|$(VERSION)|' grelfint.pc.in >"$(installed)/lib/pkgconfig/grelfint.pc"
 
 .PHONY: all check install

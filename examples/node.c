@@ -76,6 +76,17 @@ static void handle(const uint8_t *frame, size_t length)
         printf("    response: %zu bytes, ErrN %u\n", answer.length, response[GRELFINT_AT_ERRN]);
 }
 
+/* What comes in one second. */
+static void receive(unsigned second)
+{
+    for (size_t i = 0; i < sizeof arrivals / sizeof arrivals[0]; i++)
+        if (arrivals[i].second == second) {
+            printf("  %s\n", arrivals[i].what);
+            handle(arrivals[i].frame, arrivals[i].length);
+            drive_lamps();
+        }
+}
+
 int main(void)
 {
     const grelfint_settings settings = {
@@ -88,12 +99,7 @@ int main(void)
         printf("second %u\n", second);
         check(grelfint_tick_in_place(&node));
         drive_lamps();
-        for (size_t i = 0; i < sizeof arrivals / sizeof arrivals[0]; i++)
-            if (arrivals[i].second == second) {
-                printf("  %s\n", arrivals[i].what);
-                handle(arrivals[i].frame, arrivals[i].length);
-                drive_lamps();
-            }
+        receive(second);
     }
     return 0;
 }

@@ -43,6 +43,37 @@ static int print_lamps(grelfint_node node)
     return 0;
 }
 
+/* Prints a request and its timeslot; every compiled request has one. */
+static void print_request(const uint8_t *request, size_t length)
+{
+    grelfint_slot_answer timeslot = grelfint_timeslot(length - GRELFINT_FRAME_HEADER, lp);
+
+    printf("timeslot %d ms:", timeslot.slot * GRELFINT_SLOT_MS);
+    for (size_t i = 0; i < length; i++)
+        printf(" %02X", request[i]);
+    printf("\n");
+}
+
+/* Has the node handle the requests in `out`, which has their number, the length of each, and the requests. Returns a
+ * refusal. */
+static uint8_t handle_all(grelfint_node *node)
+{
+    const uint8_t *lengths = out + 1, *request = lengths + out[0];
+
+    for (size_t i = 0; i < out[0]; i++) {
+        grelfint_request_answer answer = grelfint_handle_request(*node, request, lengths[i], eeprom, sizeof eeprom,
+                                                                 external, sizeof external, response, sizeof response);
+
+        if (answer.refusal != GRELFINT_OK)
+            return answer.refusal;
+        *node = answer.node;
+        print_request(request, lengths[i]);
+        printf("  handled: ErrN %u\n", response[GRELFINT_AT_ERRN]);
+        request += lengths[i];
+    }
+    return GRELFINT_OK;
+}
+
 int main(void)
 {
     size_t book_length = fread(book, 1, sizeof book, stdin);
@@ -65,25 +96,9 @@ int main(void)
     if (started.refusal != GRELFINT_OK)
         return refused(started.refusal, 0);
 
-    /* The output is the number of requests, the length of each, and the requests. */
     grelfint_node node = started.node;
-    const uint8_t *lengths = out + 1, *request = lengths + out[0];
-    for (size_t i = 0; i < out[0]; i++) {
-        grelfint_slot_answer timeslot = grelfint_timeslot(lengths[i] - GRELFINT_FRAME_HEADER, lp);
-        if (timeslot.refusal != GRELFINT_OK)
-            return refused(timeslot.refusal, 0);
-        printf("request %zu, timeslot %d ms:", i, timeslot.slot * GRELFINT_SLOT_MS);
-        for (size_t k = 0; k < lengths[i]; k++)
-            printf(" %02X", request[k]);
-        printf("\n");
-
-        grelfint_request_answer answer = grelfint_handle_request(node, request, lengths[i], eeprom, sizeof eeprom,
-                                                                 external, sizeof external, response, sizeof response);
-        if (answer.refusal != GRELFINT_OK)
-            return refused(answer.refusal, 0);
-        printf("  handled: ErrN %u\n", response[GRELFINT_AT_ERRN]);
-        node = answer.node;
-        request += lengths[i];
-    }
+    uint8_t refusal = handle_all(&node);
+    if (refusal != GRELFINT_OK)
+        return refused(refusal, 0);
     return print_lamps(node);
 }

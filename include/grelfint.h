@@ -32,9 +32,9 @@
  * of them writes. Of the C library they need memcpy alone.
  *
  * The stack that a call takes, in bytes, counted in the machine code of this
- * version: with its return address and all that it calls, but for memcpy. The
- * arguments and the answer are the caller's: a node has 184 bytes, a gateway
- * 600, and the largest answer 688 (grelfint_release).
+ * version and not rounded: with its return address and all that it calls, but
+ * for memcpy. The arguments and the answer are the caller's: a node has 184
+ * bytes, a gateway 600, and the largest answer 688 (grelfint_release).
  *
  *     start                        59      confirm             8
  *     tick                        468      uart_receiver       8
@@ -61,8 +61,9 @@
 #include <stddef.h>
 #include <stdint.h>
 
-/* The second number is that of the last change request that is in it. Until the
- * first number is 1, a change may add fields to records. */
+/* The second number grows with every change of the interface or of an answer,
+ * the third with every other change. Until the first number is 1, a change may
+ * add fields to records. */
 #define GRELFINT_VERSION "0.6.0"
 #define GRELFINT_VERSION_MAJOR 0
 #define GRELFINT_VERSION_MINOR 6
@@ -139,8 +140,8 @@ extern "C" {
  * A response has the same header, with the node's address and HWPID and with
  * GRELFINT_PCMD_RESPONSE set, then ErrN, DpaValue and data. With an error it
  * has no data.
- * A confirmation is the first six bytes of a request, 0xFF in the place of
- * ErrN, DpaValue, hops, timeslot and response hops.
+ * A confirmation is the first six bytes of a request, then 0xFF (where a
+ * response has ErrN), DpaValue, hops, timeslot and response hops.
  *
  * Sizes are in bytes; PDATA, FRAME and RESPONSE are the longest ones. */
 #define GRELFINT_FRAME_HEADER 6
@@ -180,8 +181,8 @@ extern "C" {
 #define GRELFINT_PCMD_LIGHTS_RAISE 0x01 /* the same */
 #define GRELFINT_PCMD_LIGHTS_LOWER 0x02 /* the same */
 #define GRELFINT_PCMD_LIGHTS_ENUMERATE 0x3E /* none; the number of lamps */
-#define GRELFINT_PCMD_EEPROM_READ 0x00  /* address, number; the bytes */
-#define GRELFINT_PCMD_EEPROM_WRITE 0x01 /* address, bytes; none */
+#define GRELFINT_PCMD_EEPROM_READ 0x00  /* address, number (0 too); the bytes */
+#define GRELFINT_PCMD_EEPROM_WRITE 0x01 /* address, at least 1 byte; none */
 #define GRELFINT_PCMD_RAM_READ 0x00     /* as for EEPROM */
 #define GRELFINT_PCMD_RAM_WRITE 0x01
 #define GRELFINT_PCMD_EXTERNAL_READ 0x02 /* the same; the address has 2 bytes */
@@ -192,15 +193,25 @@ extern "C" {
                                           * for a plug-in), then 2 bytes each:
                                           * address in external memory; length,
                                           * a multiple of 64, or of 20 for a
-                                          * plug-in; checksum (Fletcher-16 from
-                                          * 1, or from 3 for a plug-in). 1 if it
-                                          * matches, else 0 */
+                                          * plug-in; checksum, see below. 1 if
+                                          * it matches, else 0 */
 #define GRELFINT_PCMD_RESPONSE 0x80      /* set in the PCMD of a response */
+
+/* The checksum of a code check: two sums over the bytes, of which `low` starts
+ * at 1, or at 3 for a plug-in, and `high` at 0. A sum of 255 stays 255, so that
+ * `% 255` is wrong:
+ *     low += byte;
+ *     if (low > 255)
+ *         low -= 255;
+ *     high += low;
+ *     if (high > 255)
+ *         high -= 255;
+ * The checksum is high << 8 | low. */
 
 /* ErrN: HWPID is tested first, then PNUM, PCMD and what the peripheral tests. A
  * request with an error has changed nothing. */
 #define GRELFINT_ERRN_NONE 0
-#define GRELFINT_ERRN_FAIL 1     /* flags of a code check */
+#define GRELFINT_ERRN_FAIL 1     /* a code check with a flag over bit 1 */
 #define GRELFINT_ERRN_PCMD 2     /* unknown PCMD */
 #define GRELFINT_ERRN_PNUM 3     /* unknown PNUM */
 #define GRELFINT_ERRN_ADDR 4     /* outside the memory */
@@ -789,9 +800,9 @@ grelfint_gateway_answer grelfint_send(
     const uint8_t *frame, size_t frame_length,
     uint8_t hops, uint8_t response_hops, uint16_t delay, uint64_t time);
 
-/* Releases the oldest request that waits, if the mesh is free. It is free from
- * grelfint_earliest_send after the last release on, computed for the request
- * released then and a response of 56 bytes of data. The first request of a
+/* Releases the oldest request that waits, if the mesh is free: if the time that
+ * grelfint_earliest_send gives for the request released last, with a response
+ * of 56 bytes of data, has passed since its release. The first request of a
  * gateway may be released at any time.
  *
  * time      the present, in ms

@@ -110,7 +110,11 @@ fn depths(code: &Code) -> (i64, Vec<(String, i64)>) {
         let after = depth + instruction.growth();
         deepest = deepest.max(after).max(depth + instruction.below());
         match (instruction.name.as_str(), &instruction.symbol) {
-            ("ret" | "ud2", _) => continue,
+            ("ret", _) => {
+                assert_eq!(depth, 0, "the stack pointer at the return, {address:x}");
+                continue;
+            }
+            ("ud2", _) => continue,
             ("call", Some(symbol)) => calls.push((symbol.clone(), after)),
             ("call", None) => calls.push((instruction.callee(), after)),
             ("jmp", Some(symbol)) => {
@@ -119,6 +123,7 @@ fn depths(code: &Code) -> (i64, Vec<(String, i64)>) {
                 continue;
             }
             ("jmp", None) if instruction.operands.starts_with('*') => {
+                assert!(table.is_none_or(|known| known == after), "two tables at two depths");
                 table = Some(after);
                 continue;
             }
@@ -126,6 +131,7 @@ fn depths(code: &Code) -> (i64, Vec<(String, i64)>) {
                 open.push((instruction.target(), after));
                 continue;
             }
+            (name, Some(symbol)) if name.starts_with('j') => calls.push((symbol.clone(), after - 8)),
             (name, None) if name.starts_with('j') => open.push((instruction.target(), after)),
             _ => {}
         }
@@ -171,7 +177,8 @@ fn stated(header: &str) -> BTreeMap<String, i64> {
 
 #[test]
 fn stack_as_stated() {
-    let archive = root().join("target/staticlib/libgrelfint.a");
+    let folder = std::env::var_os("GRELFINT_LIB_DIR").map_or_else(|| root().join("target/staticlib"), PathBuf::from);
+    let archive = folder.join("libgrelfint.a");
     let dump = Command::new("objdump").args(["-dr", "--no-show-raw-insn"]).arg(&archive).output().expect("objdump");
     assert!(dump.status.success(), "{}", String::from_utf8_lossy(&dump.stderr));
     let functions = functions(&String::from_utf8(dump.stdout).expect("text"));

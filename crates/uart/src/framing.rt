@@ -25,7 +25,7 @@ pub const SHORTEST: usize = 6;
 
 pub const LONGEST: usize = 64;
 
-// The longest framed message: two flags, and twice the message and its check byte.
+// The longest framed message: two flags, and twice the message and its check byte (`framed-max`).
 pub const LONGEST_FRAMED: usize = 2 * LONGEST + 4;
 
 pub fn flipped(byte: u8) -> u8
