@@ -140,6 +140,8 @@ fn bindings_have_no_others() {
 
 #[test]
 fn one_version() {
-    let version = printed_by_c("version", "    printf(\"%s\", GRELFINT_VERSION);\n");
-    assert_eq!(version, grelfint::VERSION);
+    let parts = "GRELFINT_VERSION_MAJOR, GRELFINT_VERSION_MINOR, GRELFINT_VERSION_PATCH";
+    let body = format!("    printf(\"%s %d.%d.%d\", GRELFINT_VERSION, {parts});\n");
+    let version = grelfint::VERSION;
+    assert_eq!(printed_by_c("version", &body), format!("{version} {version}"));
 }

@@ -8,7 +8,7 @@ pub struct UnknownNumber(pub u8);
 
 impl fmt::Display for UnknownNumber {
     fn fmt(&self, f: &mut fmt::Formatter) -> fmt::Result {
-        write!(f, "{} is not a number of the C interface here", self.0)
+        write!(f, "{} is not a number that the C interface uses for this", self.0)
     }
 }
 

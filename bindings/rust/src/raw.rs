@@ -226,13 +226,13 @@ impl ReceiveAnswer {
 #[repr(C)]
 #[derive(Clone, Copy, Debug, PartialEq, Eq)]
 pub struct Waiting {
-    /// The node's own, in ms.
+    /// What the node needs to prepare its response, in ms.
     pub delay: u16,
     /// Bytes of the request.
     pub length: u8,
-    /// Of the request.
+    /// Hops of the request.
     pub hops: u8,
-    /// Of the response.
+    /// Hops of the response.
     pub response_hops: u8,
     /// The request, then zeros.
     pub frame: [u8; FRAME],

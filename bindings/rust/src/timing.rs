@@ -20,11 +20,11 @@ impl Network {
 /// The way to a node and back.
 #[derive(Clone, Copy, Debug, PartialEq, Eq)]
 pub struct Route {
-    /// Of the request.
+    /// Hops of the request.
     pub hops: u8,
-    /// Of the response.
+    /// Hops of the response.
     pub response_hops: u8,
-    /// The node's own, in ms.
+    /// What the node needs to prepare its response, in ms.
     pub delay: u16,
 }
 

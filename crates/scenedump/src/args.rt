@@ -3,6 +3,7 @@ use crate::number::number_argument;
 use dpa::frame::Frame;
 use dpa::settings::address_ok;
 use libc::STDERR_FILENO;
+use libc::STDOUT_FILENO;
 ghost use Prim.Native.Nat.{_<_};
 
 pub struct Options {
@@ -153,8 +154,8 @@ pub fn read_arguments(count: usize) -> Arguments {
     Arguments::Run(options, NO_FILE, i)
 }
 
-pub fn print_usage(file: i32) {
-    let written = io::write_all(
+fn write_usage(file: i32) -> bool {
+    io::write_all(
         file,
         b"usage: scenedump [-a ADDRESS] [-p HWPID] [-n HOPS] [-l] [FILE [SCENE..]]
 Lists the scenes of a book, and the requests of each SCENE.
@@ -167,11 +168,13 @@ Lists the scenes of a book, and the requests of each SCENE.
   -h          prints this text
 Numbers are decimal, or hexadecimal after 0x.
 ",
-    );
-    if written {
-        return;
+    )
+}
+
+pub fn print_usage() {
+    if !write_usage(STDOUT_FILENO) {
+        os::fail(b"standard output");
     }
-    os::fail(b"standard output");
 }
 
 // Tells which argument is bad, and the usage.
@@ -187,5 +190,5 @@ pub fn refuse_argument(i: usize) {
         io::write_all(STDERR_FILENO, b"too long");
     }
     io::write_all(STDERR_FILENO, b"\n");
-    print_usage(STDERR_FILENO);
+    write_usage(STDERR_FILENO);
 }

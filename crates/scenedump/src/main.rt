@@ -40,7 +40,6 @@ use fault::print_book_fault;
 use fault::print_not_a_book;
 use input::Input;
 use input::read_input;
-use libc::STDOUT_FILENO;
 use print::print_with;
 use requests::print_scenes;
 use steps::print_book;
@@ -72,7 +71,7 @@ fn main() {
     let count = os::arg_count();
     match read_arguments(count) {
         Arguments::Run(options, file, first) => run(options, file, first, count),
-        Arguments::Help => print_usage(STDOUT_FILENO),
+        Arguments::Help => print_usage(),
         Arguments::Bad(i) => refuse_argument(i),
     }
 }
