@@ -312,7 +312,7 @@ typedef struct grelfint_request_answer {
     size_t length;  /* bytes of the response; 0 if there is none to send */
     bool load;      /* a code check matched and asked to load the code */
     bool addressed; /* NADR is this node's address or the broadcast address. It
-                     * tells a broadcast from a frame for another node; both
+                     * separates a broadcast from a frame for another node; both
                      * have length 0. The request may still have an error, or be
                      * a selective batch that does not name this node. */
     uint8_t reason; /* GRELFINT_REASON_..: why the list of a batch, or of a

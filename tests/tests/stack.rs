@@ -89,56 +89,72 @@ impl Instruction {
     }
 }
 
-/// The deepest place of a function below its return address, and for each function that it calls the deepest place of
-/// a call. Each way through the code is followed; a jump through a table may lead to any place that no other way does.
-fn depths(code: &Code) -> (i64, Vec<(String, i64)>) {
-    let mut at: BTreeMap<u64, i64> = BTreeMap::new();
-    let mut open = vec![(*code.keys().next().expect("some code"), 0)];
-    let (mut deepest, mut calls, mut table) = (0, Vec::new(), None);
-    loop {
-        let Some((address, depth)) = open.pop() else {
-            let Some(depth) = table else { return (deepest, calls) };
-            let Some(missed) = code.keys().find(|address| !at.contains_key(address)) else { return (deepest, calls) };
-            open.push((*missed, depth));
-            continue;
-        };
-        if let Some(known) = at.insert(address, depth) {
-            assert_eq!(known, depth, "two depths at {address:x}");
-            continue;
+/// A walk through the code of a function, on which every way is followed.
+struct Walk<'a> {
+    code: &'a Code,
+    /// How far the stack pointer is below the return address, before each instruction.
+    depths: BTreeMap<u64, i64>,
+    /// Where to go on, and the depth there.
+    open: Vec<(u64, i64)>,
+    /// The depth at a jump through a table, which may lead to any place that no other way does.
+    table: Option<i64>,
+    deepest: i64,
+    /// The functions that are called, and the depths there.
+    calls: Vec<(String, i64)>,
+}
+
+impl Walk<'_> {
+    /// The next instruction that was not visited.
+    fn next(&mut self) -> Option<(u64, i64)> {
+        while let Some((address, depth)) = self.open.pop() {
+            match self.depths.insert(address, depth) {
+                None => return Some((address, depth)),
+                Some(known) => assert_eq!(known, depth, "two depths at {address:x}"),
+            }
         }
-        let instruction = &code[&address];
+        let missed = *self.code.keys().find(|address| !self.depths.contains_key(address))?;
+        let depth = self.table?;
+        self.depths.insert(missed, depth);
+        Some((missed, depth))
+    }
+
+    /// Follows an instruction.
+    fn step(&mut self, address: u64, depth: i64) {
+        let instruction = &self.code[&address];
         let after = depth + instruction.growth();
-        deepest = deepest.max(after).max(depth + instruction.below());
-        match (instruction.name.as_str(), &instruction.symbol) {
-            ("ret", _) => {
-                assert_eq!(depth, 0, "the stack pointer at the return, {address:x}");
-                continue;
+        self.deepest = self.deepest.max(after).max(depth + instruction.below());
+        let name = instruction.name.as_str();
+        if name == "ret" {
+            assert_eq!(depth, 0, "the stack pointer at the return, {address:x}");
+        }
+        match &instruction.symbol {
+            Some(symbol) if name == "call" => self.calls.push((symbol.clone(), after)),
+            // in place of a call and a return
+            Some(symbol) if name.starts_with('j') => self.calls.push((symbol.clone(), after - 8)),
+            None if name == "call" => self.calls.push((instruction.callee(), after)),
+            None if name == "jmp" && instruction.operands.starts_with('*') => {
+                assert!(self.table.is_none_or(|known| known == after), "two tables at two depths");
+                self.table = Some(after);
             }
-            ("ud2", _) => continue,
-            ("call", Some(symbol)) => calls.push((symbol.clone(), after)),
-            ("call", None) => calls.push((instruction.callee(), after)),
-            ("jmp", Some(symbol)) => {
-                // in place of a call and a return
-                calls.push((symbol.clone(), after - 8));
-                continue;
-            }
-            ("jmp", None) if instruction.operands.starts_with('*') => {
-                assert!(table.is_none_or(|known| known == after), "two tables at two depths");
-                table = Some(after);
-                continue;
-            }
-            ("jmp", None) => {
-                open.push((instruction.target(), after));
-                continue;
-            }
-            (name, Some(symbol)) if name.starts_with('j') => calls.push((symbol.clone(), after - 8)),
-            (name, None) if name.starts_with('j') => open.push((instruction.target(), after)),
+            None if name.starts_with('j') => self.open.push((instruction.target(), after)),
             _ => {}
         }
-        if let Some((&next, _)) = code.range(address + 1..).next() {
-            open.push((next, after));
+        if let Some((&next, _)) =
+            self.code.range(address + 1..).next().filter(|_| !["ret", "ud2", "jmp"].contains(&name))
+        {
+            self.open.push((next, after));
         }
     }
+}
+
+/// The deepest place of a function below its return address, and the depth of each call of another function.
+fn depths(code: &Code) -> (i64, Vec<(String, i64)>) {
+    let open = vec![(*code.keys().next().expect("some code"), 0)];
+    let mut walk = Walk { code, depths: BTreeMap::new(), open, table: None, deepest: 0, calls: Vec::new() };
+    while let Some((address, depth)) = walk.next() {
+        walk.step(address, depth);
+    }
+    (walk.deepest, walk.calls)
 }
 
 /// Calls itself for the rest of a list after each entry, which has at least 5 of the 56 bytes of PData: at most 12

@@ -74,6 +74,19 @@ fn book(level: u8) -> Vec<u8> {
     [&contents, &steps.concat()[..]].concat()
 }
 
+/// A scene, compiled for this node and handled request by request; then one with a bad step, which has no requests.
+fn scenes(board: &mut Board) -> Result<(), Box<dyn Error>> {
+    let mut out = [0; COMPILED];
+    for frame in compile(&book(75), 0, ADDRESS, HWPID, &mut out)?.requests() {
+        board.handle("scene", frame)?;
+    }
+    println!("EEPROM byte 5 is {:02X}", board.eeprom[5]);
+    if let Err(refused) = compile(&book(101), 0, ADDRESS, HWPID, &mut out) {
+        board.print("bad scene", &format!("refused: {refused}"))?;
+    }
+    Ok(())
+}
+
 fn main() -> Result<(), Box<dyn Error>> {
     let mut board = Board::new()?;
 
@@ -105,16 +118,5 @@ fn main() -> Result<(), Box<dyn Error>> {
         other => other?,
     }
 
-    // A scene, compiled for this node and handled request by request.
-    let mut out = [0; COMPILED];
-    for frame in compile(&book(75), 0, ADDRESS, HWPID, &mut out)?.requests() {
-        board.handle("scene", frame)?;
-    }
-    println!("EEPROM byte 5 is {:02X}", board.eeprom[5]);
-
-    // A scene with a bad step has no requests.
-    if let Err(refused) = compile(&book(101), 0, ADDRESS, HWPID, &mut out) {
-        board.print("bad scene", &format!("refused: {refused}"))?;
-    }
-    Ok(())
+    scenes(&mut board)
 }
