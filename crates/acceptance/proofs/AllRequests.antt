@@ -14,8 +14,8 @@ use Rattle.dpa.specs.Pnum.{osPnum}
 use Rattle.batch.specs.Batch.{Item, item, listBytes}
 use Rattle.dpa.specs.Lists.{All}
 use Rattle.batch.proofs.RoundTrip.{list-nonempty}
-use Rattle.handler.specs.Request.{State, SoundState, hwpidMatches, batchRequest, selectivePcmd, execute, handleRequest}
-use Rattle.handler.proofs.SelectiveBatches.{not-selected-stays}
+use Rattle.outcome.specs.Request.{State, SoundState, hwpidMatches, batchRequest, selectivePcmd, execute, handleRequest}
+use Rattle.outcome.proofs.SelectiveBatches.{not-selected-stays}
 use Rattle.book.specs.declared.step.Step.{Step}
 use Rattle.book.specs.Group.{concat}
 use Rattle.book.specs.Machine.{machine}

@@ -9,9 +9,9 @@ use Rattle.dpa.specs.declared.settings.Settings.{Settings}
 use Rattle.batch.specs.Batch.{listBytes, Reading, runItems, errorsOf}
 use Rattle.dpa.specs.Lists.{All}
 use Rattle.batch.proofs.RoundTrip.{round-trip, list-nonempty}
-use Rattle.handler.specs.Request.{State, SoundState, hwpidMatches, executeEntry, entryAfter, entryError, noReport, Outcome, outcome, batchOutcome, batchRequest}
-use Rattle.handler.proofs.Soundness.{entry-sound}
-use Rattle.handler.proofs.Outcomes.{batch-runs}
+use Rattle.outcome.specs.Request.{State, SoundState, hwpidMatches, executeEntry, entryAfter, entryError, noReport, Outcome, outcome, batchOutcome, batchRequest}
+use Rattle.outcome.proofs.Soundness.{entry-sound}
+use Rattle.outcome.proofs.Outcomes.{batch-runs}
 use Rattle.book.specs.declared.step.Step.{Step}
 use Rattle.book.specs.Group.{concat}
 use Rattle.book.specs.Machine.{machine}

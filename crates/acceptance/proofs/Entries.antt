@@ -13,9 +13,9 @@ use Rattle.dpa.proofs.Bool.{by-test, and-left, and-right}
 use Rattle.memory.specs.declared.block.Memory.{Memory}
 use Rattle.memory.specs.declared.block.Memory.the-variants.{Eeprom, Ram}
 use Rattle.memory.specs.Block.{sizeOf}
-use Rattle.handler.specs.Request.{State, SoundState, memoryOf, hwpidMatches, peripheralRequest, executeEntry}
+use Rattle.outcome.specs.Request.{State, SoundState, memoryOf, hwpidMatches, peripheralRequest, executeEntry}
 use Rattle.node.proofs.Nodes.{node-lamps, node-ram}
-use Rattle.handler.proofs.BatchEntries.{entry-match}
+use Rattle.outcome.proofs.BatchEntries.{entry-match}
 use Rattle.book.specs.declared.step.Step.{Step}
 use Rattle.book.specs.Step.{ramKind, eepromKind}
 use Rattle.book.specs.Machine.{machine}

@@ -14,7 +14,7 @@ use Rattle.batch.specs.Batch.{entryBytes, entriesBytes, nextEntry, readingFrom,
 use Rattle.batch.specs.Selective.{selectionOf}
 use Rattle.timing.specs.Slot.{baseSlot, networkExtra, slotOf, directionTime, earliestOf, sendOf}
 use Rattle.node.specs.Node.{shapeOk, lampsOk, nodeOk}
-use Rattle.handler.specs.Request.{peripheralRequest, hwpidMatches, executeEntry, listRequest, batchRequest, selectiveRequest, osRequest, execute, handleFrame, requestRefusal, handleRequest}
+use Rattle.outcome.specs.Request.{peripheralRequest, hwpidMatches, executeEntry, listRequest, batchRequest, selectiveRequest, osRequest, execute, handleFrame, requestRefusal, handleRequest}
 use Rattle.book.specs.Book.{chained, bookOk, sceneOf}
 use Rattle.book.specs.Step.{stepTimeOk, lampFault, byteFault, stepFault}
 use Rattle.book.specs.Entry.{powerBytes, entryData, pnumOf, pcmdOf}

@@ -19,7 +19,7 @@ use Rattle.lights.specs.declared.lamp.Lamp.{Lamp}
 use Rattle.lights.specs.Lamp.{lamp, off, lampOk, lampZero, lampFits}
 use Rattle.lights.specs.Lights.{timeOk}
 use Rattle.node.specs.Node.{shapeOk, lampsOk, nodeOk}
-use Rattle.handler.specs.Request.{State, state, SoundState, batchPcmd, selectivePcmd}
+use Rattle.outcome.specs.Request.{State, state, SoundState, batchPcmd, selectivePcmd}
 use Rattle.book.specs.Book.{chained, bookOk, sceneOf}
 use Rattle.book.specs.Step.{stepTimeOk, lampFault, byteFault, stepFault}
 use Rattle.book.specs.Machine.{timeFormed, wellFormed, machineLevel, machineSeconds, machineLamps, machineEffect, machineStep, machine}

@@ -20,10 +20,10 @@ use Rattle.dpa.proofs.Ranges.{settings-facts}
 use Rattle.memory.specs.declared.block.Memory.the-variants.{Eeprom, External}
 use Rattle.memory.specs.Block.{sizeOf}
 use Rattle.batch.specs.Batch.{Item, item}
-use Rattle.handler.specs.Request.{State, SoundState, frameItem, noReport, Outcome, execute, CallResult, unansweredResult, unicastResult, requestRefusal, callRefusal, handleRequest}
+use Rattle.outcome.specs.Request.{State, SoundState, frameItem, noReport, Outcome, execute, CallResult, unansweredResult, unicastResult, requestRefusal, callRefusal, handleRequest}
 use Rattle.node.proofs.Nodes.{node-settings}
-use Rattle.handler.proofs.Calls.{frame-broadcast, frame-unicast, call-accepted}
-use Rattle.handler.proofs.Soundness.{execute-sound}
+use Rattle.outcome.proofs.Calls.{frame-broadcast, frame-unicast, call-accepted}
+use Rattle.outcome.proofs.Soundness.{execute-sound}
 use Rattle.acceptance.specs.SceneTheorem.{Success, Ignored}
 use Rattle.acceptance.proofs.Batches.{noErrorOutcome}
 

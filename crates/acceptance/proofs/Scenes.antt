@@ -15,9 +15,9 @@ use Rattle.dpa.specs.Settings.{addressOk}
 use Rattle.dpa.proofs.NodeSets.{set-ok-exact}
 use Rattle.batch.specs.Batch.{item, listBytes, Reading}
 use Rattle.batch.proofs.RoundTrip.{round-trip, list-nonempty}
-use Rattle.handler.specs.Request.{State, hwpidMatches, batchRequest, batchPcmd, selectivePcmd, execute}
-use Rattle.handler.proofs.Outcomes.{execute-os, os-batch}
-use Rattle.handler.proofs.SelectiveBatches.{selected-as-batch}
+use Rattle.outcome.specs.Request.{State, hwpidMatches, batchRequest, batchPcmd, selectivePcmd, execute}
+use Rattle.outcome.proofs.Outcomes.{execute-os, os-batch}
+use Rattle.outcome.proofs.SelectiveBatches.{selected-as-batch}
 use Rattle.book.specs.declared.step.Step.{Step}
 use Rattle.book.specs.Book.{sceneOf}
 use Rattle.book.specs.Step.{noFault, stepFault}

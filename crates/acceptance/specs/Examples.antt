@@ -14,7 +14,7 @@ use Rattle.checksum.specs.Sums.{sums, start, checksum}
 use Rattle.batch.specs.Batch.{item}
 use Rattle.timing.specs.declared.slot.Network.the-variants.{Std}
 use Rattle.timing.specs.Slot.{sendOf}
-use Rattle.handler.specs.Request.{State, faultReport, Outcome, unansweredOutcome, batchPcmd, selectivePcmd, execute, CallResult, unansweredResult, handleRequest}
+use Rattle.outcome.specs.Request.{State, faultReport, Outcome, unansweredOutcome, batchPcmd, selectivePcmd, execute, CallResult, unansweredResult, handleRequest}
 use Rattle.book.specs.declared.step.Step.{Step}
 use Rattle.book.specs.Join.{entriesOf}
 use Rattle.book.specs.Examples.{settings, freshState, book}

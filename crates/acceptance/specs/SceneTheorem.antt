@@ -30,7 +30,7 @@ use Rattle.dpa.specs.Frame.{responseHeaderSize, longestResponse, broadcastNadr,
 use Rattle.dpa.specs.NodeSet.{nodeSetSize, selects, Selectable}
 use Rattle.dpa.specs.Pnum.{osPnum}
 use Rattle.dpa.specs.Settings.{lastAddress}
-use Rattle.handler.specs.Request.{State, SoundState, frameItem, noReport, batchPcmd, selectivePcmd, execute, handleRequest}
+use Rattle.outcome.specs.Request.{State, SoundState, frameItem, noReport, batchPcmd, selectivePcmd, execute, handleRequest}
 use Rattle.book.specs.declared.step.Step.{Step}
 use Rattle.book.specs.Book.{sceneCount, bookOk, sceneOf}
 use Rattle.book.specs.Step.{noFault, stepFault, FaultMeaning}

@@ -4,7 +4,7 @@ use mathlib.Core.Path.{_≡_, refl}
 use Prim.Native.Nat.{ℕ}
 use lib.ListN.{getD, take}
 use Rattle.lights.specs.Lamp.{lamp, off}
-use Rattle.handler.specs.Request.{State}
+use Rattle.outcome.specs.Request.{State}
 use Rattle.book.specs.declared.step.Step.{Step}
 use Rattle.book.specs.Book.{sceneOf}
 use Rattle.book.specs.Step.{setKind, raiseKind, lowerKind}

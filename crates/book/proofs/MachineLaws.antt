@@ -11,7 +11,7 @@ use borrow.Author.Tests.{eqb-true, eqb-false, ne-eqb, ltb-true}
 use Rattle.dpa.proofs.Bool.{by-cond, by-test}
 use Rattle.lights.specs.Lamp.{off}
 use Rattle.lights.specs.declared.lamp.Lamp.{Lamp}
-use Rattle.handler.specs.Request.{State}
+use Rattle.outcome.specs.Request.{State}
 use Rattle.book.specs.declared.step.Step.{Step}
 use Rattle.book.specs.Step.{ramKind, eepromKind, isLamp}
 use Rattle.book.specs.Machine.{wellFormed, machineLamp, machineLamps, machineEffect, machineStep, machine}

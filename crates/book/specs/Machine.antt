@@ -12,7 +12,7 @@ use Rattle.memory.specs.declared.block.Memory.the-variants.{Eeprom, Ram}
 use Rattle.lights.specs.Lamp.{changed, off, maxLevel}
 use Rattle.lights.specs.declared.lamp.Lamp.{Lamp}
 use Rattle.node.specs.Node.{withLamps, withRam}
-use Rattle.handler.specs.Request.{State, withNode, withEeprom}
+use Rattle.outcome.specs.Request.{State, withNode, withEeprom}
 use Rattle.book.specs.declared.step.Step.{Step}
 use Rattle.book.specs.Step.{setKind, raiseKind, ramKind, eepromKind, isLamp}
 

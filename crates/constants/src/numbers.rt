@@ -6,11 +6,11 @@ use dpa::frame::RESPONSE_BIT;
 use dpa::pnum;
 use dpa::refusal;
 use dpa::settings::LAST_ADDRESS;
-use handler::os;
 use lights::request;
 use memory::block::Memory;
 use memory::block::read_command;
 use memory::block::write_command;
+use outcome::os;
 
 pub fn refusals() {
     print(b"OK", refusal::NONE as u64);

@@ -1,12 +1,12 @@
 // Requests, and the read view of a memory.
-use handler::answer::RequestAnswer;
 use handler::request::handle_request;
 use memory::view::view_status;
 use node::record::Node;
+use outcome::answer::RequestAnswer;
 ghost use mathlib.Core.Path.{_≡_};
 ghost use Rattle.memory.specs.View.{viewStatus};
-ghost use Rattle.handler.specs.Request.{state, handleRequest};
-ghost use Rattle.handler.specs.Seen.{callResult};
+ghost use Rattle.outcome.specs.Request.{state, handleRequest};
+ghost use Rattle.outcome.specs.Seen.{callResult};
 
 #[no_mangle]
 pub extern "C" fn grelfint_handle_request(

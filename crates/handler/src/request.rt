@@ -1,16 +1,4 @@
 // `handle_request`: refusals, the address, the HWPID, then the peripherals, the response, and at last the lamps.
-use crate::answer::Handled;
-use crate::answer::RequestAnswer;
-use crate::answer::answer_handled;
-use crate::answer::answer_unhandled;
-use crate::answer::handled_as;
-use crate::hwpid::hwpid_matches;
-use crate::lamps::lamps_after;
-use crate::os::os_request;
-use crate::peripheral::peripheral_request;
-use crate::reply::RequestReply;
-use crate::reply::peripheral_reply;
-use crate::reply::without_data;
 use dpa::error;
 use dpa::frame::Frame;
 use dpa::frame::write_response_header;
@@ -19,12 +7,22 @@ use dpa::refusal;
 use dpa::settings::Settings;
 use lights::lamp::LAMPS;
 use lights::lamp::Lamp;
-use memory::block::Memory;
-use memory::block::size_of;
 use node::record::Node;
 use node::record::ReadOnly;
-use node::record::node_ok;
 use node::record::read_only;
+use outcome::answer::Handled;
+use outcome::answer::RequestAnswer;
+use outcome::answer::answer_handled;
+use outcome::answer::answer_unhandled;
+use outcome::answer::handled_as;
+use outcome::hwpid::hwpid_matches;
+use outcome::refusals::request_refusal;
+use outcome::reply::RequestReply;
+use outcome::reply::peripheral_reply;
+use outcome::reply::without_data;
+use peripherals::os::os_request;
+use peripherals::peripheral::peripheral_request;
+use walk::lamps::lamps_after;
 ghost use mathlib.Core.Path.{_≡_};
 ghost use mathlib.Core.List.{List};
 ghost use mathlib.Core.Bool.{_||_};
@@ -32,8 +30,8 @@ ghost use Prim.Native.Nat.{ℕ, _≤_};
 ghost use lib.Dec.{eqb};
 ghost use lib.ListN.{length};
 ghost use Rattle.dpa.specs.Frame.{headerSize, longestFrame, pdataMax, responseHeaderSize, longestResponse, broadcastNadr};
-ghost use Rattle.handler.specs.Request.{state, SoundState, execute, headerItem, handleFrame, requestRefusal, handleRequest};
-ghost use Rattle.handler.specs.Seen.{stateFromParts, outcomeSeen, outcomeInBuffer, handledReply, withResponseHeader, handledSeen, handledBroadcast, handledUnicast, handledAddressed, callResult};
+ghost use Rattle.outcome.specs.Request.{state, SoundState, execute, headerItem, handleFrame, handleRequest};
+ghost use Rattle.outcome.specs.Seen.{stateFromParts, outcomeSeen, outcomeInBuffer, handledReply, withResponseHeader, handledSeen, handledBroadcast, handledUnicast, handledAddressed, callResult};
 
 // Checks the HWPID, then executes the request, except that the lamps stay. The response data goes to the front of `out`.
 fn execute(
@@ -210,34 +208,6 @@ fn handle_frame(
     );
     let after = lamps_after(fixed.settings, done.success, header, pdata, lamps);
     answer_handled(fixed, done, after, ram)
-}
-
-// The refusal of a call, tested in the order of the numbers.
-fn request_refusal(
-    node: Node,
-    frame_length: usize,
-    eeprom_length: usize,
-    external_length: usize,
-    response_length: usize,
-) -> u8
-    ensures { λ r. ⌜ r ≡ requestRefusal node «frame_length» «eeprom_length» «external_length» «response_length» ⌝ }
-{
-    if !node_ok(node) {
-        return refusal::NODE;
-    }
-    if !Frame::fits(frame_length) {
-        return refusal::FRAME;
-    }
-    if response_length < Frame::RESPONSE_LONGEST {
-        return refusal::RESPONSE;
-    }
-    if eeprom_length != size_of(Memory::Eeprom) {
-        return refusal::MEMORY;
-    }
-    if external_length != size_of(Memory::External) {
-        return refusal::MEMORY;
-    }
-    refusal::NONE
 }
 
 // Handles a request. A refused call changes nothing.

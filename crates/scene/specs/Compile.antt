@@ -8,7 +8,7 @@ use Rattle.dpa.specs.declared.frame.Frame.{Frame}
 use Rattle.dpa.specs.Frame.{pdataMax, broadcastNadr, frame, headerBytes}
 use Rattle.dpa.specs.Pnum.{osPnum}
 use Rattle.batch.specs.Batch.{Item, entryHeadSize, listBytes}
-use Rattle.handler.specs.Request.{batchPcmd, selectivePcmd}
+use Rattle.outcome.specs.Request.{batchPcmd, selectivePcmd}
 use Rattle.book.specs.declared.step.Step.{Step}
 use Rattle.book.specs.Entry.{joinedItem}
 use Rattle.book.specs.Group.{group}

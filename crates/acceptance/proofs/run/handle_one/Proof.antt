@@ -1,7 +1,7 @@
 -- `run::handle_one`: the state after the call.
 use borrow.Author.Needs.{needs}
 use mathlib.Core.Path.{ap}
-use Rattle.handler.specs.Request.{CallResult}
+use Rattle.outcome.specs.Request.{CallResult}
 use Rattle.acceptance.proofs.run.handle_one.Statement.{statement}
 use Rattle.acceptance.proofs.run.handle_one.Tie as tie
 

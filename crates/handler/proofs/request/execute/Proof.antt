@@ -3,9 +3,9 @@ use borrow.Author.Needs.{needs}
 use borrow.Author.Tests.{not-true, not-false}
 use mathlib.Core.Path.{_≡_, sym, _∙_}
 use mathlib.Core.Bool.{true}
-use Rattle.handler.specs.Request.{hwpidMatches, peripheralRequest}
-use Rattle.handler.proofs.Outcomes.{execute-mismatch, execute-os, execute-peripheral, outcome-as, outcome-reply-only, in-buffer}
-use Rattle.handler.proofs.Parts.{sound-sized}
+use Rattle.outcome.specs.Request.{hwpidMatches, peripheralRequest}
+use Rattle.outcome.proofs.Outcomes.{execute-mismatch, execute-os, execute-peripheral, outcome-as, outcome-reply-only, in-buffer}
+use Rattle.outcome.proofs.Parts.{sound-sized}
 use Rattle.handler.proofs.request.execute.Statement.{statement}
 use Rattle.handler.proofs.request.execute.Tie as tie
 

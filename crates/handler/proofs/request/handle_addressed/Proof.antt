@@ -1,9 +1,9 @@
 -- `handle_addressed`: by the NADR.
 use borrow.Author.Needs.{needs}
 use mathlib.Core.Path.{_∙_}
-use Rattle.handler.specs.Request.{execute, headerItem}
-use Rattle.handler.specs.Seen.{stateFromParts}
-use Rattle.handler.proofs.Calls.{addressed-broadcast, addressed-unicast}
+use Rattle.outcome.specs.Request.{execute, headerItem}
+use Rattle.outcome.specs.Seen.{stateFromParts}
+use Rattle.outcome.proofs.Calls.{addressed-broadcast, addressed-unicast}
 use Rattle.handler.proofs.request.handle_addressed.Statement.{statement}
 use Rattle.handler.proofs.request.handle_addressed.Tie as tie
 

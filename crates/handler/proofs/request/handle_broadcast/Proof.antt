@@ -3,8 +3,8 @@ use borrow.Author.Needs.{needs}
 use mathlib.Core.Path.{ap, _∙_}
 use mathlib.Core.Bool.{_&&_}
 use lib.Dec.{eqb}
-use Rattle.handler.specs.Seen.{SeenOutcome}
-use Rattle.handler.proofs.Calls.{handled-same}
+use Rattle.outcome.specs.Seen.{SeenOutcome}
+use Rattle.outcome.proofs.Calls.{handled-same}
 use Rattle.handler.proofs.request.handle_broadcast.Statement.{statement}
 use Rattle.handler.proofs.request.handle_broadcast.Tie as tie
 

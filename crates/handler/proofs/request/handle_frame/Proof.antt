@@ -11,12 +11,12 @@ use Rattle.dpa.specs.Frame.{headerSize, broadcastNadr, headerOf}
 use Rattle.batch.specs.Batch.{Item}
 use Rattle.node.specs.declared.record.ReadOnly.{ReadOnly}
 use Rattle.node.proofs.Nodes.{node-ram}
-use Rattle.handler.specs.declared.reply.Report.{Report}
-use Rattle.handler.specs.Request.{State, SoundState, Outcome, headerItem, frameItem, execute}
-use Rattle.handler.specs.Seen.{stateFromParts, SeenHandled, addressedResult, lampsAfterSuccess, succeeded}
-use Rattle.handler.proofs.Calls.{frame-item-read, frame-addressed, frame-other, addressed-report, addressed-call, call-result-as}
-use Rattle.handler.proofs.Parts.{request-settings, request-lamps, success-known}
-use Rattle.handler.proofs.Sizes.{frame-place}
+use Rattle.outcome.specs.declared.reply.Report.{Report}
+use Rattle.outcome.specs.Request.{State, SoundState, Outcome, headerItem, frameItem, execute}
+use Rattle.outcome.specs.Seen.{stateFromParts, SeenHandled, addressedResult, lampsAfterSuccess, succeeded}
+use Rattle.outcome.proofs.Calls.{frame-item-read, frame-addressed, frame-other, addressed-report, addressed-call, call-result-as}
+use Rattle.outcome.proofs.Parts.{request-settings, request-lamps, success-known}
+use Rattle.outcome.proofs.Sizes.{frame-place}
 use Rattle.handler.proofs.request.handle_frame.Statement.{statement}
 use Rattle.handler.proofs.request.handle_frame.Tie as tie
 

@@ -3,10 +3,10 @@ use borrow.Author.Needs.{needs}
 use native.Mathlib.Omega.{arith}
 use mathlib.Core.Path.{ap}
 use Rattle.batch.specs.Batch.{Item}
-use Rattle.handler.specs.Request.{State, execute, headerItem}
-use Rattle.handler.specs.Seen.{stateFromParts, SeenOutcome}
-use Rattle.handler.proofs.Sizes.{execute-fits, unanswered-empty}
-use Rattle.handler.proofs.Calls.{unicast-response}
+use Rattle.outcome.specs.Request.{State, execute, headerItem}
+use Rattle.outcome.specs.Seen.{stateFromParts, SeenOutcome}
+use Rattle.outcome.proofs.Sizes.{execute-fits, unanswered-empty}
+use Rattle.outcome.proofs.Calls.{unicast-response}
 use Rattle.handler.proofs.request.handle_unicast.Statement.{statement}
 use Rattle.handler.proofs.request.handle_unicast.Tie as tie
 

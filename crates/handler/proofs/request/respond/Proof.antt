@@ -5,8 +5,8 @@ use mathlib.Core.Bool.{true, false, cond}
 use Prim.Native.Nat.{_+_}
 use borrow.Author.Tests.{not-true, not-false}
 use Rattle.dpa.specs.Frame.{responseHeaderSize}
-use Rattle.handler.specs.declared.reply.RequestReply.{RequestReply}
-use Rattle.handler.specs.Seen.{handledAs, handledReply}
+use Rattle.outcome.specs.declared.reply.RequestReply.{RequestReply}
+use Rattle.outcome.specs.Seen.{handledAs, handledReply}
 use Rattle.handler.proofs.request.respond.Statement.{statement}
 use Rattle.handler.proofs.request.respond.Tie as tie
 

@@ -1,0 +1,239 @@
+-- The call: refusals, the address of the frame, and the response.
+use mathlib.Core.Path.{_≡_, refl, ap, sym, _∙_}
+use mathlib.Core.List.{List, [], _++_}
+use mathlib.Core.Bool.{Bool, true, false, cond, _&&_, _||_}
+use Prim.Native.Nat.{ℕ, _+_, _-_, _≤_}
+use native.Mathlib.Omega.{arith}
+use lib.Dec.{ltb, eqb}
+use lib.ListN.{length, take, drop}
+use borrow.Rule.Slice.PartMut.{midOf, putMid, put-same}
+use borrow.Author.Tests.{eq-eqb, ne-eqb, eqb-true, eqb-false, ltb-false}
+use Rattle.dpa.specs.declared.frame.Frame.{Frame}
+use Rattle.dpa.specs.declared.settings.Settings.{Settings}
+use Rattle.dpa.specs.Lists.{overwriteFront}
+use Rattle.dpa.specs.Frame.{headerSize, longestFrame, responseHeaderSize, longestResponse, broadcastNadr, headerOf, frameFits, responseHeader}
+use Rattle.dpa.proofs.Bool.{by-cond, by-test, then-taken, else-taken}
+use Rattle.dpa.proofs.Headers.{fits-sizes}
+use Rattle.dpa.proofs.Lists.{slice-to-end, tail-borrowed, tail-returned, overwrite-append}
+use Rattle.memory.specs.declared.block.Memory.the-variants.{Eeprom, External}
+use Rattle.memory.specs.Block.{sizeOf}
+use Rattle.batch.specs.Batch.{Item}
+use Rattle.lights.specs.declared.lamp.Lamp.{Lamp}
+use Rattle.node.specs.declared.record.Node.{Node}
+use Rattle.node.specs.declared.record.ReadOnly.{ReadOnly}
+use Rattle.outcome.specs.declared.reply.RequestReply.{RequestReply}
+use Rattle.outcome.specs.declared.answer.Handled.{Handled}
+use Rattle.outcome.specs.declared.answer.RequestAnswer.{RequestAnswer}
+use Rattle.node.specs.Node.{nodeOk}
+use Rattle.outcome.specs.Request.{State, state, SoundState, Outcome, headerItem, frameItem, execute, CallResult, unhandledResult, unansweredResult, responseResult, unicastResult, handleFrame, requestRefusal, callRefusal, handleRequest}
+use Rattle.outcome.specs.Seen.{stateFromParts, Memories, memories, memoriesOf, succeeded, SeenOutcome, outcomeSeen, outcomeInBuffer, handledReply, withResponseHeader, SeenHandled, handledSeen, handledOf, handledBroadcast, handledUnicast, addressedResult, handledAddressed, callResult}
+
+-- the request that the code reads from a frame
+pub frame-item-read : (f : List ℕ) {h : Frame} → h ≡ headerOf f → headerItem h (take (length f - headerSize) (drop headerSize f)) ≡ frameItem f
+frame-item-read f e =
+    ap (λ (h : Frame). headerItem h (take (length f - headerSize) (drop headerSize f))) e
+    ∙ ap (headerItem (headerOf f)) (slice-to-end headerSize f)
+
+module _ (f : List ℕ) (st : State) (o : List ℕ) where
+  -- a broadcast
+  pub frame-broadcast : headerOf f .nadr ≡ broadcastNadr → handleFrame f st o ≡ unansweredResult (execute (frameItem f) st) o
+  unfolding handleFrame
+  frame-broadcast e = rw (eq-eqb (headerOf f .nadr) broadcastNadr e)
+
+  -- a frame for this node
+  pub frame-unicast : (headerOf f .nadr ≡ broadcastNadr → ⊥) → headerOf f .nadr ≡ st .node .settings .address
+      → handleFrame f st o ≡ unicastResult (st .node .settings) (frameItem f) (execute (frameItem f) st) o
+  unfolding handleFrame
+  frame-unicast n e = rw (ne-eqb (headerOf f .nadr) broadcastNadr n, eq-eqb (headerOf f .nadr) (st .node .settings .address) e)
+
+  -- a frame for all nodes or for this one
+  pub frame-addressed : (eqb (headerOf f .nadr) broadcastNadr || eqb (headerOf f .nadr) (st .node .settings .address)) ≡ true
+      → handleFrame f st o ≡ addressedResult (st .node .settings) (headerOf f) (frameItem f) (execute (frameItem f) st) o
+  frame-addressed e =
+      by-test (eqb (headerOf f .nadr) broadcastNadr)
+      (λ a. rw a (frame-broadcast (eqb-true _ _ a)))
+      (λ a. rw a (frame-unicast (eqb-false _ _ a) (eqb-true _ _ (own (eqb (headerOf f .nadr) broadcastNadr) (eqb (headerOf f .nadr) (st .node .settings .address)) a e))))
+    where
+      own : (b c : Bool) → b ≡ false → (b || c) ≡ true → c ≡ true
+      own true c p q = cc
+      own false c p q = q
+
+  -- a frame for another node
+  pub frame-other : (eqb (headerOf f .nadr) broadcastNadr || eqb (headerOf f .nadr) (st .node .settings .address)) ≡ false → handleFrame f st o ≡ unhandledResult st 0 o
+  unfolding handleFrame
+  frame-other e =
+      by-test (eqb (headerOf f .nadr) broadcastNadr)
+      (λ a. let z : _≡_ {A = ℕ} 0 1 = cc in absurd (omega arith))
+      (λ a. rw (a, other (eqb (headerOf f .nadr) broadcastNadr) (eqb (headerOf f .nadr) (st .node .settings .address)) a e))
+    where
+      other : (b c : Bool) → b ≡ false → (b || c) ≡ false → c ≡ false
+      other true c p q = cc
+      other false c p q = q
+
+  -- a refused call changes nothing
+  pub call-refused : {k : ℕ} → k ≡ callRefusal f st o → (k ≡ 0 → ⊥) → unhandledResult st k o ≡ handleRequest f st o
+  unfolding handleRequest
+  call-refused e n =
+      rw (ne-eqb (callRefusal f st o) 0 (λ z. n (e ∙ z))) (ap (λ (r : ℕ). unhandledResult st r o) e)
+
+  -- a call that is not refused handles the frame
+  pub call-accepted : callRefusal f st o ≡ 0 → handleRequest f st o ≡ handleFrame f st o
+  unfolding handleRequest
+  call-accepted e = rw (eq-eqb (callRefusal f st o) 0 e)
+
+-- A property of results holds for every call if it holds where nothing is done, without a response and with one.
+pub call-cases : (P : CallResult → Type 0) (f : List ℕ) (st : State) (o : List ℕ) → ((k : ℕ) → P (unhandledResult st k o))
+    → (callRefusal f st o ≡ 0 → P (unansweredResult (execute (frameItem f) st) o))
+    → (callRefusal f st o ≡ 0 → P (responseResult (st .node .settings) (frameItem f) (execute (frameItem f) st) o))
+    → P (handleRequest f st o)
+unfolding handleRequest handleFrame
+call-cases P f st o nothing all own =
+    by-cond P (eqb (callRefusal f st o) 0) _ _
+    (λ z. by-cond P (eqb (headerOf f .nadr) broadcastNadr) _ _ (λ _. all (eqb-true _ _ z))
+    (λ _. by-cond P (eqb (headerOf f .nadr) (st .node .settings .address)) _ _
+    (λ _. by-cond P (execute (frameItem f) st .answered) _ _ (λ _. own (eqb-true _ _ z)) (λ _. all (eqb-true _ _ z)))
+    (λ _. nothing 0)))
+    (λ _. nothing (callRefusal f st o))
+
+-- a call reports "addressed" exactly if it is not refused and NADR is the broadcast's or the node's
+pub addressed-exact : (f : List ℕ) (st : State) (o : List ℕ)
+    → handleRequest f st o .addressed
+    ≡ (eqb (handleRequest f st o .refusal) 0 && (eqb (headerOf f .nadr) broadcastNadr || eqb (headerOf f .nadr) (st .node .settings .address)))
+unfolding handleRequest handleFrame
+addressed-exact f st o =
+    let all = eqb (headerOf f .nadr) broadcastNadr in
+    let own = eqb (headerOf f .nadr) (st .node .settings .address) in
+    let Exact : CallResult → Type 0 = λ a. a .addressed ≡ (eqb (a .refusal) 0 && (all || own)) in
+    by-cond Exact (eqb (callRefusal f st o) 0) _ _
+    (λ _. by-cond Exact all _ _ (λ e. rw e)
+    (λ e. by-cond Exact own _ _ (λ q. by-cond Exact (execute (frameItem f) st .answered) _ _ (λ _. rw (e, q)) (λ _. rw (e, q))) (λ q. rw (e, q))))
+    (λ e. rw e)
+
+module _ (n : Node) (f e x r : ℕ) (z : requestRefusal n f e x r ≡ 0) where
+  -- what a call without a refusal was given
+  pub not-refused-facts : (nodeOk n ≡ true) × (headerSize ≤ f) × (f ≤ longestFrame) × (longestResponse ≤ r) × (e ≡ sizeOf Eeprom) × (x ≡ sizeOf External)
+  unfolding requestRefusal
+  not-refused-facts =
+      let a = then-taken (nodeOk n) _ 1 0 (λ q. omega arith) z in
+      let b = then-taken (frameFits f) _ 2 0 (λ q. omega arith) (a .1) in
+      let c = else-taken (ltb r longestResponse) 3 _ 0 (λ q. omega arith) (b .1) in
+      let d = then-taken (eqb e (sizeOf Eeprom)) _ 4 0 (λ q. omega arith) (c .1) in
+      let g = then-taken (eqb x (sizeOf External)) 0 4 0 (λ q. omega arith) (d .1) in
+      (a .0, fits-sizes f (b .0) .0, fits-sizes f (b .0) .1, ltb-false _ _ (c .0), eqb-true _ _ (d .0), eqb-true _ _ (g .0))
+
+-- a call without a refusal was given a sound state
+pub accepted-sound : (n : Node) (e x : List ℕ) (f r : ℕ) → requestRefusal n f (length e) (length x) r ≡ 0 → SoundState (state n e x)
+accepted-sound n e x f r z =
+    let k = not-refused-facts n f (length e) (length x) r z in
+    record { node-ok = k .0; eeprom-size = k .4; external-size = k .5 }
+
+-- a request to this node or to all reports what executing it reports, answered or not
+pub addressed-report : (s : Settings) (h : Frame) (i : Item) (a : Outcome) (o : List ℕ) → addressedResult s h i a o .report ≡ a .report
+addressed-report s h i a o =
+    let Same : CallResult → Type 0 = λ (c : CallResult). c .report ≡ a .report in
+    by-cond Same (eqb (h .nadr) broadcastNadr) _ _ (λ _. refl) (λ _. by-cond Same (a .answered) _ _ (λ _. refl) (λ _. refl))
+
+-- ---- as the code shows it
+
+-- equal replies to a handled request show equal results
+pub handled-same : {g h : Handled} {r e x o : List ℕ} → g ≡ h → handledSeen g r e x o ≡ handledSeen h r e x o
+handled-same {g} {h} {r} {e} {x} {o} q = ap (λ (t : Handled). handledSeen t r e x o) q
+
+-- equal answers show equal results
+pub call-result-as : {r t : RequestAnswer} {e x o : List ℕ} → r ≡ t → callResult r e x o ≡ callResult t e x o
+call-result-as {r} {t} {e} {x} {o} q = ap (λ (u : RequestAnswer). callResult u e x o) q
+
+-- the response: the data is written to the buffer after the header, then the header in front; without an answer there is no data, and
+-- the buffer stays
+module _ (k : ReadOnly) (header : Frame) (d : List ℕ) (a : Outcome) (o : List ℕ) (room : responseHeaderSize ≤ length o)
+    (no-data : a .answered ≡ false → a .bytes ≡ []) where
+  -- the response buffer with these bytes after the header
+  abbrev afterHeader : List ℕ → List ℕ
+  afterHeader m = putMid responseHeaderSize (length o - responseHeaderSize) o m
+
+  -- the part of the buffer that is lent for the data
+  abbrev lent : List ℕ
+  lent = midOf responseHeaderSize (length o - responseHeaderSize) o
+
+  -- the header in front
+  abbrev withHeader : ℕ → List ℕ → List ℕ
+  withHeader error m = responseHeader (k .settings) (header .pnum) (header .pcmd) error ++ drop responseHeaderSize (afterHeader m)
+
+  -- the same from what was seen of the outcome
+  abbrev seenHandled : SeenOutcome → SeenHandled
+  seenHandled l =
+      record {
+        success = l .answered && eqb (l .error) 0;
+        after = l .after;
+        length = cond (l .answered) (responseHeaderSize + l .length) 0;
+        report = l .report;
+        response = cond (l .answered) (withHeader (l .error) (l .out)) (afterHeader (l .out));
+      }
+
+  -- with an answer, the header and the data are at the front
+  header-written : withHeader (a .error) (overwriteFront (a .bytes) lent)
+      ≡ overwriteFront (responseHeader (k .settings) (header .pnum) (header .pcmd) (a .error) ++ a .bytes) o
+  header-written =
+      let front = responseHeader (k .settings) (header .pnum) (header .pcmd) (a .error) in
+      ap (λ (l : List ℕ). front ++ l) (tail-returned responseHeaderSize o (overwriteFront (a .bytes) lent) room)
+      ∙ ap (λ (l : List ℕ). front ++ overwriteFront (a .bytes) l) (tail-borrowed responseHeaderSize o)
+      ∙ sym (overwrite-append front (a .bytes) o)
+
+  -- without one, the buffer is as it was
+  nothing-written : a .bytes ≡ [] → afterHeader (overwriteFront (a .bytes) lent) ≡ o
+  nothing-written e = ap (λ (b : List ℕ). afterHeader (overwriteFront b lent)) e ∙ put-same responseHeaderSize (length o - responseHeaderSize) o
+
+  by-answer : (b : Bool) → (b ≡ false → a .bytes ≡ [])
+      → _≡_ {A = SeenHandled} (record {
+        success = succeeded a;
+        after = memoriesOf (a .after);
+        length = cond b (responseHeaderSize + length (a .bytes)) 0;
+        report = a .report;
+        response = cond b (withHeader (a .error) (overwriteFront (a .bytes) lent)) (afterHeader (overwriteFront (a .bytes) lent));
+      }) (handledOf a (cond b (responseResult (k .settings) (headerItem header d) a o) (unansweredResult a o)))
+  by-answer true n = λ j. record {
+    success = succeeded a;
+    after = memoriesOf (a .after);
+    length = responseHeaderSize + length (a .bytes);
+    report = a .report;
+    response = header-written j;
+  }
+  by-answer false n = λ j. record { success = succeeded a; after = memoriesOf (a .after); length = 0; report = a .report; response = nothing-written (n refl) j }
+
+  -- so what the code leaves is the result of the request
+  pub unicast-response : {c : RequestReply} {r e x m w : List ℕ} {g : Handled} → outcomeSeen c r e x m ≡ outcomeInBuffer a lent
+      → g ≡ handledReply c → w ≡ withResponseHeader (k .settings) header c (afterHeader m)
+      → handledSeen g r e x w ≡ handledOf a (unicastResult (k .settings) (headerItem header d) a o)
+  unicast-response {c} {r} {e} {x} {m} {w} q p u =
+      handled-same p
+      ∙ ap (handledSeen (handledReply c) r e x) u
+      ∙ ap seenHandled q
+      ∙ by-answer (a .answered) no-data
+
+-- a request to all nodes or to this one, by its NADR
+module _ (s : Settings) (h : Frame) (i : Item) (a : Outcome) (o : List ℕ) where
+  pub addressed-broadcast : h .nadr ≡ broadcastNadr → handledBroadcast a o ≡ handledAddressed s h i a o
+  addressed-broadcast e = rw (eq-eqb (h .nadr) broadcastNadr e)
+
+  pub addressed-unicast : (h .nadr ≡ broadcastNadr → ⊥) → handledUnicast s i a o ≡ handledAddressed s h i a o
+  addressed-unicast n = rw (ne-eqb (h .nadr) broadcastNadr n)
+
+-- the result of a call, from the state after the request and what else was seen of it
+abbrev resultWith : State → SeenHandled → CallResult
+resultWith st l = record { after = st; refusal = 0; length = l .length; report = l .report; addressed = true; response = l .response }
+
+-- a state is put together from the settings, the lamps and the memories that belong to it
+pub state-together : (k : ReadOnly) (ls : List Lamp) (ms : Memories) (st : State) → k .settings ≡ st .node .settings → ls ≡ st .node .lamps → ms ≡ memoriesOf st
+    → stateFromParts k ls (ms .ram) (ms .eeprom) (ms .external) ≡ st
+state-together k ls ms st p q m = λ j. stateFromParts (record { settings = p j }) (q j) (m j .ram) (m j .eeprom) (m j .external)
+
+-- with the lamps after it, what was seen of a request is the result of the call
+pub addressed-call : (k : ReadOnly) (h : Frame) (i : Item) (a : Outcome) (o : List ℕ) {g : Handled} {ls : List Lamp} {r e x w : List ℕ}
+    → handledSeen g r e x w ≡ handledOf a (addressedResult (k .settings) h i a o)
+    → k .settings ≡ a .after .node .settings → ls ≡ a .after .node .lamps
+    → resultWith (stateFromParts k ls r e x) (handledSeen g r e x w) ≡ addressedResult (k .settings) h i a o
+addressed-call k h i a o {g} {ls} {r} {e} {x} {w} s p q =
+    ap (λ (st : State). resultWith st (handledSeen g r e x w)) (state-together k ls (memories r e x) (a .after) p q (ap (λ (l : SeenHandled). l .after) s))
+    ∙ ap (resultWith (a .after)) s
+    ∙ by-cond (λ (c : CallResult). resultWith (a .after) (handledOf a c) ≡ c) (eqb (h .nadr) broadcastNadr) _ _ (λ _. refl)
+    (λ _. by-cond (λ (c : CallResult). resultWith (a .after) (handledOf a c) ≡ c) (a .answered) _ _ (λ _. refl) (λ _. refl))

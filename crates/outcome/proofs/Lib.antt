@@ -1,0 +1,10 @@
+pub mod Peripherals
+pub mod BatchEntries
+pub mod Outcomes
+pub mod Calls
+pub mod Soundness
+pub mod Sizes
+pub mod Errors
+pub mod Reports
+pub mod SelectiveBatches
+pub mod Parts

@@ -1,0 +1,2 @@
+// The lamps after a request.
+pub mod lamps;
