@@ -11,15 +11,17 @@ use Rattle.dpa.specs.declared.settings.Settings.{Settings}
 use Rattle.dpa.specs.Frame.{longestResponse, broadcastNadr, frame}
 use Rattle.dpa.specs.NodeSet.{nodeSetSize, selects}
 use Rattle.dpa.specs.Pnum.{osPnum}
-use Rattle.batch.specs.Batch.{Item, item, listBytes}
+use Rattle.batch.specs.Batch.{Request, requestOf, listBytes}
 use Rattle.dpa.specs.Lists.{All}
 use Rattle.batch.proofs.RoundTrip.{list-nonempty}
-use Rattle.outcome.specs.Request.{State, SoundState, hwpidMatches, batchRequest, selectivePcmd, execute, handleRequest}
+use Rattle.node.specs.State.{State, SoundState}
+use Rattle.batch.specs.Selective.{selectivePcmd}
+use Rattle.outcome.specs.Request.{hwpidMatches, batchRequest, execute, handleRequest}
 use Rattle.outcome.proofs.SelectiveBatches.{not-selected-stays}
 use Rattle.book.specs.declared.step.Step.{Step}
 use Rattle.book.specs.Group.{concat}
 use Rattle.book.specs.Machine.{machine}
-use Rattle.scene.specs.Compile.{Limits, joinedItems, batchesOf, requestBytes, requestsOf, selectedEntryLimit, selectedListLimit, selectedRequests}
+use Rattle.scene.specs.Compile.{Limits, joinedEntries, batchesOf, requestBytes, requestsOf, selectedEntryLimit, selectedListLimit, selectedRequests}
 use Rattle.book.proofs.Groups.{concat-append}
 use Rattle.book.proofs.MachineLaws.{machine-append, machine-stays}
 use Rattle.book.proofs.Faults.{Good}
@@ -40,17 +42,17 @@ pub record Done (pcmd a : ℕ) (s : Settings) (request : List ℕ) (steps : List
 -- This is asked of readable lists only.
 module _ {entryMax listMax : ℕ} {front : List ℕ} (limits : Limits entryMax listMax front) (pcmd a h : ℕ) (s : Settings)
     (addressed-to : (a ≡ s .address) ⊎ (a ≡ broadcastNadr)) (hwpid-matches : hwpidMatches s h ≡ true)
-    (as-batch : (items : List Item) (st : State) → st .node .settings ≡ s
-    → execute (item osPnum pcmd h (front ++ listBytes items)) st ≡ batchRequest (listBytes items) st)
+    (as-batch : (entries : List Request) (st : State) → st .node .settings ≡ s
+    → execute (requestOf osPnum pcmd h (front ++ listBytes entries)) st ≡ batchRequest (listBytes entries) st)
     (performs : AllPerform h (EntryGroup entryMax)) where
   -- a request with a batch that joining and filling make
   pub request-done : (groups : List (List Step)) (st : State) (o : List ℕ) → BatchRule entryMax listMax h groups
       → SoundState st → st .node .settings ≡ s → longestResponse ≤ length o → Done pcmd a s (requestBytes pcmd front a h groups) (concat groups) st o
   request-done groups st o b k e room =
-      let list = listBytes (joinedItems h groups) in
+      let list = listBytes (joinedEntries h groups) in
       let own : hwpidMatches (st .node .settings) h ≡ true = ap (λ (n : Settings). hwpidMatches n h) e ∙ hwpid-matches in
       let to : (a ≡ st .node .settings .address) ⊎ (a ≡ broadcastNadr) = subst (λ (n : Settings). (a ≡ n .address) ⊎ (a ≡ broadcastNadr)) (sym e) addressed-to in
-      let executed = as-batch (joinedItems h groups) st e ∙ batch-performs h (EntryGroup entryMax) performs groups st (b .entries) k own in
+      let executed = as-batch (joinedEntries h groups) st e ∙ batch-performs h (EntryGroup entryMax) performs groups st (b .entries) k own in
       let length-max = batch-fits limits (frame a osPnum pcmd h) groups b .1 in
       record {
         success =
@@ -100,9 +102,9 @@ module _ (nodes : List ℕ) (size : length nodes ≡ nodeSetSize) (h : ℕ) (st 
   request-ignored : (groups : List (List Step)) (o : List ℕ) → BatchRule selectedEntryLimit selectedListLimit h groups → longestResponse ≤ length o
       → Ignored (selectedRequest groups) st o
   request-ignored groups o b room =
-      let list = listBytes (joinedItems h groups) in
+      let list = listBytes (joinedEntries h groups) in
       broadcast-ignored selectivePcmd h (nodes ++ list) st o k (batch-fits (selected-limits nodes size) (frame broadcastNadr osPnum selectivePcmd h) groups b .1) room
-      (not-selected-stays h nodes list size (omega (arith, list-nonempty (joinedItems h groups))) st unnamed)
+      (not-selected-stays h nodes list size (omega (arith, list-nonempty (joinedEntries h groups))) st unnamed)
 
   requests-ignored : (bs : List (List (List Step))) (buffers : ℕ → List ℕ) (st′ : State) → st′ ≡ st
       → All (BatchRule selectedEntryLimit selectedListLimit h) bs → ((j : ℕ) → longestResponse ≤ length (buffers j))

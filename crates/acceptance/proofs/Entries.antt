@@ -13,13 +13,14 @@ use Rattle.dpa.proofs.Bool.{by-test, and-left, and-right}
 use Rattle.memory.specs.declared.block.Memory.{Memory}
 use Rattle.memory.specs.declared.block.Memory.the-variants.{Eeprom, Ram}
 use Rattle.memory.specs.Block.{sizeOf}
-use Rattle.outcome.specs.Request.{State, SoundState, memoryOf, hwpidMatches, peripheralRequest, executeEntry}
+use Rattle.node.specs.State.{State, SoundState, memoryOf}
+use Rattle.outcome.specs.Request.{hwpidMatches, peripheralRequest, executeEntry}
 use Rattle.node.proofs.Nodes.{node-lamps, node-ram}
 use Rattle.outcome.proofs.BatchEntries.{entry-match}
 use Rattle.book.specs.declared.step.Step.{Step}
 use Rattle.book.specs.Step.{ramKind, eepromKind}
 use Rattle.book.specs.Machine.{machine}
-use Rattle.book.specs.Entry.{entryData, pnumOf, pcmdOf, joinedItem}
+use Rattle.book.specs.Entry.{entryData, pnumOf, pcmdOf, joinedEntry}
 use Rattle.book.specs.Join.{follows}
 use Rattle.book.proofs.Faults.{eeprom-good}
 use Rattle.book.proofs.EntryGroups.{Linked, EntryGroup}
@@ -82,9 +83,9 @@ module _ (limit : ℕ) (fits-frame : limit ≤ pdataMax) (s : Step) (ss : List S
 -- an entry that joining makes, for a profile that the node accepts: no error, and the state that the step machine reaches
 pub group-performs : {entryMax listMax : ℕ} {front : List ℕ} → Limits entryMax listMax front → (h : ℕ) (group : List Step) (st : State)
     → EntryGroup entryMax group → SoundState st → hwpidMatches (st .node .settings) h ≡ true
-    → (executeEntry (joinedItem h group) st .error ≡ 0) × (executeEntry (joinedItem h group) st .after ≡ machine group st)
+    → (executeEntry (joinedEntry h group) st .error ≡ 0) × (executeEntry (joinedEntry h group) st .after ≡ machine group st)
 group-performs limits h [] st r k f = absurd r
 group-performs {entryMax} limits h (s ∷ ss) st r k f =
-    let e = entry-match (joinedItem h (s ∷ ss)) st f in
+    let e = entry-match (joinedEntry h (s ∷ ss)) st f in
     let d = kinds-perform entryMax (omega (arith, limits .list, limits .frame)) s ss st r k in
     (ap (λ (a : Reply State). a .error) e ∙ d .0, ap (λ (a : Reply State). a .after) e ∙ d .1)

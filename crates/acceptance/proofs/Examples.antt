@@ -5,12 +5,12 @@ use borrow.Author.Tests.{le-ltb}
 use Rattle.dpa.specs.Frame.{frameFits}
 use Rattle.dpa.specs.Lists.{allBelow}
 use Rattle.dpa.specs.Settings.{stepOk, addressOk, settingsOk}
-use Rattle.dpa.specs.NodeSet.{selects, selectsAny, nodeSetOk, byteOf, bytesOf}
+use Rattle.dpa.specs.NodeSet.{selects, selectsAny, nodeSetOk, byteOf, tabulate}
 use Rattle.lights.specs.Bits.{bits, bitmap}
 use Rattle.lights.specs.Lamp.{actualLevel, lampOk, lampZero, lampFits}
 use Rattle.lights.specs.Lights.{powerOk, timeOk, secondsOf, lampAfter, lampsAfter, levelsBefore, changeLamps, lightsRequest}
 use Rattle.checksum.specs.Sums.{addWithCarry, addByte, sums}
-use Rattle.batch.specs.Batch.{entryBytes, entriesBytes, nextEntry, readingFrom, runItems, errorsOf}
+use Rattle.batch.specs.Batch.{entryBytes, entriesBytes, nextEntry, readingFrom, runEntries, errorsOf}
 use Rattle.batch.specs.Selective.{selectionOf}
 use Rattle.timing.specs.Slot.{baseSlot, networkExtra, slotOf, directionTime, earliestOf, sendOf}
 use Rattle.node.specs.Node.{shapeOk, lampsOk, nodeOk}
@@ -48,7 +48,7 @@ worked-examples =
 
 -- those of our own
 pub own-examples : OwnExamples
-unfolding bits bitmap actualLevel powerOk timeOk secondsOf lampAfter lampsAfter levelsBefore changeLamps lightsRequest nextEntry readingFrom runItems errorsOf peripheralRequest hwpidMatches executeEntry listRequest batchRequest selectiveRequest osRequest execute handleFrame requestRefusal handleRequest frameFits stepOk settingsOk lampFits lampOk lampZero shapeOk lampsOk nodeOk allBelow selects selectsAny nodeSetOk byteOf bytesOf selectionOf entryBytes entriesBytes chained bookOk sceneOf stepTimeOk lampFault byteFault stepFault powerBytes entryData pnumOf pcmdOf follows compileScene compileTo
+unfolding bits bitmap actualLevel powerOk timeOk secondsOf lampAfter lampsAfter levelsBefore changeLamps lightsRequest nextEntry readingFrom runEntries errorsOf peripheralRequest hwpidMatches executeEntry listRequest batchRequest selectiveRequest osRequest execute handleFrame requestRefusal handleRequest frameFits stepOk settingsOk lampFits lampOk lampZero shapeOk lampsOk nodeOk allBelow selects selectsAny nodeSetOk byteOf tabulate selectionOf entryBytes entriesBytes chained bookOk sceneOf stepTimeOk lampFault byteFault stepFault powerBytes entryData pnumOf pcmdOf follows compileScene compileTo
 own-examples =
     record {
       entry-errors = refl;

@@ -10,19 +10,20 @@ use lib.Dec.{eqb}
 use lib.ListN.{length, replicate, length-replicate}
 use Rattle.dpa.specs.Frame.{broadcastNadr, anyHwpid}
 use Rattle.dpa.specs.Lists.{allBelow}
-use Rattle.dpa.specs.NodeSet.{nodeSetSize, selects, byteOf, bytesOf, nodeSetOf}
+use Rattle.dpa.specs.NodeSet.{nodeSetSize, selects, byteOf, tabulate, nodeSetOf}
 use Rattle.dpa.specs.Settings.{stepOk, settingsOk}
 use Rattle.memory.specs.declared.block.Memory.the-variants.{External}
 use Rattle.memory.specs.Block.{sizeOf}
-use Rattle.batch.specs.Batch.{entryBytes, entriesBytes}
+use Rattle.batch.specs.Batch.{entryBytes, entriesBytes, batchPcmd}
 use Rattle.lights.specs.declared.lamp.Lamp.{Lamp}
 use Rattle.lights.specs.Lamp.{lamp, off, lampOk, lampZero, lampFits}
 use Rattle.lights.specs.Lights.{timeOk}
 use Rattle.node.specs.Node.{shapeOk, lampsOk, nodeOk}
-use Rattle.outcome.specs.Request.{State, state, SoundState, batchPcmd, selectivePcmd}
+use Rattle.node.specs.State.{State, state, SoundState}
+use Rattle.batch.specs.Selective.{selectivePcmd}
 use Rattle.book.specs.Book.{chained, bookOk, sceneOf}
 use Rattle.book.specs.Step.{stepTimeOk, lampFault, byteFault, stepFault}
-use Rattle.book.specs.Machine.{timeFormed, wellFormed, machineLevel, machineSeconds, machineLamps, machineEffect, machineStep, machine}
+use Rattle.book.specs.Machine.{timeFormed, stepFormed, machineLevel, machineSeconds, machineLamps, machineEffect, machineStep, machine}
 use Rattle.book.specs.Entry.{powerBytes, entryData, pnumOf, pcmdOf}
 use Rattle.book.specs.Join.{follows}
 use Rattle.scene.specs.Compile.{batchesOf, entryLimit, listLimit, sceneRequests, selectedRequests}
@@ -108,7 +109,7 @@ afterwards =
     (1 ∷ 0x21 ∷ 0x22 ∷ 4 ∷ []) (0x24 ∷ 0x23 ∷ [])
 
 machine-leaves : machine (sceneOf book 1) before ≡ afterwards
-unfolding sceneOf timeFormed wellFormed machineLevel machineSeconds machineLamps machineEffect machineStep
+unfolding sceneOf timeFormed stepFormed machineLevel machineSeconds machineLamps machineEffect machineStep
 machine-leaves = refl
 
 -- condition 3 for the requests of the compiling rule
@@ -148,15 +149,15 @@ other =
 
 -- the set names the first node and not the second; the scene has the wildcard HWPID, which both accept, so only the set decides
 named : selects nodes 7 ≡ true
-unfolding selects byteOf bytesOf
+unfolding selects byteOf tabulate
 named = refl
 
 not-named : selects nodes 12 ≡ false
-unfolding selects byteOf bytesOf
+unfolding selects byteOf tabulate
 not-named = refl
 
 set-size : length nodes ≡ nodeSetSize
-unfolding bytesOf
+unfolding tabulate
 set-size = refl
 
 -- the second node is sound
@@ -166,7 +167,7 @@ other-sound = record { node-ok = refl; eeprom-size = refl; external-size = refl 
 
 -- the compile call is not refused
 selected-accepted : compileSelected book 1 nodes anyHwpid out .refusal ≡ 0
-unfolding selects byteOf bytesOf
+unfolding selects byteOf tabulate
 selected-accepted =
     selected-refusals book 1 nodes anyHwpid out .none .1 (
       record { zero-clear = refl; address = 7; address-min = omega arith; address-max = omega arith; named = refl },
@@ -180,7 +181,7 @@ selectedList = requestsIn (outputOf (compileSelected book 1 nodes anyHwpid out))
 
 -- the compiling rule gives three requests; the second has a list of 26 bytes, the longest allowed
 pub selected-requests : map length (selectedRequests nodes anyHwpid (sceneOf book 1)) ≡ 49 ∷ 62 ∷ 59 ∷ []
-unfolding bytesOf sceneOf powerBytes entryData pnumOf pcmdOf follows entryBytes entriesBytes
+unfolding tabulate sceneOf powerBytes entryData pnumOf pcmdOf follows entryBytes entriesBytes
 selected-requests = refl
 
 -- node 7 does what the scene says

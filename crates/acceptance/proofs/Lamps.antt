@@ -25,7 +25,8 @@ use Rattle.lights.specs.declared.apply.Command.the-variants.{Set, Raise, Lower}
 use Rattle.lights.specs.declared.lamp.Lamp.{Lamp}
 use Rattle.lights.specs.declared.power.LampChange.{LampChange}
 use Rattle.node.specs.Node.{withLamps}
-use Rattle.outcome.specs.Request.{State, withNode, peripheralRequest}
+use Rattle.node.specs.State.{State, withNode}
+use Rattle.outcome.specs.Request.{peripheralRequest}
 use Rattle.outcome.proofs.Peripherals.{peripheral-lights}
 use Rattle.book.specs.declared.step.Step.{Step}
 use Rattle.book.specs.Step.{ramKind, stepTimeOk}

@@ -12,7 +12,8 @@ use Rattle.memory.specs.Block.{memoryPnum, sizeOf, longestOf, addressBytes, wri
 use Rattle.memory.proofs.Blocks.{BlockFits}
 use Rattle.memory.proofs.Overwrite.{overwrite-sets}
 use Rattle.memory.proofs.Requests.{write-byte-address}
-use Rattle.outcome.specs.Request.{State, memoryOf, withMemory, memoryRequestOnState, peripheralRequest}
+use Rattle.node.specs.State.{State, memoryOf, withMemory}
+use Rattle.outcome.specs.Request.{memoryRequestOnState, peripheralRequest}
 use Rattle.outcome.proofs.Peripherals.{memory-same, peripheral-memory}
 use Rattle.book.specs.declared.step.Step.{Step}
 use Rattle.book.specs.Step.{ramKind, eepromKind}

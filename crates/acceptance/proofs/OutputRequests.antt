@@ -6,7 +6,8 @@ use native.Mathlib.Omega.{arith}
 use lib.ListN.{length, getD, take, drop, length-append, length-drop}
 use lib.Seq.{take-at, drop-at}
 use Rattle.dpa.proofs.Lists.{slice-to-end}
-use Rattle.outcome.specs.Request.{State, handleRequest}
+use Rattle.node.specs.State.{State}
+use Rattle.outcome.specs.Request.{handleRequest}
 use Rattle.scene.specs.Call.{splitBy, requestsIn, lengths, output}
 use Rattle.book.specs.Group.{concat}
 use Rattle.scene.proofs.Outputs.{lengths-length}

@@ -14,7 +14,8 @@ use Rattle.dpa.proofs.Bool.{by-cond}
 use Rattle.memory.specs.declared.block.Memory.the-variants.{Eeprom, External}
 use Rattle.memory.specs.Block.{sizeOf}
 use Rattle.node.specs.Node.{nodeOk}
-use Rattle.outcome.specs.Request.{State, SoundState, handleRequest}
+use Rattle.node.specs.State.{State, SoundState}
+use Rattle.outcome.specs.Request.{handleRequest}
 use Rattle.outcome.proofs.Soundness.{request-sound}
 use Rattle.book.specs.Book.{sceneOf}
 use Rattle.book.specs.Machine.{machine}

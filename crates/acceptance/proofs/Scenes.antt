@@ -13,15 +13,17 @@ use Rattle.dpa.specs.Pnum.{osPnum}
 use Rattle.dpa.specs.declared.settings.Settings.{Settings}
 use Rattle.dpa.specs.Settings.{addressOk}
 use Rattle.dpa.proofs.NodeSets.{set-ok-exact}
-use Rattle.batch.specs.Batch.{item, listBytes, Reading}
+use Rattle.batch.specs.Batch.{requestOf, listBytes, Reading, batchPcmd}
 use Rattle.batch.proofs.RoundTrip.{round-trip, list-nonempty}
-use Rattle.outcome.specs.Request.{State, hwpidMatches, batchRequest, batchPcmd, selectivePcmd, execute}
+use Rattle.node.specs.State.{State}
+use Rattle.batch.specs.Selective.{selectivePcmd}
+use Rattle.outcome.specs.Request.{hwpidMatches, batchRequest, execute}
 use Rattle.outcome.proofs.Outcomes.{execute-os, os-batch}
 use Rattle.outcome.proofs.SelectiveBatches.{selected-as-batch}
 use Rattle.book.specs.declared.step.Step.{Step}
 use Rattle.book.specs.Book.{sceneOf}
 use Rattle.book.specs.Step.{noFault, stepFault}
-use Rattle.book.specs.Machine.{wellFormed}
+use Rattle.book.specs.Machine.{stepFormed}
 use Rattle.book.proofs.Faults.{fault-meaning, good-formed}
 use Rattle.scene.specs.Compile.{sceneRequests, selectedRequests}
 use Rattle.scene.specs.Call.{compileTo}
@@ -39,8 +41,8 @@ own-profile s h (inl e) = rw (eq-eqb h (s .hwpid) e)
 own-profile s h (inr e) = rw (eq-eqb h anyHwpid e) (or-true (eqb h (s .hwpid)))
 
 -- a batch request is executed as its list
-batch-executed : (h : ℕ) (d : List ℕ) (st : State) → hwpidMatches (st .node .settings) h ≡ true → execute (item osPnum batchPcmd h d) st ≡ batchRequest d st
-batch-executed h d st own = execute-os (item osPnum batchPcmd h d) st own refl ∙ os-batch batchPcmd d st refl
+batch-executed : (h : ℕ) (d : List ℕ) (st : State) → hwpidMatches (st .node .settings) h ≡ true → execute (requestOf osPnum batchPcmd h d) st ≡ batchRequest d st
+batch-executed h d st own = execute-os (requestOf osPnum batchPcmd h d) st own refl ∙ os-batch batchPcmd d st refl
 
 -- what holds for the requests of the compiling rule holds for those in the output, since these are the same
 of-scene : (Target : Type 0) (valid : Bool) → Target ↔ (valid ≡ true) → (book : List ℕ) (scene : ℕ) (requests : List Step → List (List ℕ))
@@ -62,7 +64,7 @@ addressed-theorem st buffers book scene a h g =
     let own = own-profile s h (g .profile) in
     of-scene (Addressable a) (addressOk a) (addressable a) book scene (sceneRequests a h) (λ rs. MatchesMachine batchPcmd a buffers rs steps st)
     (λ r. steps-done batch-limits batchPcmd a h s (g .address) own
-    (λ items t e. batch-executed h (listBytes items) t (ap (λ (n : Settings). hwpidMatches n h) e ∙ own))
+    (λ entries t e. batch-executed h (listBytes entries) t (ap (λ (n : Settings). hwpidMatches n h) e ∙ own))
     (group-performs batch-limits h)
     steps buffers st (no-fault-good steps (r .no-fault)) (g .sound) refl (g .room))
 
@@ -76,9 +78,9 @@ selected-theorem st buffers book scene nodes h g size named =
     of-scene (Selectable nodes) (nodeSetOk nodes) (set-ok-exact nodes) book scene (selectedRequests nodes h)
     (λ rs. MatchesMachine selectivePcmd broadcastNadr buffers rs steps st)
     (λ r. steps-done limits selectivePcmd broadcastNadr h s (g .address) own
-    (λ items t e. selected-as-batch h nodes (listBytes items) size (omega (arith, list-nonempty items)) t
+    (λ entries t e. selected-as-batch h nodes (listBytes entries) size (omega (arith, list-nonempty entries)) t
     (ap (λ (n : Settings). hwpidMatches n h) e ∙ own) (ap (λ (n : Settings). selects nodes (n .address)) e ∙ named)
-    (ap (λ (x : Reading). x .check) (round-trip items)))
+    (ap (λ (x : Reading). x .check) (round-trip entries)))
     (group-performs limits h)
     steps buffers st (no-fault-good steps (r .no-fault)) (g .sound) refl (g .room))
 
@@ -90,7 +92,7 @@ not-selected-theorem st buffers book scene nodes h sound room size unnamed =
     (λ r. steps-ignored nodes size h st sound unnamed steps buffers (no-fault-good steps (r .no-fault)) room)
 
 -- part `steps`: a step without a fault passes the compiler's test, which agrees with the step machine's rule
-steps-formed : (s : Step) → NoFault s ↔ (wellFormed s ≡ true)
+steps-formed : (s : Step) → NoFault s ↔ (stepFormed s ≡ true)
 steps-formed s = (λ e. good-formed s .0 (eq-eqb (stepFault s) noFault e), λ f. eqb-true (stepFault s) noFault (good-formed s .1 f))
 
 -- all parts

@@ -11,10 +11,12 @@ use Rattle.dpa.specs.NodeSet.{nodeSetOf}
 use Rattle.dpa.specs.Pnum.{osPnum, lightsPnum}
 use Rattle.lights.specs.Lamp.{lamp, off, actualLevel}
 use Rattle.checksum.specs.Sums.{sums, start, checksum}
-use Rattle.batch.specs.Batch.{item}
+use Rattle.batch.specs.Batch.{requestOf, batchPcmd}
 use Rattle.timing.specs.declared.slot.Network.the-variants.{Std}
 use Rattle.timing.specs.Slot.{sendOf}
-use Rattle.outcome.specs.Request.{State, faultReport, Outcome, unansweredOutcome, batchPcmd, selectivePcmd, execute, CallResult, unansweredResult, handleRequest}
+use Rattle.node.specs.State.{State}
+use Rattle.batch.specs.Selective.{selectivePcmd}
+use Rattle.outcome.specs.Request.{faultReport, Outcome, unansweredOutcome, execute, CallResult, unansweredResult, handleRequest}
 use Rattle.book.specs.declared.step.Step.{Step}
 use Rattle.book.specs.Join.{entriesOf}
 use Rattle.book.specs.Examples.{settings, freshState, book}
@@ -23,10 +25,10 @@ use Rattle.scene.specs.Call.{minOutput, outputInBuffer, compileFor, compileSele
 
 -- a lights request, and a batch, with the HWPID of the example node
 abbrev pub lights : ℕ → List ℕ → State → Outcome
-lights pcmd pdata st = execute (item lightsPnum pcmd 0x2471 pdata) st
+lights pcmd pdata st = execute (requestOf lightsPnum pcmd 0x2471 pdata) st
 
 abbrev pub batch : List ℕ → State → Outcome
-batch pdata st = execute (item osPnum batchPcmd 0x2471 pdata) st
+batch pdata st = execute (requestOf osPnum batchPcmd 0x2471 pdata) st
 
 -- three lamps, step 1: a set, then a raise
 abbrev pub afterSet : Outcome
@@ -105,7 +107,7 @@ refusedEntries =
 
 -- a selective batch with this list to the nodes of a set, executed by the example node, whose address is 1
 abbrev pub selective : List ℕ → List ℕ → Outcome
-selective nodes list = execute (item osPnum selectivePcmd 0x2471 (nodes ++ list)) (freshState 3 1)
+selective nodes list = execute (requestOf osPnum selectivePcmd 0x2471 (nodes ++ list)) (freshState 3 1)
 
 -- the set of nodes 1 and 9, and that of node 9
 abbrev pub nodes1and9 : List ℕ

@@ -8,7 +8,7 @@ use Rattle.dpa.specs.Frame.{longestResponse}
 use Rattle.memory.specs.declared.block.Memory.the-variants.{Eeprom, External}
 use Rattle.memory.specs.Block.{sizeOf}
 use Rattle.node.specs.Node.{nodeOk}
-use Rattle.outcome.specs.Request.{State, state}
+use Rattle.node.specs.State.{State, state}
 use Rattle.book.specs.Book.{sceneOf}
 use Rattle.book.specs.Machine.{machine}
 use Rattle.scene.specs.Call.{CompileResult, compileFor}

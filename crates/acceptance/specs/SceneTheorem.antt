@@ -16,7 +16,7 @@
 -- the contracts say that the calls compute: `compileFor`, `compileSelected`, `outputOf` and `requestsIn` (scene/specs/Call),
 -- `handleRequest` and `execute` (handler/specs/Request); and about the rules of a node set (`selects`, dpa/specs/NodeSet), of the book
 -- (`bookOk`, book/specs/Book), of a step (`stepFault`, book/specs/Step), of compiling (`sceneRequests`, `selectedRequests`,
--- scene/specs/Compile) and of the step machine (`wellFormed`, `machine`, book/specs/Machine).
+-- scene/specs/Compile) and of the step machine (`stepFormed`, `machine`, book/specs/Machine).
 use Prim.Native.Nat.{ℕ, suc, _≤_, _<_}
 use mathlib.Core.Path.{_≡_}
 use mathlib.Core.Logic.{_⊎_, _↔_}
@@ -30,11 +30,14 @@ use Rattle.dpa.specs.Frame.{responseHeaderSize, longestResponse, broadcastNadr,
 use Rattle.dpa.specs.NodeSet.{nodeSetSize, selects, Selectable}
 use Rattle.dpa.specs.Pnum.{osPnum}
 use Rattle.dpa.specs.Settings.{lastAddress}
-use Rattle.outcome.specs.Request.{State, SoundState, frameItem, noReport, batchPcmd, selectivePcmd, execute, handleRequest}
+use Rattle.node.specs.State.{State, SoundState}
+use Rattle.batch.specs.Batch.{batchPcmd}
+use Rattle.batch.specs.Selective.{selectivePcmd}
+use Rattle.outcome.specs.Request.{frameRequest, noReport, execute, handleRequest}
 use Rattle.book.specs.declared.step.Step.{Step}
 use Rattle.book.specs.Book.{sceneCount, bookOk, sceneOf}
 use Rattle.book.specs.Step.{noFault, stepFault, FaultMeaning}
-use Rattle.book.specs.Machine.{wellFormed, machine}
+use Rattle.book.specs.Machine.{stepFormed, machine}
 use Rattle.scene.specs.Compile.{sceneRequests, selectedRequests}
 use Rattle.scene.specs.Call.{CompileResult, minOutput, requestsIn, outputOf, compileFor, compileSelected}
 
@@ -109,8 +112,8 @@ pub record Success (pcmd a : ℕ) (s : Settings) (request : List ℕ) (st : Stat
   -- the call is not refused
   pub refusal : handleRequest request st buffer .refusal ≡ 0
   -- neither the request nor any entry in it has an error, sent or not
-  pub error : execute (frameItem request) st .error ≡ 0
-  pub entries : All (λ (e : ℕ). e ≡ 0) (execute (frameItem request) st .entries)
+  pub error : execute (frameRequest request) st .error ≡ 0
+  pub entries : All (λ (e : ℕ). e ≡ 0) (execute (frameRequest request) st .entries)
   -- the response is a header without PData, the later bytes of the buffer unchanged; a broadcast has no response
   pub length : handleRequest request st buffer .length ≡ cond (eqb a broadcastNadr) 0 responseHeaderSize
   pub response : handleRequest request st buffer .response
@@ -194,7 +197,7 @@ pub record Condition3 : Type 0 where
   pub selected-refusals : (book : List ℕ) (scene : ℕ) (nodes : List ℕ) (h : ℕ) (out : List ℕ)
       → Refusals (Selectable nodes) book scene out (compileSelected book scene nodes h out)
   pub faults : (s : Step) → FaultMeaning s
-  pub steps : (s : Step) → NoFault s ↔ (wellFormed s ≡ true)
+  pub steps : (s : Step) → NoFault s ↔ (stepFormed s ≡ true)
   pub for-address : AddressedTheorem
   pub selected : SelectedTheorem
   pub not-selected : NotSelectedTheorem

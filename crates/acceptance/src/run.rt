@@ -12,7 +12,8 @@ ghost use mathlib.Core.Path.{_≡_};
 ghost use Prim.Native.Nat.{_≤_};
 ghost use lib.ListN.{length};
 ghost use Rattle.scene.specs.Call.{splitBy, requestsIn};
-ghost use Rattle.outcome.specs.Request.{state, handleRequest};
+ghost use Rattle.node.specs.State.{state};
+ghost use Rattle.outcome.specs.Request.{handleRequest};
 ghost use Rattle.acceptance.specs.SceneTheorem.{afterCalls};
 ghost use Rattle.acceptance.specs.RunScene.{zeroBuffer, totalLength, CompleteOutput, runScene, sceneResult};
 

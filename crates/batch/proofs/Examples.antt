@@ -5,7 +5,7 @@ use Rattle.batch.specs.declared.list.ListCheck.the-variants.{Sound, Brok
 use Rattle.batch.specs.Batch.{closingZero, shortReason, pastEndReason, unclosedReason, trailingReason, nextEntry, readingFrom, reading}
 
 -- `00` has no entries
-pub zero-alone : reading (closingZero ∷ []) ≡ record { items = []; check = Sound }
+pub zero-alone : reading (closingZero ∷ []) ≡ record { entries = []; check = Sound }
 unfolding nextEntry readingFrom
 zero-alone = refl
 

@@ -27,7 +27,7 @@ module _ (s : List ℕ) (r a : ℕ) (f : ListFault s r a) where
   fault-after-entries : (p : ℕ) {k front : ℕ} → r ≡ k → entriesEnd k a ≡ p → p ≤ length s → p + front ≡ a
       → atEnd (drop p s) ≡ false → nextEntry (drop p s) ≡ Fault k front → (reading s) .check ≡ Broken r a
   fault-after-entries p {k} {front} e z h q o n =
-      let is = f .items in
+      let is = f .entries in
       let w : take p s ≡ entriesBytes is = ap (λ (i : ℕ). take i s) (sym (ap (λ (j : ℕ). entriesEnd j a) e ∙ z)) ∙ f .before in
       let size : length (entriesBytes is) ≡ p = ap length (sym w) ∙ length-take-le p s h in
       ap (λ (t : List ℕ). (reading t) .check) (sym (ap (λ (t : List ℕ). t ++ drop p s) (sym w) ∙ take-append-drop p s))
@@ -78,9 +78,9 @@ next-at-front s =
     (λ _. by-cond P (ltb (length s) (getD s 0 0)) _ _ (λ _ n. omega arith) (λ _. tt))))
 
 -- without entries, a fault is at the front
-no-entries-front : (s : List ℕ) → (reading s) .items ≡ [] → AtFront ((reading s) .check)
+no-entries-front : (s : List ℕ) → (reading s) .entries ≡ [] → AtFront ((reading s) .check)
 no-entries-front =
-    reading-induction (λ (s : List ℕ) (r : Reading). r .items ≡ [] → AtFront (r .check))
+    reading-induction (λ (s : List ℕ) (r : Reading). r .entries ≡ [] → AtFront (r .check))
     (λ s o i. tt)
     (λ s l p c h e ih i. let z = ap length i in absurd (omega arith))
     (λ s k a o e i. subst (λ (n : NextEntry). AtFront (faultOf n)) e (next-at-front s))
@@ -92,14 +92,14 @@ shifted-end n r a (Broken q b) f e = ap (λ (x : ListCheck). entriesEnd (reasonO
 -- a list that is found broken has that fault at that place
 pub found-fault : (s : List ℕ) → Bytes s → {r a : ℕ} → (reading s) .check ≡ Broken r a → ListFault s r a
 found-fault s by {r} {a} e =
-    let is = (reading s) .items in
+    let is = (reading s) .entries in
     let n = length (entriesBytes is) in
     let rest = drop n s in
     let z = entries-then-rest s by in
     let u : shiftFault n ((reading rest) .check) ≡ Broken r a = sym (ap (λ (x : Reading). x .check) (entries-reading is rest)) ∙ ap (λ (t : List ℕ). (reading t) .check) (z .0) ∙ e in
     let k = shifted-end n r a ((reading rest) .check) (no-entries-front rest (z .1)) u in
     record {
-      items = is;
+      entries = is;
       before = ap (λ (i : ℕ). take i s) k ∙ ap (take n) (sym (z .0)) ∙ take-append-seam (entriesBytes is) rest;
       fault = broken-fault s e;
     }
@@ -133,8 +133,8 @@ module _ (s : List ℕ) where
   -- the reason is 0 exactly if the bytes are whole entries and the closing zero
   pub sound-exact : Bytes s → (reasonOf ((reading s) .check) ≡ 0) ↔ SoundList s
   sound-exact by = (
-    λ z. record { items = (reading s) .items; whole = sym (reverse-round-trip s by (reason-zero .0 z)) },
-    λ w. ap (λ (t : List ℕ). reasonOf ((reading t) .check)) (w .whole) ∙ ap (λ (x : Reading). reasonOf (x .check)) (round-trip (w .items)),
+    λ z. record { entries = (reading s) .entries; whole = sym (reverse-round-trip s by (reason-zero .0 z)) },
+    λ w. ap (λ (t : List ℕ). reasonOf ((reading t) .check)) (w .whole) ∙ ap (λ (x : Reading). reasonOf (x .check)) (round-trip (w .entries)),
   )
 
   -- any other reason is that of a fault at the place

@@ -12,7 +12,7 @@ use Rattle.dpa.proofs.Numbers.{word-split, low-word, high-word, word-max}
 use Rattle.batch.specs.declared.entry.NextEntry.the-variants.{Entry}
 use Rattle.batch.specs.declared.list.ListCheck.{ListCheck}
 use Rattle.batch.specs.declared.list.ListCheck.the-variants.{Sound, Broken}
-use Rattle.batch.specs.Batch.{Item, item, entryHeadSize, closingZero, entryBytes, entriesBytes, listBytes, Sendable, nextEntry, Reading, shiftFault, prependEntry, reading}
+use Rattle.batch.specs.Batch.{Request, requestOf, entryHeadSize, closingZero, entryBytes, entriesBytes, listBytes, Sendable, nextEntry, Reading, shiftFault, prependEntry, reading}
 use Rattle.dpa.proofs.Bytes.{bytes-nil, bytes-cons, bytes-append, bytes-take, bytes-drop}
 use Rattle.batch.proofs.Entries.{NextFacts, at-end-zero, at-end-facts, next-complete, next-facts-of}
 use Rattle.batch.proofs.Lists.{reading-end, reading-entry, reading-fault, reading-induction}
@@ -20,7 +20,7 @@ use Rattle.batch.proofs.Faults.{broken-not-sound}
 
 -- ---- written, then read
 
-module _ (i : Item) where
+module _ (i : Request) where
   -- an entry is its head and its PData
   pub entry-length : length (entryBytes i) ≡ entryHeadSize + length (i .pdata)
   unfolding entryBytes
@@ -35,13 +35,13 @@ module _ (i : Item) where
 
   -- the entry is read, then the bytes after it
   pub entry-reading : (t : List ℕ)
-      → reading (entryBytes i ++ t) ≡ record { items = i ∷ (reading t) .items; check = shiftFault (entryHeadSize + length (i .pdata)) ((reading t) .check) }
+      → reading (entryBytes i ++ t) ≡ record { entries = i ∷ (reading t) .entries; check = shiftFault (entryHeadSize + length (i .pdata)) ((reading t) .check) }
   unfolding entryBytes
   entry-reading t =
       let n = entryHeadSize + length (i .pdata) in
       reading-entry (entryBytes i ++ t) (entry-first t)
       ∙ ap (λ (u : List ℕ). prependEntry (Entry n (i .pnum) (i .pcmd) (i .hwpid)) (entryBytes i ++ t) (reading u)) (drop-at (entryBytes i) t n entry-length)
-      ∙ ap (λ (d : List ℕ). record { items = item (i .pnum) (i .pcmd) (i .hwpid) d ∷ (reading t) .items; check = shiftFault n ((reading t) .check) })
+      ∙ ap (λ (d : List ℕ). record { entries = requestOf (i .pnum) (i .pcmd) (i .hwpid) d ∷ (reading t) .entries; check = shiftFault n ((reading t) .check) })
       (ap (λ (k : ℕ). take k (i .pdata ++ t)) (add-sub-cancel-left entryHeadSize (length (i .pdata))) ∙ take-append-seam (i .pdata) t)
 
 shift-zero : (x : ListCheck) → x ≡ shiftFault 0 x
@@ -53,34 +53,34 @@ shift-add m n Sound = refl
 shift-add m n (Broken r a) = ap (Broken r) (omega arith)
 
 -- the entries are read, then the bytes after them; a fault there keeps its reason and its position
-pub entries-reading : (is : List Item) (t : List ℕ)
-    → reading (entriesBytes is ++ t) ≡ record { items = is ++ (reading t) .items; check = shiftFault (length (entriesBytes is)) ((reading t) .check) }
+pub entries-reading : (is : List Request) (t : List ℕ)
+    → reading (entriesBytes is ++ t) ≡ record { entries = is ++ (reading t) .entries; check = shiftFault (length (entriesBytes is)) ((reading t) .check) }
 unfolding entriesBytes
-entries-reading [] t = ap (λ (x : ListCheck). record { items = (reading t) .items; check = x }) (shift-zero ((reading t) .check))
+entries-reading [] t = ap (λ (x : ListCheck). record { entries = (reading t) .entries; check = x }) (shift-zero ((reading t) .check))
 entries-reading (i ∷ is) t =
     let n = entryHeadSize + length (i .pdata) in
     let x = (reading t) .check in
     let k : n + length (entriesBytes is) ≡ length (entryBytes i ++ entriesBytes is) = sym (length-append (entryBytes i) (entriesBytes is) ∙ ap (λ (m : ℕ). m + length (entriesBytes is)) (entry-length i)) in
     ap reading (append-assoc (entryBytes i) (entriesBytes is) t)
     ∙ entry-reading i (entriesBytes is ++ t)
-    ∙ ap (λ (r : Reading). record { items = i ∷ r .items; check = shiftFault n (r .check) }) (entries-reading is t)
-    ∙ ap (λ (y : ListCheck). record { items = i ∷ (is ++ (reading t) .items); check = y })
+    ∙ ap (λ (r : Reading). record { entries = i ∷ r .entries; check = shiftFault n (r .check) }) (entries-reading is t)
+    ∙ ap (λ (y : ListCheck). record { entries = i ∷ (is ++ (reading t) .entries); check = y })
     (shift-add n (length (entriesBytes is)) x ∙ ap (λ (m : ℕ). shiftFault m x) k)
 
 -- a list written from entries is sound and reads as these entries
-pub round-trip : (is : List Item) → reading (listBytes is) ≡ record { items = is; check = Sound }
+pub round-trip : (is : List Request) → reading (listBytes is) ≡ record { entries = is; check = Sound }
 round-trip is =
     entries-reading is (closingZero ∷ [])
-    ∙ ap (λ (r : Reading). record { items = is ++ r .items; check = shiftFault (length (entriesBytes is)) (r .check) })
+    ∙ ap (λ (r : Reading). record { entries = is ++ r .entries; check = shiftFault (length (entriesBytes is)) (r .check) })
     (reading-end (closingZero ∷ []) (at-end-zero (closingZero ∷ []) refl refl))
-    ∙ ap (λ (js : List Item). record { items = js; check = Sound }) (append-nil is)
+    ∙ ap (λ (js : List Request). record { entries = js; check = Sound }) (append-nil is)
 
 -- a list has at least the closing zero
-pub list-nonempty : (is : List Item) → 0 < length (listBytes is)
+pub list-nonempty : (is : List Request) → 0 < length (listBytes is)
 list-nonempty is = rw (length-append (entriesBytes is) (closingZero ∷ [])) (omega arith)
 
 -- a sendable entry is written as bytes
-pub entry-bytes : (i : Item) → Sendable i → Bytes (entryBytes i)
+pub entry-bytes : (i : Request) → Sendable i → Bytes (entryBytes i)
 unfolding entryBytes
 entry-bytes i z zero = let n = z .size in omega arith
 entry-bytes i z (suc zero) = z .pnum-byte
@@ -90,7 +90,7 @@ entry-bytes i z (suc (suc (suc (suc zero)))) = let h = z .hwpid-word in omega ar
 entry-bytes i z (suc (suc (suc (suc (suc k))))) = z .pdata-bytes k
 
 -- a list of sendable entries is written as bytes
-pub list-bytes : (is : List Item) → All Sendable is → Bytes (listBytes is)
+pub list-bytes : (is : List Request) → All Sendable is → Bytes (listBytes is)
 unfolding entriesBytes
 list-bytes [] z = bytes-cons closingZero [] (omega arith) bytes-nil
 list-bytes (i ∷ is) z =
@@ -120,7 +120,7 @@ module _ (s : List ℕ) {l p c h : ℕ} (by : Bytes s) (e : nextEntry s ≡ Entr
   pdata-length = let z = facts in simp (length-take, length-drop) (omega arith)
 
   -- an entry that was read is written as the bytes that it was read from
-  pub entry-written : entryBytes (item p c h (slice s entryHeadSize (l - entryHeadSize))) ≡ take l s
+  pub entry-written : entryBytes (requestOf p c h (slice s entryHeadSize (l - entryHeadSize))) ≡ take l s
   unfolding entryBytes
   entry-written =
       let z = facts in
@@ -133,7 +133,7 @@ module _ (s : List ℕ) {l p c h : ℕ} (by : Bytes s) (e : nextEntry s ≡ Entr
       rw (e0, e3, e4, z .3, z .4, t, head-bytes s (omega arith))
 
   -- an entry that was read from bytes is sendable
-  pub entry-sendable : Sendable (item p c h (slice s entryHeadSize (l - entryHeadSize)))
+  pub entry-sendable : Sendable (requestOf p c h (slice s entryHeadSize (l - entryHeadSize)))
   entry-sendable =
       let z = facts in
       let n = pdata-length in
@@ -152,8 +152,8 @@ module _ (s : List ℕ) {l p c h : ℕ} (by : Bytes s) (e : nextEntry s ≡ Entr
 -- s is the entries of r, then a rest with no entry at its front
 abbrev pub EntriesThenRest : List ℕ → Reading → Type 0
 EntriesThenRest s r =
-    let rest = drop (length (entriesBytes (r .items))) s in
-    (entriesBytes (r .items) ++ rest ≡ s) × ((reading rest) .items ≡ [])
+    let rest = drop (length (entriesBytes (r .entries))) s in
+    (entriesBytes (r .entries) ++ rest ≡ s) × ((reading rest) .entries ≡ [])
 
 shift-sound : (l : ℕ) (x : ListCheck) → shiftFault l x ≡ Sound → x ≡ Sound
 shift-sound l Sound e = refl
@@ -164,10 +164,10 @@ pub entries-then-rest : (s : List ℕ) → Bytes s → EntriesThenRest s (readin
 unfolding entriesBytes
 entries-then-rest =
     reading-induction (λ (s : List ℕ) (r : Reading). Bytes s → EntriesThenRest s r)
-    (λ s o by. (refl, ap (λ (x : Reading). x .items) (reading-end s o)))
+    (λ s o by. (refl, ap (λ (x : Reading). x .entries) (reading-end s o)))
     (λ s l p c h e ih by.
-    let i = item p c h (slice s entryHeadSize (l - entryHeadSize)) in
-    let es = entriesBytes ((reading (drop l s)) .items) in
+    let i = requestOf p c h (slice s entryHeadSize (l - entryHeadSize)) in
+    let es = entriesBytes ((reading (drop l s)) .entries) in
     let z = ih (bytes-drop l s by) in
     let w = entry-written s by e in
     let n : length (entryBytes i ++ es) ≡ l + length es = length-append (entryBytes i) es ∙ ap (λ (k : ℕ). k + length es) (ap length w ∙ length-take-le l s (next-facts-of s e .1)) in
@@ -177,31 +177,31 @@ entries-then-rest =
           ∙ ap (λ (x : List ℕ). entryBytes i ++ x) (z .0)
           ∙ ap (λ (x : List ℕ). x ++ drop l s) w
           ∙ take-append-drop l s,
-      ap (λ (x : List ℕ). (reading x) .items) d ∙ z .1,
+      ap (λ (x : List ℕ). (reading x) .entries) d ∙ z .1,
     ))
-    (λ s k a o e by. (refl, ap (λ (x : Reading). x .items) (reading-fault s o e)))
+    (λ s k a o e by. (refl, ap (λ (x : Reading). x .entries) (reading-fault s o e)))
 
 -- a sound list without entries is the closing zero
-no-entries-zero : (s : List ℕ) → (reading s) .items ≡ [] → (reading s) .check ≡ Sound → closingZero ∷ [] ≡ s
+no-entries-zero : (s : List ℕ) → (reading s) .entries ≡ [] → (reading s) .check ≡ Sound → closingZero ∷ [] ≡ s
 no-entries-zero =
-    reading-induction (λ (s : List ℕ) (r : Reading). r .items ≡ [] → r .check ≡ Sound → closingZero ∷ [] ≡ s)
+    reading-induction (λ (s : List ℕ) (r : Reading). r .entries ≡ [] → r .check ≡ Sound → closingZero ∷ [] ≡ s)
     (λ s o i t. let z = at-end-facts s o in one-zero s (z .0) (z .1))
     (λ s l p c h e ih i t. let z = ap length i in absurd (omega arith))
     (λ s k a o e i t. absurd (broken-not-sound t))
 
 -- a sound list is exactly what its entries are written as
-pub reverse-round-trip : (s : List ℕ) → Bytes s → (reading s) .check ≡ Sound → listBytes ((reading s) .items) ≡ s
+pub reverse-round-trip : (s : List ℕ) → Bytes s → (reading s) .check ≡ Sound → listBytes ((reading s) .entries) ≡ s
 reverse-round-trip s by t =
-    let is = (reading s) .items in
+    let is = (reading s) .entries in
     let z = entries-then-rest s by in
     let rest = drop (length (entriesBytes is)) s in
     let u = sym (ap (λ (r : Reading). r .check) (entries-reading is rest)) ∙ ap (λ (x : List ℕ). (reading x) .check) (z .0) ∙ t in
     ap (λ (x : List ℕ). entriesBytes is ++ x) (no-entries-zero rest (z .1) (shift-sound (length (entriesBytes is)) ((reading rest) .check) u)) ∙ z .0
 
 -- all entries that are read from bytes are sendable
-pub read-sendable : (s : List ℕ) → Bytes s → All Sendable ((reading s) .items)
+pub read-sendable : (s : List ℕ) → Bytes s → All Sendable ((reading s) .entries)
 read-sendable =
-    reading-induction (λ (s : List ℕ) (r : Reading). Bytes s → All Sendable (r .items))
+    reading-induction (λ (s : List ℕ) (r : Reading). Bytes s → All Sendable (r .entries))
     (λ s o by. tt)
     (λ s l p c h e ih by. (entry-sendable s by e, ih (bytes-drop l s by)))
     (λ s k a o e by. tt)

@@ -13,17 +13,21 @@ use Rattle.batch.specs.declared.entry.NextEntry.the-variants.{Entry, Fau
 use Rattle.batch.specs.declared.list.ListCheck.{ListCheck}
 use Rattle.batch.specs.declared.list.ListCheck.the-variants.{Sound, Broken}
 
+-- the PCMD of a batch
+abbrev pub batchPcmd : ℕ
+batchPcmd = 0x05
+
 -- ---- entries and their bytes
 
 -- a request without an address: a batch entry, or a frame without NADR
-pub record Item : Type 0 where
+pub record Request : Type 0 where
   pub pnum : ℕ
   pub pcmd : ℕ
   pub hwpid : ℕ
   pub pdata : List ℕ
 
-abbrev pub item : ℕ → ℕ → ℕ → List ℕ → Item
-item p c h d = record { pnum = p; pcmd = c; hwpid = h; pdata = d }
+abbrev pub requestOf : ℕ → ℕ → ℕ → List ℕ → Request
+requestOf p c h d = record { pnum = p; pcmd = c; hwpid = h; pdata = d }
 
 -- size of an entry's head: length, PNUM, PCMD and HWPID
 abbrev pub entryHeadSize : ℕ
@@ -38,19 +42,19 @@ abbrev pub headBytes : ℕ → ℕ → ℕ → ℕ → List ℕ
 headBytes size pnum pcmd hwpid = (entryHeadSize + size) ∷ pnum ∷ pcmd ∷ low hwpid ∷ high hwpid ∷ []
 
 -- an entry: its head, then its PData
-unfoldable pub entryBytes : Item → List ℕ
+unfoldable pub entryBytes : Request → List ℕ
 entryBytes i = headBytes (length (i .pdata)) (i .pnum) (i .pcmd) (i .hwpid) ++ i .pdata
 
-unfoldable pub entriesBytes : List Item → List ℕ
+unfoldable pub entriesBytes : List Request → List ℕ
 entriesBytes [] = []
 entriesBytes (i ∷ is) = entryBytes i ++ entriesBytes is
 
 -- a list: its entries, then the closing zero
-abbrev pub listBytes : List Item → List ℕ
+abbrev pub listBytes : List Request → List ℕ
 listBytes is = entriesBytes is ++ (closingZero ∷ [])
 
 -- an entry whose fields fit their bytes
-pub record Sendable (i : Item) : Type 0 where
+pub record Sendable (i : Request) : Type 0 where
   pub pnum-byte : i .pnum < 256
   pub pcmd-byte : i .pcmd < 256
   pub hwpid-word : i .hwpid < 65536
@@ -97,12 +101,12 @@ nextEntryError (Fault r a) = 6
 
 -- a list that was read: the entries before its end or its first fault, and which of the two came
 pub record Reading : Type 0 where
-  pub items : List Item
+  pub entries : List Request
   pub check : ListCheck
 
 -- a list without entries
 abbrev pub emptyReading : ListCheck → Reading
-emptyReading x = record { items = []; check = x }
+emptyReading x = record { entries = []; check = x }
 
 -- the number of bytes of the next entry
 abbrev pub entryLength : NextEntry → ℕ
@@ -123,7 +127,7 @@ faultOf (Fault r a) = Broken r a
 abbrev pub prependEntry : NextEntry → List ℕ → Reading → Reading
 prependEntry (Entry l p c h) s r =
     record {
-      items = item p c h (slice s entryHeadSize (l - entryHeadSize)) ∷ r .items;
+      entries = requestOf p c h (slice s entryHeadSize (l - entryHeadSize)) ∷ r .entries;
       check = shiftFault l (r .check);
     }
 prependEntry (Fault k a) s r = emptyReading (faultOf (Fault k a))
@@ -168,23 +172,23 @@ entriesEnd r a = cond (eqb r trailingReason) (a - 1) a
 
 -- the list s has fault r at place a: whole entries lead up to it
 pub record ListFault (s : List ℕ) (r a : ℕ) : Type 0 where
-  pub items : List Item
-  pub before : take (entriesEnd r a) s ≡ entriesBytes items
+  pub entries : List Request
+  pub before : take (entriesEnd r a) s ≡ entriesBytes entries
   pub fault : FaultAt s r a
 
 -- the list s is whole entries, then the closing zero
 pub record SoundList (s : List ℕ) : Type 0 where
-  pub items : List Item
-  pub whole : s ≡ listBytes items
+  pub entries : List Request
+  pub whole : s ≡ listBytes entries
 
 -- ---- running entries
 
 -- runs entries in order, each on the state that the previous one left; f is the effect of an entry
-unfoldable pub runItems : {S : Type 0} → (Item → S → S) → List Item → S → S
-runItems f [] st = st
-runItems f (i ∷ is) st = runItems f is (f i st)
+unfoldable pub runEntries : {S : Type 0} → (Request → S → S) → List Request → S → S
+runEntries f [] st = st
+runEntries f (i ∷ is) st = runEntries f is (f i st)
 
 -- the ErrN of each entry, in order; e is the ErrN of an entry
-unfoldable pub errorsOf : {S : Type 0} → (Item → S → ℕ) → (Item → S → S) → List Item → S → List ℕ
+unfoldable pub errorsOf : {S : Type 0} → (Request → S → ℕ) → (Request → S → S) → List Request → S → List ℕ
 errorsOf e f [] st = []
 errorsOf e f (i ∷ is) st = e i st ∷ errorsOf e f is (f i st)

@@ -10,6 +10,10 @@ use Rattle.batch.specs.declared.selective.Selection.{Selection}
 use Rattle.batch.specs.declared.selective.Selection.the-variants.{TooShort, NotSelected, Selected}
 use Rattle.batch.specs.Batch.{reading, shiftFault}
 
+-- the PCMD of a selective batch
+abbrev pub selectivePcmd : ℕ
+selectivePcmd = 0x0B
+
 -- size of the shortest PData: a node set, and one byte of a list
 abbrev pub selectivePdataMin : ℕ
 selectivePdataMin = nodeSetSize + 1

@@ -6,6 +6,9 @@ use dpa::error;
 ghost use mathlib.Core.Path.{_≡_};
 ghost use Rattle.batch.specs.Batch.{faultOf, reading, listError};
 
+// PCMD of a batch.
+pub const BATCH: u8 = 0x05;
+
 pub enum ListCheck {
     Sound,
     // The first fault; `at` counts from the first byte of the list, or of PData where a node set is in front of the list.

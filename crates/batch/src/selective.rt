@@ -9,6 +9,9 @@ ghost use Rattle.dpa.specs.NodeSet.{nodeSetSize};
 ghost use Rattle.batch.specs.Batch.{placeOf, shiftFault};
 ghost use Rattle.batch.specs.Selective.{selectionOf};
 
+// PCMD of a selective batch.
+pub const SELECTIVE_BATCH: u8 = 0x0B;
+
 // The shortest PData: a node set, and one byte of a list.
 const SHORTEST: usize = NODE_SET_SIZE + 1;
 

@@ -4,11 +4,11 @@ use mathlib.Core.Path.{_≡_, refl}
 use Prim.Native.Nat.{ℕ}
 use lib.ListN.{getD, take}
 use Rattle.lights.specs.Lamp.{lamp, off}
-use Rattle.outcome.specs.Request.{State}
+use Rattle.node.specs.State.{State}
 use Rattle.book.specs.declared.step.Step.{Step}
 use Rattle.book.specs.Book.{sceneOf}
 use Rattle.book.specs.Step.{setKind, raiseKind, lowerKind}
-use Rattle.book.specs.Machine.{timeFormed, wellFormed, machineLevel, machineSeconds, machineLamps, machineEffect, machineStep, machine}
+use Rattle.book.specs.Machine.{timeFormed, stepFormed, machineLevel, machineSeconds, machineLamps, machineEffect, machineStep, machine}
 use Rattle.book.specs.Examples.{freshState, book}
 
 -- a step on lamp 0 without a time
@@ -23,12 +23,12 @@ levels (s ∷ ss) st = getD (machineStep s st .node .lamps) 0 off .level ∷ lev
 -- one lamp, dimming step 10: set 15, +6, -10, -9, -100, +0; the machine starts from the requested level, not from the actual one
 pub machine-table :
     levels (step setKind 15 ∷ step raiseKind 6 ∷ step lowerKind 10 ∷ step lowerKind 9 ∷ step lowerKind 100 ∷ step raiseKind 0 ∷ []) (freshState 1 10) ≡ 15 ∷ 21 ∷ 11 ∷ 2 ∷ 0 ∷ 0 ∷ []
-unfolding timeFormed wellFormed machineLevel machineSeconds machineLamps machineEffect machineStep
+unfolding timeFormed stepFormed machineLevel machineSeconds machineLamps machineEffect machineStep
 machine-table = refl
 
 -- the step machine on a node with three lamps, as sceneshow prints it
 pub shown-book :
     take 3 (machine (sceneOf book 0) (freshState 3 1) .node .lamps)
     ≡ lamp 10 0 ∷ lamp 0 0 ∷ lamp 100 120 ∷ []
-unfolding sceneOf timeFormed wellFormed machineLevel machineSeconds machineLamps machineEffect machineStep
+unfolding sceneOf timeFormed stepFormed machineLevel machineSeconds machineLamps machineEffect machineStep
 shown-book = refl

@@ -17,7 +17,7 @@ use Rattle.dpa.specs.Lists.{All}
 use Rattle.book.specs.declared.step.Step.{Step}
 use Rattle.book.specs.declared.step.StepsCheck.the-variants.{AllGood, Bad}
 use Rattle.book.specs.Step.{ramKind, eepromKind, isLamp, noFault, kindFault, targetFault, valueFault, timeFault, stepTimeOk, lampFault, byteFault, stepFault, goodStep, firstBadFrom, targetLimit, BadKind, BadTarget, BadValue, BadTime, FaultMeaning}
-use Rattle.book.specs.Machine.{secondsBit, timeFormed, lampFormed, byteFormed, wellFormed}
+use Rattle.book.specs.Machine.{secondsBit, timeFormed, lampFormed, byteFormed, stepFormed}
 
 -- a step that the compiler accepts
 abbrev pub Good : Step → Type 0
@@ -105,13 +105,13 @@ only-first true x e = refl
 only-first false x e = e
 
 -- a well-formed step that is not of a lamp or RAM writes EEPROM
-pub formed-eeprom : (s : Step) → wellFormed s ≡ true → isLamp (s .kind) ≡ false → eqb (s .kind) ramKind ≡ false → eqb (s .kind) eepromKind ≡ true
-unfolding wellFormed
+pub formed-eeprom : (s : Step) → stepFormed s ≡ true → isLamp (s .kind) ≡ false → eqb (s .kind) ramKind ≡ false → eqb (s .kind) eepromKind ≡ true
+unfolding stepFormed
 formed-eeprom s g l r = only-first (eqb (s .kind) eepromKind) (byteFormed (sizeOf Eeprom) s) (rw (l, r) at g)
 
 -- the steps that the compiler accepts are exactly those that the step machine executes
-pub good-formed : (s : Step) → Good s ↔ (wellFormed s ≡ true)
-unfolding wellFormed stepFault
+pub good-formed : (s : Step) → Good s ↔ (stepFormed s ≡ true)
+unfolding stepFormed stepFault
 good-formed s =
     by-test (isLamp (s .kind))
     (λ l. (

@@ -11,20 +11,20 @@ use borrow.Author.Tests.{eqb-true, eqb-false, ne-eqb, ltb-true}
 use Rattle.dpa.proofs.Bool.{by-cond, by-test}
 use Rattle.lights.specs.Lamp.{off}
 use Rattle.lights.specs.declared.lamp.Lamp.{Lamp}
-use Rattle.outcome.specs.Request.{State}
+use Rattle.node.specs.State.{State}
 use Rattle.book.specs.declared.step.Step.{Step}
 use Rattle.book.specs.Step.{ramKind, eepromKind, isLamp}
-use Rattle.book.specs.Machine.{wellFormed, machineLamp, machineLamps, machineEffect, machineStep, machine}
+use Rattle.book.specs.Machine.{stepFormed, machineLamp, machineLamps, machineEffect, machineStep, machine}
 use Rattle.book.proofs.Faults.{formed-eeprom}
 
 -- lamp k of a node with `count` lamps after a step, from lamp k before it
 unfoldable pub lampAfterStep : Step → ℕ → ℕ → Lamp → Lamp
 lampAfterStep s count k l =
-    cond (wellFormed s && (isLamp (s .kind) && (ltb (s .target) count && eqb k (s .target)))) (machineLamp s l) l
+    cond (stepFormed s && (isLamp (s .kind) && (ltb (s .target) count && eqb k (s .target)))) (machineLamp s l) l
 
 -- byte k of the memory that this kind writes after a step, from byte k before it
 unfoldable pub byteAfterStep : ℕ → Step → ℕ → ℕ → ℕ
-byteAfterStep kind s k b = cond (wellFormed s && (eqb (s .kind) kind && eqb k (s .target))) (s .value) b
+byteAfterStep kind s k b = cond (stepFormed s && (eqb (s .kind) kind && eqb k (s .target))) (s .value) b
 
 set-at-index : {A : Type 0} (l : List A) (i k : ℕ) (a d : A) → k < length l → getD (set l i a) k d ≡ cond (eqb k i) a (getD l k d)
 set-at-index l i k a d h =
@@ -52,7 +52,7 @@ module _ (s : Step) (st : State) where
   step-lamp k h =
       let n = st .node in
       let t = s .target in
-      by-test (wellFormed s)
+      by-test (stepFormed s)
       (λ g. rw g (by-test (isLamp (s .kind))
       (λ e. rw e (by-test (ltb t (n .settings .«lamp_count»))
       (λ c. rw c (by-test (eqb k t)
@@ -66,7 +66,7 @@ module _ (s : Step) (st : State) where
   pub step-ram : (k : ℕ) → k < length (st .node .ram) → getD (machineStep s st .node .ram) k 0 ≡ byteAfterStep ramKind s k (getD (st .node .ram) k 0)
   unfolding machineStep machineEffect byteAfterStep
   step-ram k h =
-      by-test (wellFormed s)
+      by-test (stepFormed s)
       (λ g. rw g (by-test (isLamp (s .kind))
       (λ e. rw (e, ne-eqb (s .kind) ramKind (λ z. omega (arith, ltb-true (s .kind) ramKind e))))
       (λ e. rw e (by-test (eqb (s .kind) ramKind)
@@ -78,7 +78,7 @@ module _ (s : Step) (st : State) where
   pub step-eeprom : (k : ℕ) → k < length (st .eeprom) → getD (machineStep s st .eeprom) k 0 ≡ byteAfterStep eepromKind s k (getD (st .eeprom) k 0)
   unfolding machineStep machineEffect byteAfterStep
   step-eeprom k h =
-      by-test (wellFormed s)
+      by-test (stepFormed s)
       (λ g. rw g (by-test (isLamp (s .kind))
       (λ e. rw (e, ne-eqb (s .kind) eepromKind (λ z. omega (arith, ltb-true (s .kind) ramKind e))))
       (λ e. rw e (by-test (eqb (s .kind) ramKind)
@@ -90,7 +90,7 @@ module _ (s : Step) (st : State) where
   pub step-stays : Stays st (machineStep s st)
   unfolding machineStep machineEffect machineLamps
   step-stays =
-      by-cond (Stays st) (wellFormed s) _ _
+      by-cond (Stays st) (stepFormed s) _ _
       (λ _. by-cond (Stays st) (isLamp (s .kind)) _ _
       (λ _. record {
         settings = refl;

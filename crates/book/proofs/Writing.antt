@@ -13,7 +13,7 @@ use Rattle.book.specs.declared.step.Step.{Step}
 use Rattle.book.specs.Book.{stepLength, stepOf, stepsIn}
 use Rattle.book.specs.Step.{isLamp}
 use Rattle.lights.specs.Lights.{bit7}
-use Rattle.book.specs.Entry.{bytesOf, powerBytes, powersBytes, values, bitmapOf, bitmapBytes, joinedItem, entryData, groupData}
+use Rattle.book.specs.Entry.{bytesOf, powerBytes, powersBytes, values, bitmapOf, bitmapBytes, joinedEntry, entryData, groupData}
 use Rattle.book.specs.Positions.{stepAt}
 use Rattle.book.specs.Writing.{lampBitBound, entryHeadBytes}
 use Rattle.book.proofs.Records.{records-next, records-taken, records-all}
@@ -135,7 +135,7 @@ data-memory (suc n) a h k = rw k
 
 -- an entry is its head and its PData
 pub entry-split : (n : ℕ) (a : List ℕ) (h size : ℕ) → 0 < n → size ≡ length (groupData (stepsIn n a))
-    → entryBytes (joinedItem h (stepsIn n a)) ≡ entryHeadBytes (stepAt a 0 .kind) h size ++ groupData (stepsIn n a)
+    → entryBytes (joinedEntry h (stepsIn n a)) ≡ entryHeadBytes (stepAt a 0 .kind) h size ++ groupData (stepsIn n a)
 unfolding entryBytes
 entry-split zero a h size p e = absurd (omega arith)
 entry-split (suc n) a h size p e = rw e

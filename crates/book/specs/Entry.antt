@@ -8,7 +8,7 @@ use Rattle.dpa.specs.Pnum.{lightsPnum}
 use Rattle.lights.specs.Lights.{bit7}
 use Rattle.memory.specs.declared.block.Memory.the-variants.{Eeprom, Ram}
 use Rattle.memory.specs.Block.{memoryPnum, writeCommand}
-use Rattle.batch.specs.Batch.{Item, item}
+use Rattle.batch.specs.Batch.{Request, requestOf}
 use Rattle.book.specs.declared.step.Step.{Step}
 use Rattle.book.specs.Step.{ramKind, isLamp}
 
@@ -67,5 +67,5 @@ unfoldable pub pcmdOf : ℕ → ℕ
 pcmdOf k = cond (isLamp k) k (cond (eqb k ramKind) (writeCommand Ram) (writeCommand Eeprom))
 
 -- the entry of a group of joined steps, with HWPID h
-abbrev pub joinedItem : ℕ → List Step → Item
-joinedItem h steps = item (pnumOf (kindOf steps)) (pcmdOf (kindOf steps)) h (groupData steps)
+abbrev pub joinedEntry : ℕ → List Step → Request
+joinedEntry h steps = requestOf (pnumOf (kindOf steps)) (pcmdOf (kindOf steps)) h (groupData steps)

@@ -6,7 +6,7 @@ use Rattle.dpa.specs.declared.settings.Settings.{Settings}
 use Rattle.memory.specs.declared.block.Memory.the-variants.{Eeprom, External}
 use Rattle.memory.specs.Block.{sizeOf}
 use Rattle.node.specs.Node.{fresh}
-use Rattle.outcome.specs.Request.{State, state}
+use Rattle.node.specs.State.{State, state}
 
 -- node 1 just started, with memories of zeros
 abbrev pub settings : ℕ → ℕ → Settings

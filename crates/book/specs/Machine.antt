@@ -12,7 +12,7 @@ use Rattle.memory.specs.declared.block.Memory.the-variants.{Eeprom, Ram}
 use Rattle.lights.specs.Lamp.{changed, off, maxLevel}
 use Rattle.lights.specs.declared.lamp.Lamp.{Lamp}
 use Rattle.node.specs.Node.{withLamps, withRam}
-use Rattle.outcome.specs.Request.{State, withNode, withEeprom}
+use Rattle.node.specs.State.{State, withNode, withEeprom}
 use Rattle.book.specs.declared.step.Step.{Step}
 use Rattle.book.specs.Step.{setKind, raiseKind, ramKind, eepromKind, isLamp}
 
@@ -35,8 +35,8 @@ abbrev pub byteFormed : ℕ → Step → Bool
 byteFormed size s = ltb (s .target) size && eqb (s .time) 0
 
 -- any other step is bad
-unfoldable pub wellFormed : Step → Bool
-wellFormed s =
+unfoldable pub stepFormed : Step → Bool
+stepFormed s =
     cond (isLamp (s .kind)) (lampFormed s)
     (cond (eqb (s .kind) ramKind) (byteFormed (sizeOf Ram) s)
     (cond (eqb (s .kind) eepromKind) (byteFormed (sizeOf Eeprom) s)
@@ -82,7 +82,7 @@ machineEffect s st =
 
 -- a bad step changes nothing
 unfoldable pub machineStep : Step → State → State
-machineStep s st = cond (wellFormed s) (machineEffect s st) st
+machineStep s st = cond (stepFormed s) (machineEffect s st) st
 
 -- steps in order
 abbrev pub machine : List Step → State → State

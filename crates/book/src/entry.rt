@@ -18,7 +18,7 @@ ghost use lib.Seq.{sets};
 ghost use Rattle.dpa.specs.Frame.{pdataMax};
 ghost use Rattle.batch.specs.Batch.{entryBytes, entryHeadSize};
 ghost use Rattle.book.specs.Book.{stepsMax, stepLength, stepsIn};
-ghost use Rattle.book.specs.Entry.{values, groupData, pnumOf, pcmdOf, joinedItem};
+ghost use Rattle.book.specs.Entry.{values, groupData, pnumOf, pcmdOf, joinedEntry};
 ghost use Rattle.book.specs.Writing.{EntryWritable, entryHeadBytes};
 
 // Writes the values of `count` steps; returns the position after them.
@@ -108,7 +108,7 @@ fn write_entry(
     requires { ⌜ (stepLength * count ≤ length (now body)) × (0 < count) × (count ≤ stepsMax) × (size ≤ pdataMax)
         × (size ≡ length (groupData (stepsIn count (now body)))) × (at + entryHeadSize + size ≤ length (now out)) × EntryWritable (now body) count ⌝ }
     ensures { λ r. ⌜ (r ≡ at + entryHeadSize + size)
-        × (now (out .exit) ≡ sets (now (out .entry)) at (entryBytes (joinedItem hwpid (stepsIn count (now (body .entry)))))) ⌝ }
+        × (now (out .exit) ≡ sets (now (out .entry)) at (entryBytes (joinedEntry hwpid (stepsIn count (now (body .entry)))))) ⌝ }
 {
     let step = step_at(body, 0);
     let end = write_head(step.kind, hwpid, size, out, at);
@@ -129,7 +129,7 @@ pub fn write_entry_at(
         × (size ≡ length (groupData (stepsIn steps (drop (stepLength * first) (now body))))) × (at + entryHeadSize + size ≤ length (now out))
         × EntryWritable (drop (stepLength * first) (now body)) steps ⌝ }
     ensures { λ r. ⌜ (r ≡ at + entryHeadSize + size)
-        × (now (out .exit) ≡ sets (now (out .entry)) at (entryBytes (joinedItem hwpid (stepsIn steps (drop (stepLength * first) (now (body .entry))))))) ⌝ }
+        × (now (out .exit) ≡ sets (now (out .entry)) at (entryBytes (joinedEntry hwpid (stepsIn steps (drop (stepLength * first) (now (body .entry))))))) ⌝ }
 {
     let start = STEP_LENGTH * first;
     write_entry(&body[start..], steps, hwpid, size, out, at)

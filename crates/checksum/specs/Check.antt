@@ -11,6 +11,10 @@ use Rattle.dpa.specs.Sizes.{externalSize}
 use Rattle.checksum.specs.declared.check.Image.{Image}
 use Rattle.checksum.specs.Sums.{sums, start, checksum}
 
+-- the PCMD of a code check
+abbrev pub codeCheckPcmd : ℕ
+codeCheckPcmd = 0x0A
+
 -- bytes of PData
 abbrev pub pdataLength : ℕ
 pdataLength = 7

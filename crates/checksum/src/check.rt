@@ -11,6 +11,9 @@ ghost use Rattle.dpa.specs.Reply.{replySeen, replyInBuffer};
 ghost use Rattle.dpa.specs.Sizes.{externalSize};
 ghost use Rattle.checksum.specs.Check.{pdataLength, loadFlag, pluginFlag, reservedFlags, blockSize, initialLow, imageOf, imageError, imageMatches, codeCheck};
 
+// PCMD of a code check.
+pub const CODE_CHECK: u8 = 0x0A;
+
 // Bytes of PData: flags, address, length, checksum.
 const PDATA_LENGTH: usize = 7;
 

@@ -1,5 +1,8 @@
 // Refusals, ErrN, PNUM, PCMD and addresses.
 use crate::print;
+use batch::list;
+use batch::selective;
+use checksum::check;
 use dpa::error;
 use dpa::frame::Frame;
 use dpa::frame::RESPONSE_BIT;
@@ -10,7 +13,6 @@ use lights::request;
 use memory::block::Memory;
 use memory::block::read_command;
 use memory::block::write_command;
-use outcome::os;
 
 pub fn refusals() {
     print(b"OK", refusal::NONE as u64);
@@ -73,9 +75,12 @@ pub fn memory_commands() {
 }
 
 pub fn commands() {
-    print(b"PCMD_OS_BATCH", os::BATCH as u64);
-    print(b"PCMD_OS_CODE_CHECK", os::CODE_CHECK as u64);
-    print(b"PCMD_OS_SELECTIVE_BATCH", os::SELECTIVE_BATCH as u64);
+    print(b"PCMD_OS_BATCH", list::BATCH as u64);
+    print(b"PCMD_OS_CODE_CHECK", check::CODE_CHECK as u64);
+    print(
+        b"PCMD_OS_SELECTIVE_BATCH",
+        selective::SELECTIVE_BATCH as u64,
+    );
     print(b"PCMD_LIGHTS_SET", request::SET as u64);
     print(b"PCMD_LIGHTS_RAISE", request::RAISE as u64);
     print(b"PCMD_LIGHTS_LOWER", request::LOWER as u64);

@@ -13,7 +13,7 @@ use lib.Dec.{eqb, ltb, leb}
 use borrow.Author.Tests.{ltb-true, ltb-false, leb-true, leb-false, eqb-true, eqb-false, eq-eqb, ne-eqb, not-true, not-false}
 use Rattle.dpa.specs.Lists.{Bytes, allBelow, numberBelow}
 use Rattle.dpa.specs.Settings.{lastAddress}
-use Rattle.dpa.specs.NodeSet.{nodeSetSize, bitOf, selects, selectsAny, nodeSetOk, Selectable, byteOf, bytesOf, nodeSetOf}
+use Rattle.dpa.specs.NodeSet.{nodeSetSize, bitOf, selects, selectsAny, nodeSetOk, Selectable, byteOf, tabulate, nodeSetOf}
 use Rattle.dpa.proofs.Bool.{and-left, and-right, both, or-right, never-true, by-test, all-below-intro, all-below-elim, all-below-fails}
 
 -- bit k of byte i is that of address 8 i + k
@@ -144,15 +144,15 @@ set-ok-exact s = (
 -- ---- reading and writing
 
 -- element i of a list that a function gives
-bytes-of-at : (n : ℕ) (f : ℕ → ℕ) (i : ℕ) → i < n → getD (bytesOf n f) i 0 ≡ f i
-unfolding bytesOf
+bytes-of-at : (n : ℕ) (f : ℕ → ℕ) (i : ℕ) → i < n → getD (tabulate n f) i 0 ≡ f i
+unfolding tabulate
 bytes-of-at zero f i h = absurd (omega arith)
 bytes-of-at (suc n) f zero h = refl
 bytes-of-at (suc n) f (suc i) h = bytes-of-at n (λ j. f (suc j)) i (omega arith)
 
 -- its length
-bytes-of-length : (n : ℕ) (f : ℕ → ℕ) → length (bytesOf n f) ≡ n
-unfolding bytesOf
+bytes-of-length : (n : ℕ) (f : ℕ → ℕ) → length (tabulate n f) ≡ n
+unfolding tabulate
 bytes-of-length zero f = refl
 bytes-of-length (suc n) f = ap suc (bytes-of-length n (λ j. f (suc j)))
 
@@ -194,7 +194,7 @@ pub set-written : (s : List ℕ) → length s ≡ nodeSetSize → Bytes s → no
 set-written s e by =
     let f : ℕ → ℕ = λ i. byteOf (λ k. selects s (8 * i + k)) in
     let n = bytes-of-length nodeSetSize f in
-    ext-getD 0 (bytesOf nodeSetSize f) s (n ∙ sym e) (λ i h. bytes-of-at nodeSetSize f i (omega (arith, n)) ∙ byte-at s i (by i))
+    ext-getD 0 (tabulate nodeSetSize f) s (n ∙ sym e) (λ i h. bytes-of-at nodeSetSize f i (omega (arith, n)) ∙ byte-at s i (by i))
 
 -- ---- one address added or removed
 

@@ -46,10 +46,10 @@ byteOf b = bit 0 + 2 * bit 1 + 4 * bit 2 + 8 * bit 3 + 16 * bit 4 + 32 * bit 5 +
     bit k = cond (b k) 1 0
 
 -- the bytes f 0 to f (n - 1)
-unfoldable pub bytesOf : ℕ → (ℕ → ℕ) → List ℕ
-bytesOf zero f = []
-bytesOf (suc n) f = f 0 ∷ bytesOf n (λ i. f (suc i))
+unfoldable pub tabulate : ℕ → (ℕ → ℕ) → List ℕ
+tabulate zero f = []
+tabulate (suc n) f = f 0 ∷ tabulate n (λ i. f (suc i))
 
 -- the set of all addresses with property p
 abbrev pub nodeSetOf : (ℕ → Bool) → List ℕ
-nodeSetOf p = bytesOf nodeSetSize (λ i. byteOf (λ k. p (8 * i + k)))
+nodeSetOf p = tabulate nodeSetSize (λ i. byteOf (λ k. p (8 * i + k)))

@@ -5,7 +5,8 @@ use node::record::Node;
 use outcome::answer::RequestAnswer;
 ghost use mathlib.Core.Path.{_≡_};
 ghost use Rattle.memory.specs.View.{viewStatus};
-ghost use Rattle.outcome.specs.Request.{state, handleRequest};
+ghost use Rattle.node.specs.State.{state};
+ghost use Rattle.outcome.specs.Request.{handleRequest};
 ghost use Rattle.outcome.specs.Seen.{callResult};
 
 #[no_mangle]

@@ -30,7 +30,8 @@ ghost use Prim.Native.Nat.{ℕ, _≤_};
 ghost use lib.Dec.{eqb};
 ghost use lib.ListN.{length};
 ghost use Rattle.dpa.specs.Frame.{headerSize, longestFrame, pdataMax, responseHeaderSize, longestResponse, broadcastNadr};
-ghost use Rattle.outcome.specs.Request.{state, SoundState, execute, headerItem, handleFrame, handleRequest};
+ghost use Rattle.node.specs.State.{state, SoundState};
+ghost use Rattle.outcome.specs.Request.{execute, headerRequest, handleFrame, handleRequest};
 ghost use Rattle.outcome.specs.Seen.{stateFromParts, outcomeSeen, outcomeInBuffer, handledReply, withResponseHeader, handledSeen, handledBroadcast, handledUnicast, handledAddressed, callResult};
 
 // Checks the HWPID, then executes the request, except that the lamps stay. The response data goes to the front of `out`.
@@ -46,7 +47,7 @@ fn execute(
 ) -> RequestReply
     requires { ⌜ SoundState (stateFromParts fixed lamps (now ram) (now eeprom) (now external)) × (pdataMax ≤ length (now out)) ⌝ }
     ensures { λ r. ⌜ outcomeSeen r (now (ram .exit)) (now (eeprom .exit)) (now (external .exit)) (now (out .exit))
-        ≡ outcomeInBuffer (execute (headerItem header (now (pdata .entry)))
+        ≡ outcomeInBuffer (execute (headerRequest header (now (pdata .entry)))
         (stateFromParts fixed lamps (now (ram .entry)) (now (eeprom .entry)) (now (external .entry)))) (now (out .entry)) ⌝ }
 {
     if !hwpid_matches(fixed.settings, header.hwpid) {
@@ -82,7 +83,7 @@ fn handle_broadcast(
 ) -> Handled
     requires { ⌜ SoundState (stateFromParts fixed lamps (now ram) (now eeprom) (now external)) ⌝ }
     ensures { λ r. ⌜ ((o : List ℕ) → handledSeen r (now (ram .exit)) (now (eeprom .exit)) (now (external .exit)) o
-        ≡ handledBroadcast (execute (headerItem header (now (pdata .entry)))
+        ≡ handledBroadcast (execute (headerRequest header (now (pdata .entry)))
         (stateFromParts fixed lamps (now (ram .entry)) (now (eeprom .entry)) (now (external .entry)))) o) ⌝ }
 {
     let mut scratch = [0u8; Frame::PDATA_MAX];
@@ -124,8 +125,8 @@ fn handle_unicast(
 ) -> Handled
     requires { ⌜ SoundState (stateFromParts fixed lamps (now ram) (now eeprom) (now external)) × (longestResponse ≤ length (now response)) ⌝ }
     ensures { λ r. ⌜ handledSeen r (now (ram .exit)) (now (eeprom .exit)) (now (external .exit)) (now (response .exit))
-        ≡ handledUnicast (fixed .settings) (headerItem header (now (pdata .entry)))
-        (execute (headerItem header (now (pdata .entry)))
+        ≡ handledUnicast (fixed .settings) (headerRequest header (now (pdata .entry)))
+        (execute (headerRequest header (now (pdata .entry)))
         (stateFromParts fixed lamps (now (ram .entry)) (now (eeprom .entry)) (now (external .entry)))) (now (response .entry)) ⌝ }
 {
     let done = execute(
@@ -154,8 +155,8 @@ fn handle_addressed(
 ) -> Handled
     requires { ⌜ SoundState (stateFromParts fixed lamps (now ram) (now eeprom) (now external)) × (longestResponse ≤ length (now response)) ⌝ }
     ensures { λ r. ⌜ handledSeen r (now (ram .exit)) (now (eeprom .exit)) (now (external .exit)) (now (response .exit))
-        ≡ handledAddressed (fixed .settings) header (headerItem header (now (pdata .entry)))
-        (execute (headerItem header (now (pdata .entry)))
+        ≡ handledAddressed (fixed .settings) header (headerRequest header (now (pdata .entry)))
+        (execute (headerRequest header (now (pdata .entry)))
         (stateFromParts fixed lamps (now (ram .entry)) (now (eeprom .entry)) (now (external .entry)))) (now (response .entry)) ⌝ }
 {
     if header.nadr == Frame::BROADCAST {

@@ -1,2 +1,3 @@
 pub mod Node
 pub mod Frc
+pub mod State

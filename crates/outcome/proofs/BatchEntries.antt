@@ -3,10 +3,11 @@ use mathlib.Core.Path.{_≡_}
 use mathlib.Core.Bool.{true, false}
 use Rattle.dpa.specs.Reply.{Reply, errorReply}
 use Rattle.dpa.proofs.Bool.{by-cond}
-use Rattle.batch.specs.Batch.{Item}
-use Rattle.outcome.specs.Request.{State, hwpidMatches, peripheralRequest, executeEntry}
+use Rattle.batch.specs.Batch.{Request}
+use Rattle.node.specs.State.{State}
+use Rattle.outcome.specs.Request.{hwpidMatches, peripheralRequest, executeEntry}
 
-module _ (i : Item) (st : State) where
+module _ (i : Request) (st : State) where
   -- an accepted HWPID: the entry is a request to a peripheral
   pub entry-match : hwpidMatches (st .node .settings) (i .hwpid) ≡ true → executeEntry i st ≡ peripheralRequest (i .pnum) (i .pcmd) (i .pdata) st
   unfolding executeEntry

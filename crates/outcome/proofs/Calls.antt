@@ -17,7 +17,7 @@ use Rattle.dpa.proofs.Headers.{fits-sizes}
 use Rattle.dpa.proofs.Lists.{slice-to-end, tail-borrowed, tail-returned, overwrite-append}
 use Rattle.memory.specs.declared.block.Memory.the-variants.{Eeprom, External}
 use Rattle.memory.specs.Block.{sizeOf}
-use Rattle.batch.specs.Batch.{Item}
+use Rattle.batch.specs.Batch.{Request}
 use Rattle.lights.specs.declared.lamp.Lamp.{Lamp}
 use Rattle.node.specs.declared.record.Node.{Node}
 use Rattle.node.specs.declared.record.ReadOnly.{ReadOnly}
@@ -25,30 +25,31 @@ use Rattle.outcome.specs.declared.reply.RequestReply.{RequestReply}
 use Rattle.outcome.specs.declared.answer.Handled.{Handled}
 use Rattle.outcome.specs.declared.answer.RequestAnswer.{RequestAnswer}
 use Rattle.node.specs.Node.{nodeOk}
-use Rattle.outcome.specs.Request.{State, state, SoundState, Outcome, headerItem, frameItem, execute, CallResult, unhandledResult, unansweredResult, responseResult, unicastResult, handleFrame, requestRefusal, callRefusal, handleRequest}
+use Rattle.node.specs.State.{State, state, SoundState}
+use Rattle.outcome.specs.Request.{Outcome, headerRequest, frameRequest, execute, CallResult, unhandledResult, unansweredResult, responseResult, unicastResult, handleFrame, requestRefusal, callRefusal, handleRequest}
 use Rattle.outcome.specs.Seen.{stateFromParts, Memories, memories, memoriesOf, succeeded, SeenOutcome, outcomeSeen, outcomeInBuffer, handledReply, withResponseHeader, SeenHandled, handledSeen, handledOf, handledBroadcast, handledUnicast, addressedResult, handledAddressed, callResult}
 
 -- the request that the code reads from a frame
-pub frame-item-read : (f : List ℕ) {h : Frame} → h ≡ headerOf f → headerItem h (take (length f - headerSize) (drop headerSize f)) ≡ frameItem f
-frame-item-read f e =
-    ap (λ (h : Frame). headerItem h (take (length f - headerSize) (drop headerSize f))) e
-    ∙ ap (headerItem (headerOf f)) (slice-to-end headerSize f)
+pub frame-request-read : (f : List ℕ) {h : Frame} → h ≡ headerOf f → headerRequest h (take (length f - headerSize) (drop headerSize f)) ≡ frameRequest f
+frame-request-read f e =
+    ap (λ (h : Frame). headerRequest h (take (length f - headerSize) (drop headerSize f))) e
+    ∙ ap (headerRequest (headerOf f)) (slice-to-end headerSize f)
 
 module _ (f : List ℕ) (st : State) (o : List ℕ) where
   -- a broadcast
-  pub frame-broadcast : headerOf f .nadr ≡ broadcastNadr → handleFrame f st o ≡ unansweredResult (execute (frameItem f) st) o
+  pub frame-broadcast : headerOf f .nadr ≡ broadcastNadr → handleFrame f st o ≡ unansweredResult (execute (frameRequest f) st) o
   unfolding handleFrame
   frame-broadcast e = rw (eq-eqb (headerOf f .nadr) broadcastNadr e)
 
   -- a frame for this node
   pub frame-unicast : (headerOf f .nadr ≡ broadcastNadr → ⊥) → headerOf f .nadr ≡ st .node .settings .address
-      → handleFrame f st o ≡ unicastResult (st .node .settings) (frameItem f) (execute (frameItem f) st) o
+      → handleFrame f st o ≡ unicastResult (st .node .settings) (frameRequest f) (execute (frameRequest f) st) o
   unfolding handleFrame
   frame-unicast n e = rw (ne-eqb (headerOf f .nadr) broadcastNadr n, eq-eqb (headerOf f .nadr) (st .node .settings .address) e)
 
   -- a frame for all nodes or for this one
   pub frame-addressed : (eqb (headerOf f .nadr) broadcastNadr || eqb (headerOf f .nadr) (st .node .settings .address)) ≡ true
-      → handleFrame f st o ≡ addressedResult (st .node .settings) (headerOf f) (frameItem f) (execute (frameItem f) st) o
+      → handleFrame f st o ≡ addressedResult (st .node .settings) (headerOf f) (frameRequest f) (execute (frameRequest f) st) o
   frame-addressed e =
       by-test (eqb (headerOf f .nadr) broadcastNadr)
       (λ a. rw a (frame-broadcast (eqb-true _ _ a)))
@@ -83,15 +84,15 @@ module _ (f : List ℕ) (st : State) (o : List ℕ) where
 
 -- A property of results holds for every call if it holds where nothing is done, without a response and with one.
 pub call-cases : (P : CallResult → Type 0) (f : List ℕ) (st : State) (o : List ℕ) → ((k : ℕ) → P (unhandledResult st k o))
-    → (callRefusal f st o ≡ 0 → P (unansweredResult (execute (frameItem f) st) o))
-    → (callRefusal f st o ≡ 0 → P (responseResult (st .node .settings) (frameItem f) (execute (frameItem f) st) o))
+    → (callRefusal f st o ≡ 0 → P (unansweredResult (execute (frameRequest f) st) o))
+    → (callRefusal f st o ≡ 0 → P (responseResult (st .node .settings) (frameRequest f) (execute (frameRequest f) st) o))
     → P (handleRequest f st o)
 unfolding handleRequest handleFrame
 call-cases P f st o nothing all own =
     by-cond P (eqb (callRefusal f st o) 0) _ _
     (λ z. by-cond P (eqb (headerOf f .nadr) broadcastNadr) _ _ (λ _. all (eqb-true _ _ z))
     (λ _. by-cond P (eqb (headerOf f .nadr) (st .node .settings .address)) _ _
-    (λ _. by-cond P (execute (frameItem f) st .answered) _ _ (λ _. own (eqb-true _ _ z)) (λ _. all (eqb-true _ _ z)))
+    (λ _. by-cond P (execute (frameRequest f) st .answered) _ _ (λ _. own (eqb-true _ _ z)) (λ _. all (eqb-true _ _ z)))
     (λ _. nothing 0)))
     (λ _. nothing (callRefusal f st o))
 
@@ -106,7 +107,7 @@ addressed-exact f st o =
     let Exact : CallResult → Type 0 = λ a. a .addressed ≡ (eqb (a .refusal) 0 && (all || own)) in
     by-cond Exact (eqb (callRefusal f st o) 0) _ _
     (λ _. by-cond Exact all _ _ (λ e. rw e)
-    (λ e. by-cond Exact own _ _ (λ q. by-cond Exact (execute (frameItem f) st .answered) _ _ (λ _. rw (e, q)) (λ _. rw (e, q))) (λ q. rw (e, q))))
+    (λ e. by-cond Exact own _ _ (λ q. by-cond Exact (execute (frameRequest f) st .answered) _ _ (λ _. rw (e, q)) (λ _. rw (e, q))) (λ q. rw (e, q))))
     (λ e. rw e)
 
 module _ (n : Node) (f e x r : ℕ) (z : requestRefusal n f e x r ≡ 0) where
@@ -128,7 +129,7 @@ accepted-sound n e x f r z =
     record { node-ok = k .0; eeprom-size = k .4; external-size = k .5 }
 
 -- a request to this node or to all reports what executing it reports, answered or not
-pub addressed-report : (s : Settings) (h : Frame) (i : Item) (a : Outcome) (o : List ℕ) → addressedResult s h i a o .report ≡ a .report
+pub addressed-report : (s : Settings) (h : Frame) (i : Request) (a : Outcome) (o : List ℕ) → addressedResult s h i a o .report ≡ a .report
 addressed-report s h i a o =
     let Same : CallResult → Type 0 = λ (c : CallResult). c .report ≡ a .report in
     by-cond Same (eqb (h .nadr) broadcastNadr) _ _ (λ _. refl) (λ _. by-cond Same (a .answered) _ _ (λ _. refl) (λ _. refl))
@@ -190,7 +191,7 @@ module _ (k : ReadOnly) (header : Frame) (d : List ℕ) (a : Outcome) (o : List 
         length = cond b (responseHeaderSize + length (a .bytes)) 0;
         report = a .report;
         response = cond b (withHeader (a .error) (overwriteFront (a .bytes) lent)) (afterHeader (overwriteFront (a .bytes) lent));
-      }) (handledOf a (cond b (responseResult (k .settings) (headerItem header d) a o) (unansweredResult a o)))
+      }) (handledOf a (cond b (responseResult (k .settings) (headerRequest header d) a o) (unansweredResult a o)))
   by-answer true n = λ j. record {
     success = succeeded a;
     after = memoriesOf (a .after);
@@ -203,7 +204,7 @@ module _ (k : ReadOnly) (header : Frame) (d : List ℕ) (a : Outcome) (o : List 
   -- so what the code leaves is the result of the request
   pub unicast-response : {c : RequestReply} {r e x m w : List ℕ} {g : Handled} → outcomeSeen c r e x m ≡ outcomeInBuffer a lent
       → g ≡ handledReply c → w ≡ withResponseHeader (k .settings) header c (afterHeader m)
-      → handledSeen g r e x w ≡ handledOf a (unicastResult (k .settings) (headerItem header d) a o)
+      → handledSeen g r e x w ≡ handledOf a (unicastResult (k .settings) (headerRequest header d) a o)
   unicast-response {c} {r} {e} {x} {m} {w} q p u =
       handled-same p
       ∙ ap (handledSeen (handledReply c) r e x) u
@@ -211,7 +212,7 @@ module _ (k : ReadOnly) (header : Frame) (d : List ℕ) (a : Outcome) (o : List 
       ∙ by-answer (a .answered) no-data
 
 -- a request to all nodes or to this one, by its NADR
-module _ (s : Settings) (h : Frame) (i : Item) (a : Outcome) (o : List ℕ) where
+module _ (s : Settings) (h : Frame) (i : Request) (a : Outcome) (o : List ℕ) where
   pub addressed-broadcast : h .nadr ≡ broadcastNadr → handledBroadcast a o ≡ handledAddressed s h i a o
   addressed-broadcast e = rw (eq-eqb (h .nadr) broadcastNadr e)
 
@@ -228,7 +229,7 @@ pub state-together : (k : ReadOnly) (ls : List Lamp) (ms : Memories) (st : State
 state-together k ls ms st p q m = λ j. stateFromParts (record { settings = p j }) (q j) (m j .ram) (m j .eeprom) (m j .external)
 
 -- with the lamps after it, what was seen of a request is the result of the call
-pub addressed-call : (k : ReadOnly) (h : Frame) (i : Item) (a : Outcome) (o : List ℕ) {g : Handled} {ls : List Lamp} {r e x w : List ℕ}
+pub addressed-call : (k : ReadOnly) (h : Frame) (i : Request) (a : Outcome) (o : List ℕ) {g : Handled} {ls : List Lamp} {r e x w : List ℕ}
     → handledSeen g r e x w ≡ handledOf a (addressedResult (k .settings) h i a o)
     → k .settings ≡ a .after .node .settings → ls ≡ a .after .node .lamps
     → resultWith (stateFromParts k ls r e x) (handledSeen g r e x w) ≡ addressedResult (k .settings) h i a o

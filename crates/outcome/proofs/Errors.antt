@@ -8,11 +8,12 @@ use Rattle.memory.proofs.Requests.{request-harmless}
 use Rattle.lights.proofs.Requests as lights
 use Rattle.checksum.specs.Check.{codeCheck}
 use Rattle.checksum.proofs.Checks.{check-harmless}
-use Rattle.batch.specs.Batch.{Item}
+use Rattle.batch.specs.Batch.{Request}
 use Rattle.batch.specs.declared.list.ListCheck.{ListCheck}
 use Rattle.batch.specs.declared.list.ListCheck.the-variants.{Sound}
 use Rattle.node.specs.Node.{withLamps}
-use Rattle.outcome.specs.Request.{State, withNode, memoryOf, withMemory, peripheralRequest, executeEntry, loadReport, faultReport, noReport, Outcome, outcome, replyOnly, listRequest, codeCheckRequest, execute, frameItem, CallResult, unhandledResult, callRefusal, handleRequest}
+use Rattle.node.specs.State.{State, withNode, memoryOf, withMemory}
+use Rattle.outcome.specs.Request.{peripheralRequest, executeEntry, loadReport, faultReport, noReport, Outcome, outcome, replyOnly, listRequest, codeCheckRequest, execute, frameRequest, CallResult, unhandledResult, callRefusal, handleRequest}
 use Rattle.outcome.proofs.Peripherals.{memory-same, peripheral-cases}
 use Rattle.outcome.proofs.BatchEntries.{entry-cases}
 use Rattle.outcome.proofs.Outcomes.{list-broken, os-cases, execute-cases}
@@ -31,7 +32,7 @@ peripheral-harmless pnum pcmd d st =
     (λ e n. (refl, refl))
 
 -- an entry of a batch with an error changes nothing and has no data
-pub entry-harmless : (i : Item) (st : State) → Harmless st (executeEntry i st)
+pub entry-harmless : (i : Request) (st : State) → Harmless st (executeEntry i st)
 entry-harmless i st =
     entry-cases i st (λ (a : Reply State). Harmless st a) (peripheral-harmless (i .pnum) (i .pcmd) (i .pdata) st) (λ n. (refl, refl))
 
@@ -58,7 +59,7 @@ peripheral-outcome-harmless pnum pcmd d st n =
     λ j. record { answered = true; after = h .0 j; error = peripheralRequest pnum pcmd d st .error; bytes = h .1 j; entries = []; report = noReport }
 
 -- a request with an error changes nothing, has no data, ran no entry and has no load mark
-pub execute-harmless : (i : Item) (st : State) → (execute i st .error ≡ 0 → ⊥)
+pub execute-harmless : (i : Request) (st : State) → (execute i st .error ≡ 0 → ⊥)
     → execute i st ≡ outcome (errorReply st (execute i st .error)) [] (faultReport (execute i st .report .reason) (execute i st .report .place))
 execute-harmless i st =
     execute-cases (HarmlessOutcome st) st (λ e n. refl) i
@@ -67,9 +68,9 @@ execute-harmless i st =
     (peripheral-outcome-harmless (i .pnum) (i .pcmd) (i .pdata) st)
 
 -- a call whose request has an error leaves the state as it was, whether the ErrN is sent or not
-pub error-keeps : (f : List ℕ) (st : State) (o : List ℕ) → (execute (frameItem f) st .error ≡ 0 → ⊥) → handleRequest f st o .after ≡ st
+pub error-keeps : (f : List ℕ) (st : State) (o : List ℕ) → (execute (frameRequest f) st .error ≡ 0 → ⊥) → handleRequest f st o .after ≡ st
 error-keeps f st o n =
-    let e : execute (frameItem f) st .after ≡ st = ap (λ (a : Outcome). a .after) (execute-harmless (frameItem f) st n) in
+    let e : execute (frameRequest f) st .after ≡ st = ap (λ (a : Outcome). a .after) (execute-harmless (frameRequest f) st n) in
     call-cases (λ (a : CallResult). a .after ≡ st) f st o (λ k. refl) (λ _. e) (λ _. e)
 
 -- a refused call changes nothing

@@ -11,17 +11,18 @@ use Rattle.dpa.specs.NodeSet.{nodeSetSize}
 use Rattle.dpa.specs.Pnum.{osPnum}
 use Rattle.dpa.specs.Reply.{Reply, SeenReply, replySeen, replyInBuffer, errorReply, mapState}
 use Rattle.dpa.proofs.Bool.{by-cond}
-use Rattle.checksum.specs.Check.{codeCheck}
-use Rattle.batch.specs.Batch.{Item, reading, listError, reasonOf, placeOf}
+use Rattle.checksum.specs.Check.{codeCheck, codeCheckPcmd}
+use Rattle.batch.specs.Batch.{Request, reading, listError, reasonOf, placeOf, batchPcmd}
 use Rattle.batch.specs.declared.list.ListCheck.{ListCheck}
 use Rattle.batch.specs.declared.list.ListCheck.the-variants.{Sound}
 use Rattle.batch.specs.declared.selective.Selection.{Selection}
-use Rattle.batch.specs.Selective.{selectivePdataMin, checkFrom, selectionOf}
+use Rattle.batch.specs.Selective.{selectivePdataMin, checkFrom, selectionOf, selectivePcmd}
 use Rattle.batch.proofs.Faults.{error-sound}
 use Rattle.batch.proofs.Selections.{check-from-front, select-cases}
 use Rattle.outcome.specs.declared.reply.Report.{Report}
 use Rattle.outcome.specs.declared.reply.RequestReply.{RequestReply}
-use Rattle.outcome.specs.Request.{State, peripheralRequest, hwpidMatches, loadReport, faultReport, noReport, Outcome, replyOnly, batchOutcome, brokenOutcome, listRequest, batchRequest, unansweredOutcome, selectionOutcome, selectiveRequest, codeCheckRequest, batchPcmd, codeCheckPcmd, selectivePcmd, osRequest, execute}
+use Rattle.node.specs.State.{State}
+use Rattle.outcome.specs.Request.{peripheralRequest, hwpidMatches, loadReport, faultReport, noReport, Outcome, replyOnly, batchOutcome, brokenOutcome, listRequest, batchRequest, unansweredOutcome, selectionOutcome, selectiveRequest, codeCheckRequest, osRequest, execute}
 use Rattle.outcome.specs.Seen.{Memories, memoriesOf, outcomeSeen, outcomeInBuffer}
 
 module _ (check : ListCheck) (list : List ℕ) (st : State) where
@@ -31,7 +32,7 @@ module _ (check : ListCheck) (list : List ℕ) (st : State) where
   list-broken b = rw (ne-eqb (listError check) 0 (λ z. b (error-sound check z)))
 
   -- a sound list runs its entries
-  pub list-runs : check ≡ Sound → listRequest check list st ≡ batchOutcome (reading list .items) st
+  pub list-runs : check ≡ Sound → listRequest check list st ≡ batchOutcome (reading list .entries) st
   unfolding listRequest
   list-runs e = rw e
 
@@ -47,7 +48,7 @@ module _ (d : List ℕ) (st : State) where
   batch-list n e = rw (ne-eqb (length d) 0 n) (ap (λ (x : ListCheck). listRequest x d st) (sym e))
 
   -- a sound list runs its entries
-  pub batch-runs : (length d ≡ 0 → ⊥) → reading d .check ≡ Sound → batchRequest d st ≡ batchOutcome (reading d .items) st
+  pub batch-runs : (length d ≡ 0 → ⊥) → reading d .check ≡ Sound → batchRequest d st ≡ batchOutcome (reading d .entries) st
   batch-runs n e = batch-list n refl ∙ list-runs (reading d .check) d st e
 
   -- a selective batch, by what its PData is to the node
@@ -77,7 +78,7 @@ module _ (pcmd : ℕ) (d : List ℕ) (st : State) where
   unfolding osRequest
   os-unknown a b c = simp (ne-eqb pcmd batchPcmd a, ne-eqb pcmd codeCheckPcmd b, ne-eqb pcmd selectivePcmd c)
 
-module _ (i : Item) (st : State) where
+module _ (i : Request) (st : State) where
   -- another HWPID is ErrN 7
   pub execute-mismatch : hwpidMatches (st .node .settings) (i .hwpid) ≡ false → execute i st ≡ replyOnly (errorReply st 7)
   unfolding execute
@@ -101,13 +102,13 @@ listStart pcmd = cond (eqb pcmd selectivePcmd) nodeSetSize 0
 -- A property of outcomes holds for every request if it holds for each kind of request and for every error.
 module _ (P : Outcome → Type 0) (st : State) (error : (e : ℕ) → P (replyOnly (errorReply st e))) where
   -- lists: one that can be read runs, one that cannot is reported
-  list-cases : (check : ListCheck) (list : List ℕ) → (listError check ≡ 0 → P (batchOutcome (reading list .items) st)) → P (brokenOutcome check st)
+  list-cases : (check : ListCheck) (list : List ℕ) → (listError check ≡ 0 → P (batchOutcome (reading list .entries) st)) → P (brokenOutcome check st)
       → P (listRequest check list st)
   unfolding listRequest
   list-cases check list runs broken = by-cond P (eqb (listError check) 0) _ _ (λ z. runs (eqb-true _ _ z)) (λ _. broken)
 
   -- batches: no list is an error
-  batch-cases : (d : List ℕ) → (listError (reading d .check) ≡ 0 → P (batchOutcome (reading d .items) st)) → P (brokenOutcome (reading d .check) st) → P (batchRequest d st)
+  batch-cases : (d : List ℕ) → (listError (reading d .check) ≡ 0 → P (batchOutcome (reading d .entries) st)) → P (brokenOutcome (reading d .check) st) → P (batchRequest d st)
   unfolding batchRequest
   batch-cases d runs broken = by-cond P (eqb (length d) 0) _ _ (λ _. error 5) (λ _. list-cases (reading d .check) d runs broken)
 
@@ -119,7 +120,7 @@ module _ (P : Outcome → Type 0) (st : State) (error : (e : ℕ) → P (replyOn
       select-cases d (st .node .settings .address) (λ (x : Selection). P (selectionOutcome x (drop nodeSetSize d) st)) (error 5) none (λ h _. list h)
 
   -- OS requests: a list that runs or is broken, no answer, the code check, an error
-  pub os-cases : (pcmd : ℕ) (d : List ℕ) → ((list : List ℕ) → P (batchOutcome (reading list .items) st))
+  pub os-cases : (pcmd : ℕ) (d : List ℕ) → ((list : List ℕ) → P (batchOutcome (reading list .entries) st))
       → ((n : ℕ) → n ≡ listStart pcmd → n ≤ length d → P (brokenOutcome (checkFrom n d) st)) → P (unansweredOutcome st) → P (codeCheckRequest d st)
       → P (osRequest pcmd d st)
   unfolding osRequest
@@ -134,7 +135,7 @@ module _ (P : Outcome → Type 0) (st : State) (error : (e : ℕ) → P (replyOn
       (λ _. error 2)))
 
   -- all requests: an OS request, a request to a peripheral, an error
-  pub execute-cases : (i : Item) → P (osRequest (i .pcmd) (i .pdata) st) → P (replyOnly (peripheralRequest (i .pnum) (i .pcmd) (i .pdata) st)) → P (execute i st)
+  pub execute-cases : (i : Request) → P (osRequest (i .pcmd) (i .pdata) st) → P (replyOnly (peripheralRequest (i .pnum) (i .pcmd) (i .pdata) st)) → P (execute i st)
   unfolding execute
   execute-cases i os peripheral =
       by-cond P (hwpidMatches (st .node .settings) (i .hwpid)) _ _

@@ -21,10 +21,13 @@ use Rattle.lights.specs.declared.lamp.Lamp.{Lamp}
 use Rattle.node.proofs.Nodes.{node-ram}
 use Rattle.batch.specs.declared.list.ListCheck.{ListCheck}
 use Rattle.batch.specs.declared.selective.Selection.{Selection}
-use Rattle.batch.specs.Batch.{Item, reading, listError, runItems}
-use Rattle.batch.proofs.Running.{items-keep, items-part}
+use Rattle.batch.specs.Batch.{Request, reading, listError, runEntries, batchPcmd}
+use Rattle.batch.proofs.Running.{entries-keep, entries-part}
 use Rattle.batch.proofs.Selections.{select-cases}
-use Rattle.outcome.specs.Request.{State, SoundState, withMemory, peripheralRequest, hwpidMatches, entryAfter, Outcome, replyOnly, batchOutcome, brokenOutcome, listRequest, batchRequest, selectionOutcome, selectiveRequest, codeCheckRequest, batchPcmd, codeCheckPcmd, selectivePcmd, osRequest, execute}
+use Rattle.node.specs.State.{State, SoundState, withMemory}
+use Rattle.batch.specs.Selective.{selectivePcmd}
+use Rattle.checksum.specs.Check.{codeCheckPcmd}
+use Rattle.outcome.specs.Request.{peripheralRequest, hwpidMatches, entryAfter, Outcome, replyOnly, batchOutcome, brokenOutcome, listRequest, batchRequest, selectionOutcome, selectiveRequest, codeCheckRequest, osRequest, execute}
 use Rattle.outcome.specs.Seen.{Memories, memoriesOf, Sized, peripheralMemories, peripheralLamps, entryMemories, entryLamps, listMemories, listLamps, succeeded, lampsAfterSuccess, StartKnown}
 use Rattle.lights.proofs.Requests.{success-changes}
 use Rattle.outcome.proofs.Peripherals.{peripheral-lights, peripheral-cases}
@@ -71,7 +74,7 @@ module _ (pnum pcmd : ℕ) (d : List ℕ) (st : State) where
 
 -- ---- entries of a batch
 
-module _ (i : Item) (st : State) where
+module _ (i : Request) (st : State) where
   entry-settings : entryAfter i st .node .settings ≡ st .node .settings
   entry-settings = entry-cases i st (λ (x : Reply State). x .after .node .settings ≡ st .node .settings) (peripheral-settings (i .pnum) (i .pcmd) (i .pdata) st) refl
 
@@ -98,7 +101,7 @@ pub sound-sized : (st : State) → SoundState st → Sized (memoriesOf st)
 sound-sized st h = record { ram-size = node-ram (st .node) (h .node-ok); eeprom-size = h .eeprom-size; external-size = h .external-size }
 
 -- an entry keeps the sizes of the memories
-pub entry-keeps-sizes : (s : Settings) (i : Item) (ms : Memories) → Sized ms → Sized (entryMemories s i ms)
+pub entry-keeps-sizes : (s : Settings) (i : Request) (ms : Memories) → Sized ms → Sized (entryMemories s i ms)
 unfolding entryMemories peripheralMemories
 entry-keeps-sizes s i ms h =
     let stays : (m : Memory) (b : List ℕ) → length b ≡ sizeOf m → length (memoryRequest m (i .pcmd) (i .pdata) b .after) ≡ sizeOf m =
@@ -117,7 +120,7 @@ entry-keeps-sizes s i ms h =
 abbrev With : Settings → State → Type 0
 With s st = st .node .settings ≡ s
 
-with-kept : (s : Settings) (i : Item) (st : State) → With s st → With s (entryAfter i st)
+with-kept : (s : Settings) (i : Request) (st : State) → With s st → With s (entryAfter i st)
 with-kept s i st k = entry-settings i st ∙ k
 
 module _ (list : List ℕ) (st : State) where
@@ -125,27 +128,27 @@ module _ (list : List ℕ) (st : State) where
   settings = st .node .settings
 
   -- a list changes the memories by themselves
-  pub items-memories : memoriesOf (runItems entryAfter (reading list .items) st) ≡ listMemories settings list (memoriesOf st)
-  items-memories =
-      items-part entryAfter (entryMemories settings) memoriesOf (With settings) (with-kept settings)
-      (λ i x k. entry-memories i x ∙ ap (λ (s : Settings). entryMemories s i (memoriesOf x)) k) (reading list .items) st refl
+  pub entries-memories : memoriesOf (runEntries entryAfter (reading list .entries) st) ≡ listMemories settings list (memoriesOf st)
+  entries-memories =
+      entries-part entryAfter (entryMemories settings) memoriesOf (With settings) (with-kept settings)
+      (λ i x k. entry-memories i x ∙ ap (λ (s : Settings). entryMemories s i (memoriesOf x)) k) (reading list .entries) st refl
 
   -- a list changes the lamps by themselves
-  pub items-lamps : runItems entryAfter (reading list .items) st .node .lamps ≡ listLamps settings list (st .node .lamps)
-  items-lamps =
-      items-part entryAfter (entryLamps settings) (λ (x : State). x .node .lamps) (With settings) (with-kept settings)
-      (λ i x k. entry-lamps i x ∙ ap (λ (s : Settings). entryLamps s i (x .node .lamps)) k) (reading list .items) st refl
+  pub entries-lamps : runEntries entryAfter (reading list .entries) st .node .lamps ≡ listLamps settings list (st .node .lamps)
+  entries-lamps =
+      entries-part entryAfter (entryLamps settings) (λ (x : State). x .node .lamps) (With settings) (with-kept settings)
+      (λ i x k. entry-lamps i x ∙ ap (λ (s : Settings). entryLamps s i (x .node .lamps)) k) (reading list .entries) st refl
 
 -- ---- requests
 
 -- no request changes the settings
-pub request-settings : (i : Item) (st : State) → execute i st .after .node .settings ≡ st .node .settings
+pub request-settings : (i : Request) (st : State) → execute i st .after .node .settings ≡ st .node .settings
 unfolding codeCheckRequest
 request-settings i st =
     let Kept : Outcome → Type 0 = λ (a : Outcome). With (st .node .settings) (a .after) in
     execute-cases Kept st (λ _. refl) i
     (os-cases Kept st (λ _. refl) (i .pcmd) (i .pdata)
-    (λ list. items-keep entryAfter (With (st .node .settings)) (with-kept (st .node .settings)) (reading list .items) st refl) (λ _ _ _. refl) refl refl)
+    (λ list. entries-keep entryAfter (With (st .node .settings)) (with-kept (st .node .settings)) (reading list .entries) st refl) (λ _ _ _. refl) refl refl)
     (peripheral-settings (i .pnum) (i .pcmd) (i .pdata) st)
 
 -- ls are the lamps after a request that succeeded; any other leaves them
@@ -160,7 +163,7 @@ lamps-left false e = refl
 module _ (st : State) (ls : List Lamp) where
   list-lamps : (check : ListCheck) (list : List ℕ) → ls ≡ listLamps (st .node .settings) list (st .node .lamps) → LampsAs st ls (listRequest check list st)
   unfolding listRequest
-  list-lamps check list e = by-cond (LampsAs st ls) (eqb (listError check) 0) (batchOutcome (reading list .items) st) (brokenOutcome check st) (λ _. items-lamps list st ∙ sym e) (λ z. rw z)
+  list-lamps check list e = by-cond (LampsAs st ls) (eqb (listError check) 0) (batchOutcome (reading list .entries) st) (brokenOutcome check st) (λ _. entries-lamps list st ∙ sym e) (λ z. rw z)
 
   batch-lamps : (d : List ℕ) → ls ≡ listLamps (st .node .settings) d (st .node .lamps) → LampsAs st ls (batchRequest d st)
   unfolding batchRequest
@@ -179,7 +182,7 @@ module _ (st : State) (ls : List Lamp) where
       (λ z. rw z (peripheral-lamps pnum pcmd d st ∙ sym e))
       (λ z. rw z (ap (λ (x : State). x .node .lamps) (peripheral-harmless pnum pcmd d st (eqb-false _ _ z) .0)))
 
-module _ (i : Item) (st : State) where
+module _ (i : Request) (st : State) where
   abbrev lampsWith : List Lamp
   lampsWith = lampsAfterSuccess (st .node .settings) i (st .node .lamps)
 

@@ -12,7 +12,8 @@ use Rattle.memory.specs.declared.block.Memory.{Memory}
 use Rattle.memory.specs.declared.block.Memory.the-variants.{Eeprom, Ram, External}
 use Rattle.memory.specs.Block.{memoryPnum}
 use Rattle.memory.specs.Request.{memoryRequest}
-use Rattle.outcome.specs.Request.{State, memoryOf, withMemory, memoryRequestOnState, lightsRequestOnState, peripheralRequest}
+use Rattle.node.specs.State.{State, memoryOf, withMemory}
+use Rattle.outcome.specs.Request.{memoryRequestOnState, lightsRequestOnState, peripheralRequest}
 use Rattle.outcome.specs.Seen.{memoriesOf}
 
 module _ (pnum pcmd : ℕ) (d : List ℕ) (st : State) where

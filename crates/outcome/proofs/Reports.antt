@@ -10,31 +10,33 @@ use Rattle.dpa.specs.Lists.{Bytes}
 use Rattle.dpa.specs.NodeSet.{nodeSetSize, selects}
 use Rattle.dpa.specs.Pnum.{osPnum}
 use Rattle.dpa.proofs.Bool.{by-cond}
-use Rattle.batch.specs.Batch.{Item, reading, listError, ListFault}
-use Rattle.batch.specs.Selective.{selectivePdataMin, checkFrom}
+use Rattle.batch.specs.Batch.{Request, reading, listError, ListFault, batchPcmd}
+use Rattle.batch.specs.Selective.{selectivePdataMin, checkFrom, selectivePcmd}
 use Rattle.batch.specs.declared.list.ListCheck.{ListCheck}
 use Rattle.batch.specs.declared.list.ListCheck.the-variants.{Sound}
 use Rattle.batch.specs.declared.selective.Selection.{Selection}
 use Rattle.batch.proofs.Faults.{sound-error}
 use Rattle.batch.proofs.Selections.{check-from-front, reported-from, sound-from, select-list, select-cases}
-use Rattle.outcome.specs.Request.{State, hwpidMatches, noReport, Outcome, brokenOutcome, listRequest, batchRequest, selectionOutcome, selectiveRequest, codeCheckRequest, batchPcmd, codeCheckPcmd, selectivePcmd, osRequest, execute, frameItem, CallResult, handleRequest}
+use Rattle.node.specs.State.{State}
+use Rattle.checksum.specs.Check.{codeCheckPcmd}
+use Rattle.outcome.specs.Request.{hwpidMatches, noReport, Outcome, brokenOutcome, listRequest, batchRequest, selectionOutcome, selectiveRequest, codeCheckRequest, osRequest, execute, frameRequest, CallResult, handleRequest}
 use Rattle.outcome.proofs.Outcomes.{listStart, list-broken, batch-list, selective-as, os-batch, os-selective, execute-os, os-cases, execute-cases}
 use Rattle.outcome.proofs.Calls.{call-cases}
 
 -- an OS request with a list for this node: a batch, or a selective batch that names the node
-pub data HasList (i : Item) (st : State) : Type 0 where
+pub data HasList (i : Request) (st : State) : Type 0 where
   batch : i .pcmd ≡ batchPcmd → ¬ (length (i .pdata) ≡ 0) → HasList i st
   selective : i .pcmd ≡ selectivePcmd → selectivePdataMin ≤ length (i .pdata)
       → selects (take nodeSetSize (i .pdata)) (st .node .settings .address) ≡ true → HasList i st
 
 -- such a request that passes the test of the HWPID, with a list that is not sound
-pub record BrokenBatch (i : Item) (st : State) : Type 0 where
+pub record BrokenBatch (i : Request) (st : State) : Type 0 where
   pub profile : hwpidMatches (st .node .settings) (i .hwpid) ≡ true
   pub pnum : i .pnum ≡ osPnum
   pub has-list : HasList i st
   pub broken : ¬ (reading (drop (listStart (i .pcmd)) (i .pdata)) .check ≡ Sound)
 
-module _ (i : Item) (st : State) where
+module _ (i : Request) (st : State) where
   -- the check of its list
   abbrev listCheck : ListCheck
   listCheck = checkFrom (listStart (i .pcmd)) (i .pdata)
@@ -92,7 +94,7 @@ module _ (i : Item) (st : State) where
       (λ _. (refl, refl))
 
 -- a reported reason is that of a fault of the list, at the reported place of PData
-pub reported-meaning : (i : Item) (st : State) → Bytes (i .pdata) → ¬ (execute i st .report .reason ≡ 0)
+pub reported-meaning : (i : Request) (st : State) → Bytes (i .pdata) → ¬ (execute i st .report .reason ≡ 0)
     → let n = listStart (i .pcmd) in
     (n ≤ execute i st .report .place) × ListFault (drop n (i .pdata)) (execute i st .report .reason) (execute i st .report .place - n)
 unfolding codeCheckRequest
@@ -107,6 +109,6 @@ reported-meaning i st by =
 
 -- a call reports what executing its request reports, for a broadcast too; a refused call and a frame for another node report nothing
 pub call-report : (f : List ℕ) (st : State) (o : List ℕ)
-    → handleRequest f st o .report ≡ cond (handleRequest f st o .addressed) (execute (frameItem f) st .report) noReport
+    → handleRequest f st o .report ≡ cond (handleRequest f st o .addressed) (execute (frameRequest f) st .report) noReport
 call-report f st o =
-    call-cases (λ (a : CallResult). a .report ≡ cond (a .addressed) (execute (frameItem f) st .report) noReport) f st o (λ _. refl) (λ _. refl) (λ _. refl)
+    call-cases (λ (a : CallResult). a .report ≡ cond (a .addressed) (execute (frameRequest f) st .report) noReport) f st o (λ _. refl) (λ _. refl) (λ _. refl)

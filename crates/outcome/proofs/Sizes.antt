@@ -11,11 +11,12 @@ use Rattle.dpa.specs.Frame.{headerSize, pdataMax, longestFrame}
 use Rattle.dpa.specs.Reply.{Reply}
 use Rattle.memory.proofs.Requests.{request-max}
 use Rattle.lights.proofs.Requests.{answer-max}
-use Rattle.batch.specs.Batch.{Item}
+use Rattle.batch.specs.Batch.{Request}
 use Rattle.batch.proofs.Selections.{place-max-from}
 use Rattle.checksum.proofs.Checks.{check-max}
 use Rattle.node.proofs.Nodes.{node-lamps}
-use Rattle.outcome.specs.Request.{State, SoundState, memoryOf, peripheralRequest, Outcome, codeCheckRequest, execute, headerItem}
+use Rattle.node.specs.State.{State, SoundState, memoryOf}
+use Rattle.outcome.specs.Request.{peripheralRequest, Outcome, codeCheckRequest, execute, headerRequest}
 use Rattle.outcome.proofs.Peripherals.{peripheral-cases}
 use Rattle.outcome.proofs.Outcomes.{os-cases, execute-cases}
 
@@ -34,7 +35,7 @@ peripheral-fits pnum pcmd d st h =
     (λ e. omega arith)
 
 -- the response data of every request fits a frame
-pub execute-fits : (i : Item) (st : State) → SoundState st → OutcomeFits (execute i st)
+pub execute-fits : (i : Request) (st : State) → SoundState st → OutcomeFits (execute i st)
 unfolding codeCheckRequest
 execute-fits i st h =
     execute-cases OutcomeFits st (λ e. omega arith) i
@@ -43,7 +44,7 @@ execute-fits i st h =
     (peripheral-fits (i .pnum) (i .pcmd) (i .pdata) st h)
 
 -- a request that is not answered has no data
-pub unanswered-empty : (i : Item) (st : State) → execute i st .answered ≡ false → execute i st .bytes ≡ []
+pub unanswered-empty : (i : Request) (st : State) → execute i st .answered ≡ false → execute i st .bytes ≡ []
 unfolding codeCheckRequest
 unanswered-empty i st =
     let Empty : Outcome → Type 0 = λ a. a .answered ≡ false → a .bytes ≡ [] in
@@ -55,7 +56,7 @@ unanswered-empty i st =
     not-answered e = let z : _≡_ {A = ℕ} 0 1 = cc in omega arith
 
 -- the reported place is at most the length of PData
-pub execute-place : (i : Item) (st : State) → execute i st .report .place ≤ length (i .pdata)
+pub execute-place : (i : Request) (st : State) → execute i st .report .place ≤ length (i .pdata)
 unfolding codeCheckRequest
 execute-place i st =
     let InPData : Outcome → Type 0 = λ a. a .report .place ≤ length (i .pdata) in
@@ -65,8 +66,8 @@ execute-place i st =
 
 -- the place that the request in a frame reports is at most the longest PData
 pub frame-place : (f : List ℕ) → length f ≤ longestFrame → (h : Frame) (st : State) {n : ℕ}
-    → n ≡ execute (headerItem h (take (length f - headerSize) (drop headerSize f))) st .report .place → n ≤ pdataMax
+    → n ≡ execute (headerRequest h (take (length f - headerSize) (drop headerSize f))) st .report .place → n ≤ pdataMax
 frame-place f l h st e =
     let d = take (length f - headerSize) (drop headerSize f) in
     let k : length d ≤ pdataMax = simp (length-take, length-drop) (omega arith) in
-    omega (arith, execute-place (headerItem h d) st)
+    omega (arith, execute-place (headerRequest h d) st)

@@ -9,12 +9,13 @@ use Rattle.memory.specs.declared.block.Memory.{Memory}
 use Rattle.memory.specs.Block.{sizeOf}
 use Rattle.memory.proofs.Requests.{request-length}
 use Rattle.lights.proofs.Requests.{lamps-stay, request-keeps}
-use Rattle.batch.specs.Batch.{Item, reading}
-use Rattle.batch.proofs.Running.{items-keep}
+use Rattle.batch.specs.Batch.{Request, reading}
+use Rattle.batch.proofs.Running.{entries-keep}
 use Rattle.lights.specs.Lights.{lightsRequest}
 use Rattle.node.specs.declared.record.Node.{Node}
 use Rattle.node.specs.Node.{nodeOk, withLamps}
-use Rattle.outcome.specs.Request.{State, SoundState, withNode, memoryOf, withMemory, peripheralRequest, entryAfter, Outcome, codeCheckRequest, execute, frameItem, CallResult, callRefusal, handleRequest}
+use Rattle.node.specs.State.{State, SoundState, withNode, memoryOf, withMemory}
+use Rattle.outcome.specs.Request.{peripheralRequest, entryAfter, Outcome, codeCheckRequest, execute, frameRequest, CallResult, callRefusal, handleRequest}
 use Rattle.outcome.proofs.Peripherals.{peripheral-cases}
 use Rattle.outcome.proofs.BatchEntries.{entry-cases}
 use Rattle.outcome.proofs.Outcomes.{os-cases, execute-cases}
@@ -59,27 +60,27 @@ peripheral-sound pnum pcmd d st h =
     (λ e. h)
 
 -- an entry of a batch keeps the state sound
-pub entry-sound : (i : Item) (st : State) → SoundState st → SoundState (entryAfter i st)
+pub entry-sound : (i : Request) (st : State) → SoundState st → SoundState (entryAfter i st)
 entry-sound i st h = entry-cases i st ReplySound (peripheral-sound (i .pnum) (i .pcmd) (i .pdata) st h) h
 
 -- executing a request keeps the state sound
-pub execute-sound : (i : Item) (st : State) → SoundState st → OutcomeSound (execute i st)
+pub execute-sound : (i : Request) (st : State) → SoundState st → OutcomeSound (execute i st)
 unfolding codeCheckRequest
 execute-sound i st h =
     execute-cases OutcomeSound st (λ e. h) i
     (os-cases OutcomeSound st (λ e. h) (i .pcmd) (i .pdata)
-    (λ list. items-keep entryAfter SoundState entry-sound (reading list .items) st h) (λ _ _ _. h) h h)
+    (λ list. entries-keep entryAfter SoundState entry-sound (reading list .entries) st h) (λ _ _ _. h) h h)
     (peripheral-sound (i .pnum) (i .pcmd) (i .pdata) st h)
 
 -- every call keeps the state sound
 pub request-sound : (f : List ℕ) (st : State) (o : List ℕ) → SoundState st → SoundState (handleRequest f st o .after)
 request-sound f st o h =
-    let k = execute-sound (frameItem f) st h in
+    let k = execute-sound (frameRequest f) st h in
     call-cases (λ (a : CallResult). SoundState (a .after)) f st o (λ _. h) (λ _. k) (λ _. k)
 
 -- every call keeps the node sound, also if a memory has another size
 pub request-node-sound : (f : List ℕ) (st : State) (o : List ℕ) → nodeOk (st .node) ≡ true → nodeOk (handleRequest f st o .after .node) ≡ true
 request-node-sound f st o e =
-    let sound : callRefusal f st o ≡ 0 → nodeOk (execute (frameItem f) st .after .node) ≡ true =
-    λ z. execute-sound (frameItem f) st (accepted-sound (st .node) (st .eeprom) (st .external) (length f) (length o) z) .node-ok in
+    let sound : callRefusal f st o ≡ 0 → nodeOk (execute (frameRequest f) st .after .node) ≡ true =
+    λ z. execute-sound (frameRequest f) st (accepted-sound (st .node) (st .eeprom) (st .external) (length f) (length o) z) .node-ok in
     call-cases (λ (a : CallResult). nodeOk (a .after .node) ≡ true) f st o (λ _. e) sound sound

@@ -18,54 +18,16 @@ use Rattle.memory.specs.declared.block.Memory.the-variants.{Eeprom, Ram, Extern
 use Rattle.memory.specs.Block.{memoryPnum, sizeOf}
 use Rattle.memory.specs.Request.{memoryRequest}
 use Rattle.lights.specs.Lights.{lightsRequest}
-use Rattle.checksum.specs.Check.{codeCheck}
+use Rattle.checksum.specs.Check.{codeCheckPcmd, codeCheck}
 use Rattle.batch.specs.declared.list.ListCheck.{ListCheck}
 use Rattle.batch.specs.declared.selective.Selection.{Selection}
 use Rattle.batch.specs.declared.selective.Selection.the-variants.{TooShort, NotSelected, Selected}
-use Rattle.batch.specs.Batch.{Item, item, reading, listError, reasonOf, placeOf, runItems, errorsOf}
-use Rattle.batch.specs.Selective.{selectionOf}
+use Rattle.batch.specs.Batch.{batchPcmd, Request, requestOf, reading, listError, reasonOf, placeOf, runEntries, errorsOf}
+use Rattle.batch.specs.Selective.{selectivePcmd, selectionOf}
 use Rattle.node.specs.declared.record.Node.{Node}
-use Rattle.node.specs.Node.{nodeOk, withLamps, withRam}
+use Rattle.node.specs.Node.{nodeOk, withLamps}
+use Rattle.node.specs.State.{State, withNode, memoryOf, withMemory}
 use Rattle.outcome.specs.declared.reply.Report.{Report}
-
--- ---- the state that requests work on
-
--- a node with its EEPROM and its external memory
-pub record State : Type 0 where
-  pub node : Node
-  pub eeprom : List ℕ
-  pub external : List ℕ
-
-abbrev pub state : Node → List ℕ → List ℕ → State
-state n e x = record { node = n; eeprom = e; external = x }
-
--- the node is sound and both memories have their sizes
-pub record SoundState (st : State) : Type 0 where
-  pub node-ok : nodeOk (st .node) ≡ true
-  pub eeprom-size : length (st .eeprom) ≡ sizeOf Eeprom
-  pub external-size : length (st .external) ≡ sizeOf External
-
--- the state with one part replaced
-abbrev pub withNode : State → Node → State
-withNode st n = state n (st .eeprom) (st .external)
-
-abbrev pub withEeprom : State → List ℕ → State
-withEeprom st e = state (st .node) e (st .external)
-
-abbrev pub withExternal : State → List ℕ → State
-withExternal st x = state (st .node) (st .eeprom) x
-
--- the bytes of a memory; the RAM is part of the node
-abbrev pub memoryOf : Memory → State → List ℕ
-memoryOf Memory.Eeprom st = st .eeprom
-memoryOf Memory.Ram st = st .node .ram
-memoryOf Memory.External st = st .external
-
--- the state with the bytes of a memory replaced
-abbrev pub withMemory : Memory → State → List ℕ → State
-withMemory Memory.Eeprom st bytes = withEeprom st bytes
-withMemory Memory.Ram st bytes = withNode st (withRam (st .node) bytes)
-withMemory Memory.External st bytes = withExternal st bytes
 
 -- ---- peripherals
 
@@ -94,15 +56,15 @@ unfoldable pub hwpidMatches : Settings → ℕ → Bool
 hwpidMatches settings hwpid = eqb hwpid (settings .hwpid) || eqb hwpid anyHwpid
 
 -- an entry: another HWPID is ErrN 7; OS requests are not allowed, so PNUM 02 is ErrN 3
-unfoldable pub executeEntry : Item → State → Reply State
+unfoldable pub executeEntry : Request → State → Reply State
 executeEntry i st =
     cond (hwpidMatches (st .node .settings) (i .hwpid)) (peripheralRequest (i .pnum) (i .pcmd) (i .pdata) st) (errorReply st 7)
 
 -- the state after an entry, and its ErrN
-abbrev pub entryAfter : Item → State → State
+abbrev pub entryAfter : Request → State → State
 entryAfter i st = executeEntry i st .after
 
-abbrev pub entryError : Item → State → ℕ
+abbrev pub entryError : Request → State → ℕ
 entryError i st = executeEntry i st .error
 
 -- ---- requests
@@ -137,8 +99,8 @@ abbrev pub replyOnly : Reply State → Outcome
 replyOnly a = outcome a [] noReport
 
 -- the outcome of a batch that runs: its entries in order; the batch itself has ErrN 0 and no data
-abbrev pub batchOutcome : List Item → State → Outcome
-batchOutcome is st = outcome (reply (runItems entryAfter is st) 0 []) (errorsOf entryError entryAfter is st) noReport
+abbrev pub batchOutcome : List Request → State → Outcome
+batchOutcome is st = outcome (reply (runEntries entryAfter is st) 0 []) (errorsOf entryError entryAfter is st) noReport
 
 -- the outcome of a batch whose list cannot be read: ErrN 6; nothing runs, and the fault is reported
 abbrev pub brokenOutcome : ListCheck → State → Outcome
@@ -146,7 +108,7 @@ brokenOutcome check st = outcome (errorReply st (listError check)) [] (faultRepo
 
 -- the list of a batch or of a selective batch, with its check: a list that can be read runs, the fault of any other is reported
 unfoldable pub listRequest : ListCheck → List ℕ → State → Outcome
-listRequest check list st = cond (eqb (listError check) 0) (batchOutcome (reading list .items) st) (brokenOutcome check st)
+listRequest check list st = cond (eqb (listError check) 0) (batchOutcome (reading list .entries) st) (brokenOutcome check st)
 
 -- a batch: without PData ErrN 5, else its list
 unfoldable pub batchRequest : List ℕ → State → Outcome
@@ -171,16 +133,6 @@ unfoldable pub codeCheckRequest : List ℕ → State → Outcome
 codeCheckRequest pdata st =
     outcome (mapState (λ _. st) (codeCheck (st .external) pdata)) [] (loadReport (codeCheck (st .external) pdata .after))
 
--- the PCMDs of OS 02
-abbrev pub batchPcmd : ℕ
-batchPcmd = 0x05
-
-abbrev pub codeCheckPcmd : ℕ
-codeCheckPcmd = 0x0A
-
-abbrev pub selectivePcmd : ℕ
-selectivePcmd = 0x0B
-
 -- an OS request; any other PCMD is ErrN 2
 unfoldable pub osRequest : ℕ → List ℕ → State → Outcome
 osRequest pcmd pdata st =
@@ -190,7 +142,7 @@ osRequest pcmd pdata st =
     (replyOnly (errorReply st 2))))
 
 -- executes a request: another HWPID is ErrN 7; PNUM 02 is the OS, any other PNUM is for the peripherals
-unfoldable pub execute : Item → State → Outcome
+unfoldable pub execute : Request → State → Outcome
 execute i st =
     cond (hwpidMatches (st .node .settings) (i .hwpid))
     (cond (eqb (i .pnum) osPnum) (osRequest (i .pcmd) (i .pdata) st) (replyOnly (peripheralRequest (i .pnum) (i .pcmd) (i .pdata) st)))
@@ -199,12 +151,12 @@ execute i st =
 -- ---- the call
 
 -- the request of a header and PData
-abbrev pub headerItem : Frame → List ℕ → Item
-headerItem header pdata = item (header .pnum) (header .pcmd) (header .hwpid) pdata
+abbrev pub headerRequest : Frame → List ℕ → Request
+headerRequest header pdata = requestOf (header .pnum) (header .pcmd) (header .hwpid) pdata
 
 -- the request in a frame
-abbrev pub frameItem : List ℕ → Item
-frameItem frame = headerItem (headerOf frame) (pdataOf frame)
+abbrev pub frameRequest : List ℕ → Request
+frameRequest frame = headerRequest (headerOf frame) (pdataOf frame)
 
 -- The result of a call: the state after it, the refusal (0 for none), the length of the response (0 for none), the report,
 -- whether the frame was addressed to this node or to all, and the response buffer.
@@ -227,7 +179,7 @@ unansweredResult done buffer =
     record { after = done .after; refusal = 0; length = 0; report = done .report; addressed = true; response = buffer }
 
 -- a response: header and data at the front of the buffer, whose later bytes stay
-abbrev pub responseResult : Settings → Item → Outcome → List ℕ → CallResult
+abbrev pub responseResult : Settings → Request → Outcome → List ℕ → CallResult
 responseResult settings i done buffer =
     record {
       after = done .after;
@@ -239,15 +191,15 @@ responseResult settings i done buffer =
     }
 
 -- a request to this node gets a response if it is answered; if not, it ends like a broadcast
-abbrev pub unicastResult : Settings → Item → Outcome → List ℕ → CallResult
+abbrev pub unicastResult : Settings → Request → Outcome → List ℕ → CallResult
 unicastResult settings i done buffer = cond (done .answered) (responseResult settings i done buffer) (unansweredResult done buffer)
 
 -- a frame that was not refused, by its NADR
 unfoldable pub handleFrame : List ℕ → State → List ℕ → CallResult
 handleFrame frame st buffer =
-    cond (eqb (headerOf frame .nadr) broadcastNadr) (unansweredResult (execute (frameItem frame) st) buffer)
+    cond (eqb (headerOf frame .nadr) broadcastNadr) (unansweredResult (execute (frameRequest frame) st) buffer)
     (cond (eqb (headerOf frame .nadr) (st .node .settings .address))
-    (unicastResult (st .node .settings) (frameItem frame) (execute (frameItem frame) st) buffer)
+    (unicastResult (st .node .settings) (frameRequest frame) (execute (frameRequest frame) st) buffer)
     (unhandledResult st 0 buffer))
 
 -- The refusal, from the node and the lengths of the frame, the memories and the response buffer, in this order:

@@ -18,7 +18,7 @@ use Rattle.memory.specs.Request.{memoryRequest}
 use Rattle.lights.specs.declared.lamp.Lamp.{Lamp}
 use Rattle.lights.specs.declared.apply.Command.the-variants.{Lower}
 use Rattle.lights.specs.Lights.{commandPcmd, lightsRequest, changesLamps}
-use Rattle.batch.specs.Batch.{Item, reading, runItems}
+use Rattle.batch.specs.Batch.{Request, reading, runEntries, batchPcmd}
 use Rattle.node.specs.declared.record.Node.{Node}
 use Rattle.node.specs.declared.record.ReadOnly.{ReadOnly}
 use Rattle.node.specs.Node.{nodeFromParts}
@@ -26,7 +26,9 @@ use Rattle.outcome.specs.declared.reply.Report.{Report}
 use Rattle.outcome.specs.declared.reply.RequestReply.{RequestReply}
 use Rattle.outcome.specs.declared.answer.Handled.{Handled}
 use Rattle.outcome.specs.declared.answer.RequestAnswer.{RequestAnswer}
-use Rattle.outcome.specs.Request.{State, state, hwpidMatches, batchPcmd, selectivePcmd, Outcome, CallResult, unansweredResult, unicastResult}
+use Rattle.node.specs.State.{State, state}
+use Rattle.batch.specs.Selective.{selectivePcmd}
+use Rattle.outcome.specs.Request.{hwpidMatches, Outcome, CallResult, unansweredResult, unicastResult}
 
 -- ---- inside the handler: the node is split into parts; the lamps change last, apart from the memories
 
@@ -64,25 +66,25 @@ unfoldable pub peripheralLamps : Settings → ℕ → ℕ → List ℕ → List 
 peripheralLamps s pnum pcmd pdata ls = cond (eqb pnum lightsPnum) (lightsRequest s pcmd pdata ls .after) ls
 
 -- after an entry of a batch (`entry-memories`, `entry-lamps`)
-unfoldable pub entryMemories : Settings → Item → Memories → Memories
+unfoldable pub entryMemories : Settings → Request → Memories → Memories
 entryMemories s i ms = cond (hwpidMatches s (i .hwpid)) (peripheralMemories (i .pnum) (i .pcmd) (i .pdata) ms) ms
 
-unfoldable pub entryLamps : Settings → Item → List Lamp → List Lamp
+unfoldable pub entryLamps : Settings → Request → List Lamp → List Lamp
 entryLamps s i ls = cond (hwpidMatches s (i .hwpid)) (peripheralLamps s (i .pnum) (i .pcmd) (i .pdata) ls) ls
 
--- after the entries of a list (`items-memories`, `items-lamps`)
+-- after the entries of a list (`entries-memories`, `entries-lamps`)
 abbrev pub listMemories : Settings → List ℕ → Memories → Memories
-listMemories s list ms = runItems (entryMemories s) (reading list .items) ms
+listMemories s list ms = runEntries (entryMemories s) (reading list .entries) ms
 
 abbrev pub listLamps : Settings → List ℕ → List Lamp → List Lamp
-listLamps s list ls = runItems (entryLamps s) (reading list .items) ls
+listLamps s list ls = runEntries (entryLamps s) (reading list .entries) ls
 
 -- a request that is answered and has no error
 abbrev pub succeeded : Outcome → Bool
 succeeded done = done .answered && eqb (done .error) 0
 
 -- the lamps after a request that succeeded; any other leaves them (`request-lamps`)
-unfoldable pub lampsAfterSuccess : Settings → Item → List Lamp → List Lamp
+unfoldable pub lampsAfterSuccess : Settings → Request → List Lamp → List Lamp
 lampsAfterSuccess s i ls =
     cond (eqb (i .pnum) osPnum)
     (cond (eqb (i .pcmd) batchPcmd) (listLamps s (i .pdata) ls)
@@ -91,7 +93,7 @@ lampsAfterSuccess s i ls =
     (peripheralLamps s (i .pnum) (i .pcmd) (i .pdata) ls)
 
 -- what is known of a request that succeeded: set, raise and lower change lamps, and a selective batch has a node set
-pub record StartKnown (i : Item) : Type 0 where
+pub record StartKnown (i : Request) : Type 0 where
   pub changes : i .pnum ≡ lightsPnum → i .pcmd ≤ commandPcmd Lower → changesLamps (i .pcmd) (i .pdata) ≡ true
   pub node-set : i .pnum ≡ osPnum → i .pcmd ≡ selectivePcmd → nodeSetSize ≤ length (i .pdata)
 
@@ -179,15 +181,15 @@ abbrev pub handledBroadcast : Outcome → List ℕ → SeenHandled
 handledBroadcast done buffer = handledOf done (unansweredResult done buffer)
 
 -- to this node
-abbrev pub handledUnicast : Settings → Item → Outcome → List ℕ → SeenHandled
+abbrev pub handledUnicast : Settings → Request → Outcome → List ℕ → SeenHandled
 handledUnicast settings i done buffer = handledOf done (unicastResult settings i done buffer)
 
 -- to all nodes or to this one, by the NADR
-abbrev pub addressedResult : Settings → Frame → Item → Outcome → List ℕ → CallResult
+abbrev pub addressedResult : Settings → Frame → Request → Outcome → List ℕ → CallResult
 addressedResult settings header i done buffer =
     cond (eqb (header .nadr) broadcastNadr) (unansweredResult done buffer) (unicastResult settings i done buffer)
 
-abbrev pub handledAddressed : Settings → Frame → Item → Outcome → List ℕ → SeenHandled
+abbrev pub handledAddressed : Settings → Frame → Request → Outcome → List ℕ → SeenHandled
 handledAddressed settings header i done buffer = handledOf done (addressedResult settings header i done buffer)
 
 -- ---- at the public call

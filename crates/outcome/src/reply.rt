@@ -38,6 +38,18 @@ pub fn list_report(check: ListCheck) -> Report
     }
 }
 
+// What a request that was answered still has to change.
+pub enum Effect {
+    // Nothing: an error, no answer, or a request that changes nothing.
+    Nothing,
+    // What a request to a peripheral does.
+    Alone,
+    // What the entries of a batch do.
+    Batch,
+    // What the entries of a selective batch do.
+    Selective,
+}
+
 // Whether the request is answered, ErrN, the report, and the length of the response data.
 pub struct RequestReply {
     pub answered: bool,

@@ -7,9 +7,9 @@ use lib.ListN.{length, drop}
 use Rattle.dpa.specs.Lists.{slice}
 use Rattle.dpa.specs.declared.settings.Settings.{Settings}
 use Rattle.batch.specs.declared.entry.NextEntry.the-variants.{Entry, Fault}
-use Rattle.batch.specs.Batch.{entryHeadSize, nextEntry, item}
+use Rattle.batch.specs.Batch.{entryHeadSize, nextEntry, requestOf}
 use Rattle.batch.proofs.Entries.{entry-sized-at}
-use Rattle.batch.proofs.Running.{items-fault-at, items-entry-at}
+use Rattle.batch.proofs.Running.{entries-fault-at, entries-step-at}
 use Rattle.outcome.specs.Seen.{Memories, Sized, entryMemories, listMemories}
 use Rattle.outcome.proofs.Parts.{entry-keeps-sizes}
 
@@ -33,15 +33,15 @@ module _ (s : Settings) (list : List ℕ) (old : Memories) (at : ℕ) (ms : Memo
 
   -- after one more entry
   pub entry-runs : {l p c w : ℕ} {next : Memories} → nextEntry remaining ≡ Entry l p c w
-      → next ≡ entryMemories s (item p c w (slice list (at + entryHeadSize) ((at + l) - (at + entryHeadSize)))) ms
+      → next ≡ entryMemories s (requestOf p c w (slice list (at + entryHeadSize) ((at + l) - (at + entryHeadSize)))) ms
       → PartlyRun s list old (at + l) next
   entry-runs {l} {p} {c} {w} {next} e q =
       record {
         position-max = entry-in-list e .1;
-        sized = subst Sized (sym q) (entry-keeps-sizes s (item p c w (slice list (at + entryHeadSize) ((at + l) - (at + entryHeadSize)))) ms (h .sized));
-        rest = ap (listMemories s (drop (at + l) list)) q ∙ items-entry-at (entryMemories s) list at ms e ∙ h .rest;
+        sized = subst Sized (sym q) (entry-keeps-sizes s (requestOf p c w (slice list (at + entryHeadSize) ((at + l) - (at + entryHeadSize)))) ms (h .sized));
+        rest = ap (listMemories s (drop (at + l) list)) q ∙ entries-step-at (entryMemories s) list at ms e ∙ h .rest;
       }
 
   -- without a next entry all have run
   pub run-ends : {k a : ℕ} → nextEntry remaining ≡ Fault k a → ms ≡ listMemories s list old
-  run-ends e = items-fault-at (entryMemories s) list at ms e ∙ h .rest
+  run-ends e = entries-fault-at (entryMemories s) list at ms e ∙ h .rest

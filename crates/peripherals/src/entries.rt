@@ -7,7 +7,7 @@ use dpa::settings::Settings;
 use memory::block::Memory;
 use outcome::hwpid::hwpid_matches;
 ghost use mathlib.Core.Path.{_≡_};
-ghost use Rattle.batch.specs.Batch.{item};
+ghost use Rattle.batch.specs.Batch.{requestOf};
 ghost use Rattle.outcome.specs.Seen.{memories, Sized, peripheralMemories, entryMemories, listMemories};
 
 // Executes a request to the memory of this PNUM, without an answer. Any other PNUM leaves the memories.
@@ -50,7 +50,7 @@ fn run_entry(
 )
     requires { ⌜ Sized (memories (now ram) (now eeprom) (now external)) ⌝ }
     ensures { λ r. ⌜ memories (now (ram .exit)) (now (eeprom .exit)) (now (external .exit))
-        ≡ entryMemories settings (item pnum pcmd hwpid (now (pdata .entry))) (memories (now (ram .entry)) (now (eeprom .entry)) (now (external .entry))) ⌝ }
+        ≡ entryMemories settings (requestOf pnum pcmd hwpid (now (pdata .entry))) (memories (now (ram .entry)) (now (eeprom .entry)) (now (external .entry))) ⌝ }
 {
     if !hwpid_matches(settings, hwpid) {
         return;

@@ -1,17 +1,17 @@
 // OS 02: batch, code check and selective batch.
 use crate::entries::run_memories;
+use batch::list::BATCH;
 use batch::list::ListCheck;
 use batch::list::check_list;
 use batch::list::list_error;
+use batch::selective::SELECTIVE_BATCH;
 use batch::selective::Selection;
 use batch::selective::select;
+use checksum::check::CODE_CHECK;
 use checksum::check::code_check;
 use dpa::error;
 use dpa::node_set::NODE_SET_SIZE;
 use node::record::ReadOnly;
-use outcome::os::BATCH;
-use outcome::os::CODE_CHECK;
-use outcome::os::SELECTIVE_BATCH;
 use outcome::reply::Report;
 use outcome::reply::RequestReply;
 use outcome::reply::list_report;

@@ -11,7 +11,8 @@ ghost use Prim.Native.Nat.{_≤_};
 ghost use lib.ListN.{length};
 ghost use Rattle.dpa.specs.Frame.{pdataMax};
 ghost use Rattle.dpa.specs.Reply.{replySeen, replyInBuffer, mapState};
-ghost use Rattle.outcome.specs.Request.{SoundState, peripheralRequest};
+ghost use Rattle.node.specs.State.{SoundState};
+ghost use Rattle.outcome.specs.Request.{peripheralRequest};
 ghost use Rattle.outcome.specs.Seen.{stateFromParts, memories, memoriesOf};
 
 // Executes a request to the peripheral of this PNUM, except that the lamps stay, and writes the response data to the front of `out`.

@@ -11,7 +11,7 @@ use Rattle.dpa.specs.declared.frame.Frame.{Frame}
 use Rattle.book.specs.declared.step.Step.{Step}
 use Rattle.book.specs.Book.{stepsMax, stepsIn}
 use Rattle.book.specs.Group.{concat}
-use Rattle.book.specs.Entry.{joinedItem}
+use Rattle.book.specs.Entry.{joinedEntry}
 use Rattle.book.specs.Join.{entriesOf}
 use Rattle.book.specs.EntrySize.{FirstEntry}
 use Rattle.book.specs.Writing.{AllStepsGood}
@@ -116,7 +116,7 @@ module _ {entryMax listMax : ℕ} {front : List ℕ} (l : Limits entryMax listMa
     separator = separatorBytes listMax prefix size sz
 
     abbrev entry : List ℕ
-    entry = entryBytes (joinedItem h (take k (drop step ss)))
+    entry = entryBytes (joinedEntry h (take k (drop step ss)))
 
     abbrev laterBytes : List ℕ
     laterBytes = remainingBytes listMax prefix h (nextSize listMax size sz) (entriesOf entryMax (drop (step + k) ss))
@@ -133,7 +133,7 @@ module _ {entryMax listMax : ℕ} {front : List ℕ} (l : Limits entryMax listMa
           omega (
             arith,
             remaining-room old at _ out′ w′ _ x entry laterBytes refl c,
-            entry-length (joinedItem h (take k (drop step ss))),
+            entry-length (joinedEntry h (take k (drop step ss))),
             f .size-is,
           )
 
@@ -141,7 +141,7 @@ module _ {entryMax listMax : ℕ} {front : List ℕ} (l : Limits entryMax listMa
       pub bytes-more : (out″ : List ℕ) (w″ size′ : ℕ) → out″ ≡ sets out′ w′ entry → w″ ≡ w′ + entryHeadSize + sz → size′ ≡ nextSize listMax size sz
           → Progress entryMax listMax (remainingBytes listMax prefix h) ss old at (step + k) size′ out″ w″
       bytes-more out″ w″ size′ fo fw =
-          let n : w″ ≡ w′ + length entry = omega (arith, entry-length (joinedItem h (take k (drop step ss))), f .size-is) in
+          let n : w″ ≡ w′ + length entry = omega (arith, entry-length (joinedEntry h (take k (drop step ss))), f .size-is) in
           let both = two-writes out out′ out″ separator entry (separator ++ entry) w w′ w″ eo ew fo n refl in
           progress-more l (remainingBytes listMax prefix h) ss old at step size out w o k sz f (separator ++ entry) out″ w″ size′
           (bytes-next entryMax listMax ss step k sz f prefix h size ∙ sym (append-assoc separator entry laterBytes)) (both .1) (both .0)

@@ -13,13 +13,13 @@ use Rattle.batch.specs.Batch.{closingZero, entryBytes, entriesBytes}
 use Rattle.dpa.specs.Lists.{All}
 use Rattle.book.specs.declared.step.Step.{Step}
 use Rattle.book.specs.Group.{concat, grow, group}
-use Rattle.book.specs.Entry.{groupData, joinedItem}
+use Rattle.book.specs.Entry.{groupData, joinedEntry}
 use Rattle.book.specs.Join.{entriesOf}
 use Rattle.book.specs.EntrySize.{FirstEntry}
 use Rattle.book.proofs.Faults.{Good}
 use Rattle.book.proofs.Groups.{grow-fits, grow-not-fits}
 use Rattle.book.proofs.EntryGroups.{EntryGroup, entry-groups, joining-keeps}
-use Rattle.scene.specs.Compile.{Limits, joinedItems, listOf, entrySize, emptyListSize, fitsBatch, batchesOf}
+use Rattle.scene.specs.Compile.{Limits, joinedEntries, listOf, entrySize, emptyListSize, fitsBatch, batchesOf}
 use Rattle.scene.specs.Call.{lengths}
 use Rattle.scene.specs.Fill.{fitsList, nextSize, separatorBytes, lengthByteIfFull}
 use Rattle.scene.proofs.Sizes.{entries-snoc, list-snoc, list-one}
@@ -29,7 +29,7 @@ abbrev pub remainingBytes : ℕ → List ℕ → ℕ → ℕ → List (List Step
 remainingBytes listMax prefix h size [] = closingZero ∷ []
 remainingBytes listMax prefix h size (r ∷ rs) =
     let pdata = length (groupData r) in
-    separatorBytes listMax prefix size pdata ++ (entryBytes (joinedItem h r) ++ remainingBytes listMax prefix h (nextSize listMax size pdata) rs)
+    separatorBytes listMax prefix size pdata ++ (entryBytes (joinedEntry h r) ++ remainingBytes listMax prefix h (nextSize listMax size pdata) rs)
 
 -- the length bytes of its request and of the requests after it
 abbrev pub remainingLengths : ℕ → ℕ → ℕ → List (List Step) → List ℕ
@@ -51,7 +51,7 @@ module _ (listMax : ℕ) (prefix : List ℕ) (h : ℕ) where
 
   -- the requests from an open list on: its prefix, its entries, and what remains
   pub grow-bytes : (cur rs : List (List Step)) → concat (map (withPrefix prefix h) (grow (fitsBatch listMax h) cur rs))
-      ≡ prefix ++ (entriesBytes (joinedItems h cur) ++ remainingBytes listMax prefix h (length (listOf h cur)) rs)
+      ≡ prefix ++ (entriesBytes (joinedEntries h cur) ++ remainingBytes listMax prefix h (length (listOf h cur)) rs)
   unfolding nextSize separatorBytes entriesBytes
   grow-bytes cur [] = append-nil (withPrefix prefix h cur)
   grow-bytes cur (r ∷ rs) =
@@ -60,14 +60,14 @@ module _ (listMax : ℕ) (prefix : List ℕ) (h : ℕ) where
       rw (grow-fits (fitsBatch listMax h) cur r rs e, sym (fits-as cur r) ∙ e, ← (list-snoc h cur r))
       (grow-bytes (cur ++ (r ∷ [])) rs
       ∙ ap (λ (t : List ℕ). prefix ++ t)
-      (ap (λ (t : List ℕ). t ++ b) (entries-snoc h cur r) ∙ append-assoc (entriesBytes (joinedItems h cur)) (entryBytes (joinedItem h r)) b)))
+      (ap (λ (t : List ℕ). t ++ b) (entries-snoc h cur r) ∙ append-assoc (entriesBytes (joinedEntries h cur)) (entryBytes (joinedEntry h r)) b)))
       (λ e. let b = remainingBytes listMax prefix h (length (listOf h (r ∷ []))) rs in
-      let x = prefix ++ (entryBytes (joinedItem h r) ++ b) in
+      let x = prefix ++ (entryBytes (joinedEntry h r) ++ b) in
       rw (grow-not-fits (fitsBatch listMax h) cur r rs e, sym (fits-as cur r) ∙ e, ← (list-one h r))
       (ap (λ (t : List ℕ). withPrefix prefix h cur ++ t)
-      (grow-bytes (r ∷ []) rs ∙ ap (λ (t : List ℕ). prefix ++ (t ++ b)) (append-nil (entryBytes (joinedItem h r))))
+      (grow-bytes (r ∷ []) rs ∙ ap (λ (t : List ℕ). prefix ++ (t ++ b)) (append-nil (entryBytes (joinedEntry h r))))
       ∙ append-assoc prefix (listOf h cur) x
-      ∙ ap (λ (t : List ℕ). prefix ++ t) (append-assoc (entriesBytes (joinedItems h cur)) (closingZero ∷ []) x)))
+      ∙ ap (λ (t : List ℕ). prefix ++ t) (append-assoc (entriesBytes (joinedEntries h cur)) (closingZero ∷ []) x)))
 
   -- and their lengths
   pub grow-lengths : (cur rs : List (List Step)) → lengths (map (withPrefix prefix h) (grow (fitsBatch listMax h) cur rs))
@@ -135,7 +135,7 @@ module _ (entryMax listMax : ℕ) (ss : List Step) (step k sz : ℕ) (f : FirstE
   -- the bytes that remain: what separates it from the entry before, its own, the later ones
   pub bytes-next : (prefix : List ℕ) (h size : ℕ) → remainingBytes listMax prefix h size (entriesOf entryMax (drop step ss))
       ≡ separatorBytes listMax prefix size sz
-      ++ (entryBytes (joinedItem h (take k (drop step ss))) ++ remainingBytes listMax prefix h (nextSize listMax size sz) (entriesOf entryMax (drop (step + k) ss)))
+      ++ (entryBytes (joinedEntry h (take k (drop step ss))) ++ remainingBytes listMax prefix h (nextSize listMax size sz) (entriesOf entryMax (drop (step + k) ss)))
   bytes-next prefix h size = rw (entries-next, f .size-is)
 
   -- the length bytes that remain

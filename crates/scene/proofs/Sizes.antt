@@ -10,19 +10,19 @@ use Rattle.batch.specs.Batch.{closingZero, entryBytes, entriesBytes}
 use Rattle.dpa.specs.Lists.{All}
 use Rattle.batch.proofs.RoundTrip.{entry-length}
 use Rattle.book.specs.declared.step.Step.{Step}
-use Rattle.book.specs.Entry.{groupData, joinedItem}
+use Rattle.book.specs.Entry.{groupData, joinedEntry}
 use Rattle.book.proofs.Faults.{Good}
-use Rattle.scene.specs.Compile.{Limits, joinedItems, listOf, entrySize, emptyListSize, batchesOf, requestWith}
+use Rattle.scene.specs.Compile.{Limits, joinedEntries, listOf, entrySize, emptyListSize, batchesOf, requestWith}
 use Rattle.scene.proofs.Batches.{BatchRule, batches-rule}
 
 -- one more entry at the end of a list adds its bytes
 pub entries-snoc : (h : ℕ) (rs : List (List Step)) (r : List Step)
-    → entriesBytes (joinedItems h (rs ++ (r ∷ []))) ≡ entriesBytes (joinedItems h rs) ++ entryBytes (joinedItem h r)
+    → entriesBytes (joinedEntries h (rs ++ (r ∷ []))) ≡ entriesBytes (joinedEntries h rs) ++ entryBytes (joinedEntry h r)
 unfolding entriesBytes
-entries-snoc h [] r = append-nil (entryBytes (joinedItem h r))
+entries-snoc h [] r = append-nil (entryBytes (joinedEntry h r))
 entries-snoc h (x ∷ rs) r =
-    ap (λ (t : List ℕ). entryBytes (joinedItem h x) ++ t) (entries-snoc h rs r)
-    ∙ sym (append-assoc (entryBytes (joinedItem h x)) (entriesBytes (joinedItems h rs)) (entryBytes (joinedItem h r)))
+    ap (λ (t : List ℕ). entryBytes (joinedEntry h x) ++ t) (entries-snoc h rs r)
+    ∙ sym (append-assoc (entryBytes (joinedEntry h x)) (entriesBytes (joinedEntries h rs)) (entryBytes (joinedEntry h r)))
 
 -- and its size
 pub list-snoc : (h : ℕ) (rs : List (List Step)) (r : List Step)
@@ -30,11 +30,11 @@ pub list-snoc : (h : ℕ) (rs : List (List Step)) (r : List Step)
 list-snoc h rs r =
     omega (
       arith,
-      length-append (entriesBytes (joinedItems h (rs ++ (r ∷ [])))) (closingZero ∷ []),
-      length-append (entriesBytes (joinedItems h rs)) (closingZero ∷ []),
+      length-append (entriesBytes (joinedEntries h (rs ++ (r ∷ [])))) (closingZero ∷ []),
+      length-append (entriesBytes (joinedEntries h rs)) (closingZero ∷ []),
       ap length (entries-snoc h rs r),
-      length-append (entriesBytes (joinedItems h rs)) (entryBytes (joinedItem h r)),
-      entry-length (joinedItem h r),
+      length-append (entriesBytes (joinedEntries h rs)) (entryBytes (joinedEntry h r)),
+      entry-length (joinedEntry h r),
     )
 
 -- size of a list of one entry

@@ -7,10 +7,10 @@ use lib.ListN.{length}
 use Rattle.dpa.specs.declared.frame.Frame.{Frame}
 use Rattle.dpa.specs.Frame.{pdataMax, broadcastNadr, frame, headerBytes}
 use Rattle.dpa.specs.Pnum.{osPnum}
-use Rattle.batch.specs.Batch.{Item, entryHeadSize, listBytes}
-use Rattle.outcome.specs.Request.{batchPcmd, selectivePcmd}
+use Rattle.batch.specs.Batch.{Request, entryHeadSize, listBytes, batchPcmd}
+use Rattle.batch.specs.Selective.{selectivePcmd}
 use Rattle.book.specs.declared.step.Step.{Step}
-use Rattle.book.specs.Entry.{joinedItem}
+use Rattle.book.specs.Entry.{joinedEntry}
 use Rattle.book.specs.Group.{group}
 use Rattle.book.specs.Join.{entriesOf}
 use Rattle.book.specs.EntrySize.{oneStepMax}
@@ -18,12 +18,12 @@ use Rattle.book.specs.EntrySize.{oneStepMax}
 -- ---- entries filled into lists, for any two limits
 
 -- the entries of these groups of steps, for profile h
-abbrev pub joinedItems : ℕ → List (List Step) → List Item
-joinedItems h groups = map (joinedItem h) groups
+abbrev pub joinedEntries : ℕ → List (List Step) → List Request
+joinedEntries h groups = map (joinedEntry h) groups
 
 -- the list of these entries
 abbrev pub listOf : ℕ → List (List Step) → List ℕ
-listOf h groups = listBytes (joinedItems h groups)
+listOf h groups = listBytes (joinedEntries h groups)
 
 -- size of an entry with `pdata` bytes of PData
 abbrev pub entrySize : ℕ → ℕ

@@ -1,6 +1,8 @@
 // Compiles a scene of a book into batch requests to an address, or into selective batch requests to the nodes of a set.
 use crate::fill::SizeLimits;
 use crate::request::write_output;
+use batch::list::BATCH;
+use batch::selective::SELECTIVE_BATCH;
 use book::locations::book_ok;
 use book::locations::scene_location;
 use book::step::StepsCheck;
@@ -12,8 +14,6 @@ use dpa::number::wide;
 use dpa::pnum;
 use dpa::refusal;
 use dpa::settings::address_ok;
-use outcome::os::BATCH;
-use outcome::os::SELECTIVE_BATCH;
 ghost use mathlib.Core.Path.{_≡_};
 ghost use Prim.Native.Nat.{_*_, _≤_};
 ghost use lib.ListN.{length};

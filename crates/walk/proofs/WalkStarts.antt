@@ -15,15 +15,15 @@ use Rattle.lights.specs.declared.apply.Command.the-variants.{Lower}
 use Rattle.lights.specs.declared.lamp.Lamp.{Lamp}
 use Rattle.lights.specs.Lights.{commandPcmd, lightsRequest, changesLamps}
 use Rattle.lights.proofs.Requests.{unchanged}
-use Rattle.batch.specs.Batch.{Item, item}
-use Rattle.outcome.specs.Request.{batchPcmd, selectivePcmd}
+use Rattle.batch.specs.Batch.{Request, requestOf, batchPcmd}
+use Rattle.batch.specs.Selective.{selectivePcmd}
 use Rattle.outcome.specs.Seen.{peripheralLamps, listLamps, lampsAfterSuccess}
 use Rattle.walk.specs.Walk.{listWalk, requestWalk, StartWalk}
 use Rattle.walk.proofs.Walks.{list-walk-ok, request-walk-ok, request-walk-lamps, walk-list, walk-ended}
 
 module _ (p c h : ℕ) (d : List ℕ) where
-  abbrev request : Item
-  request = item p c h d
+  abbrev request : Request
+  request = requestOf p c h d
 
   unchanging : ((s : Settings) (ls : List Lamp) → lampsAfterSuccess s request ls ≡ ls) → StartWalk request (listWalk (length d))
   unchanging e = record { ok = list-walk-ok d (length d) (omega arith); lamps = λ s ls. walk-ended d s ls ∙ sym (e s ls) }

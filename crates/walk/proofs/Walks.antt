@@ -24,9 +24,9 @@ use Rattle.lights.proofs.WellFormed.{bitmap-there, changes-well-formed}
 use Rattle.lights.proofs.RemainingLamps.{remaining-start, lamps-start, remaining-none, lamps-end, first-remaining-valid, remaining-next, lamps-next}
 use Rattle.lights.proofs.Requests.{unchanged}
 use Rattle.batch.specs.declared.entry.NextEntry.the-variants.{Entry, Fault}
-use Rattle.batch.specs.Batch.{entryHeadSize, nextEntry, Item, item}
+use Rattle.batch.specs.Batch.{entryHeadSize, nextEntry, Request, requestOf}
 use Rattle.batch.proofs.Entries.{next-unclosed}
-use Rattle.batch.proofs.Running.{items-fault, items-fault-at, items-entry-at}
+use Rattle.batch.proofs.Running.{entries-fault, entries-fault-at, entries-step-at}
 use Rattle.walk.specs.declared.lamps.Walk.{Walk}
 use Rattle.walk.specs.declared.lamps.Change.{Change}
 use Rattle.outcome.specs.Request.{hwpidMatches}
@@ -118,13 +118,13 @@ module _ (bytes : List ℕ) where
     pub walk-ended : (ls : List Lamp) → walkLamps s bytes (listWalk (length bytes)) ls ≡ ls
     walk-ended ls =
         walk-list (listWalk (length bytes)) ls refl
-        ∙ sym (items-fault (entryLamps s) (drop (length bytes) bytes) ls (next-unclosed (drop (length bytes) bytes) (simp length-drop (omega arith))))
+        ∙ sym (entries-fault (entryLamps s) (drop (length bytes) bytes) ls (next-unclosed (drop (length bytes) bytes) (simp length-drop (omega arith))))
 
     -- ---- the walk of an entry
 
     module _ (p c h start end : ℕ) (room : start ≤ end) (inside : end ≤ length bytes) where
-      abbrev entry : Item
-      entry = item p c h (slice bytes start (end - start))
+      abbrev entry : Request
+      entry = requestOf p c h (slice bytes start (end - start))
 
       unchanging : ((ls : List Lamp) → entryLamps s entry ls ≡ ls) → EntryWalk s entry bytes start end (listWalk end)
       unchanging e =
@@ -178,7 +178,7 @@ module _ (bytes : List ℕ) where
     module _ (w : Walk) (good : WalkOk bytes w) where
       -- from the end of a request to the walk r of the next entry
       module _ (z : w .remaining ≡ 0) {l p c h : ℕ} (e : nextEntry (slice bytes (w .next) (length bytes - w .next)) ≡ Entry l p c h) (r : Walk)
-          (x : EntryWalk s (item p c h (slice bytes (w .next + entryHeadSize) ((w .next + l) - (w .next + entryHeadSize)))) bytes (w .next + entryHeadSize) (w .next + l) r) where
+          (x : EntryWalk s (requestOf p c h (slice bytes (w .next + entryHeadSize) ((w .next + l) - (w .next + entryHeadSize)))) bytes (w .next + entryHeadSize) (w .next + l) r) where
         -- it is further on
         pub entry-further : w .at < r .at
         entry-further = omega (arith, good .at-max, x .further)
@@ -189,13 +189,13 @@ module _ (bytes : List ℕ) where
             record {
               ok = x .ok;
               further = omega (arith, entry-further);
-              same = λ ls _. x .lamps ls ∙ items-entry-at (entryLamps s) bytes (w .next) ls e ∙ sym (walk-list w ls z);
+              same = λ ls _. x .lamps ls ∙ entries-step-at (entryLamps s) bytes (w .next) ls e ∙ sym (walk-list w ls z);
             }
 
       -- without a next entry nothing is left
       pub walk-last : w .remaining ≡ 0 → {k a : ℕ} → nextEntry (slice bytes (w .next) (length bytes - w .next)) ≡ Fault k a
           → (ls : List Lamp) → walkLamps s bytes w ls ≡ ls
-      walk-last z e ls = walk-list w ls z ∙ sym (items-fault-at (entryLamps s) bytes (w .next) ls e)
+      walk-last z e ls = walk-list w ls z ∙ sym (entries-fault-at (entryLamps s) bytes (w .next) ls e)
 
       -- over the lowest lamp
       module _ (some : w .remaining ≡ 0 → ⊥) (power seconds size : ℕ) (q : firstPowerEntry (remainingBytes bytes w) ≡ Valid (change power seconds) size) where

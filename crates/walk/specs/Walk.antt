@@ -12,7 +12,7 @@ use Rattle.lights.specs.declared.lamp.Lamp.{Lamp}
 use Rattle.lights.specs.Bits.{bitmapSize, maskOf}
 use Rattle.lights.specs.Lights.{commandOf}
 use Rattle.lights.specs.Remaining.{remainingLamps, Remaining, lampChanged}
-use Rattle.batch.specs.Batch.{Item}
+use Rattle.batch.specs.Batch.{Request}
 use Rattle.walk.specs.declared.lamps.Walk.{Walk}
 use Rattle.walk.specs.declared.lamps.Change.{Change}
 use Rattle.outcome.specs.Seen.{entryLamps, listLamps, lampsAfterSuccess}
@@ -53,7 +53,7 @@ pub record Onward (s : Settings) (bytes : List ℕ) (w r : Walk) : Type 0 where
   pub same : (ls : List Lamp) → length ls ≡ maxLamps → walkLamps s bytes r ls ≡ walkLamps s bytes w ls
 
 -- the walk of an entry whose PData is from start to end
-pub record EntryWalk (s : Settings) (i : Item) (bytes : List ℕ) (start end : ℕ) (r : Walk) : Type 0 where
+pub record EntryWalk (s : Settings) (i : Request) (bytes : List ℕ) (start end : ℕ) (r : Walk) : Type 0 where
   pub ok : WalkOk bytes r
   pub further : start ≤ r .at
   pub lamps : (ls : List Lamp) → walkLamps s bytes r ls ≡ listLamps s (drop end bytes) (entryLamps s i ls)
@@ -82,6 +82,6 @@ pub record NextChange (s : Settings) (bytes : List ℕ) (w : Walk) (x : Change) 
 -- ---- the walk of a request that succeeded
 
 -- its walk
-pub record StartWalk (i : Item) (w : Walk) : Type 0 where
+pub record StartWalk (i : Request) (w : Walk) : Type 0 where
   pub ok : WalkOk (i .pdata) w
   pub lamps : (s : Settings) (ls : List Lamp) → walkLamps s (i .pdata) w ls ≡ lampsAfterSuccess s i ls

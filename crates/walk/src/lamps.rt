@@ -3,6 +3,8 @@
 use batch::entry::HEAD_SIZE;
 use batch::entry::NextEntry;
 use batch::entry::next_entry;
+use batch::list::BATCH;
+use batch::selective::SELECTIVE_BATCH;
 use dpa::frame::Frame;
 use dpa::node_set::NODE_SET_SIZE;
 use dpa::number::wide;
@@ -21,16 +23,14 @@ use lights::request::LOWER;
 use lights::request::changes_lamps;
 use lights::request::command_of;
 use outcome::hwpid::hwpid_matches;
-use outcome::os::BATCH;
-use outcome::os::SELECTIVE_BATCH;
 ghost use mathlib.Core.Path.{_≡_};
 ghost use mathlib.Core.Bool.{true, cond};
 ghost use Prim.Native.Nat.{_+_, _-_, _≤_};
 ghost use lib.ListN.{length};
 ghost use Rattle.dpa.specs.Lists.{slice};
 ghost use Rattle.lights.specs.Bits.{bitmapSize};
-ghost use Rattle.batch.specs.Batch.{item};
-ghost use Rattle.outcome.specs.Request.{headerItem};
+ghost use Rattle.batch.specs.Batch.{requestOf};
+ghost use Rattle.outcome.specs.Request.{headerRequest};
 ghost use Rattle.outcome.specs.Seen.{lampsAfterSuccess, StartKnown};
 ghost use Rattle.walk.specs.Walk.{walkLamps, WalkOk, listWalk, requestWalk, EntryWalk, CurrentWalk, NextChange, StartWalk};
 
@@ -92,7 +92,7 @@ fn entry_walk(
     end: usize,
 ) -> Walk
     requires { ⌜ (start ≤ end) × (end ≤ length (now bytes)) ⌝ }
-    ensures { λ r. ⌜ EntryWalk settings (item pnum pcmd hwpid (slice (now (bytes .entry)) start (end - start))) (now (bytes .entry)) start end r ⌝ }
+    ensures { λ r. ⌜ EntryWalk settings (requestOf pnum pcmd hwpid (slice (now (bytes .entry)) start (end - start))) (now (bytes .entry)) start end r ⌝ }
 {
     if pnum != pnum::LIGHTS {
         return list_walk(end);
@@ -196,8 +196,8 @@ fn change_lamps(
 
 // The walk at the start of a request that succeeded.
 fn start_walk(header: Frame, pdata: &[u8]) -> Walk
-    requires { ⌜ StartKnown (headerItem header (now pdata)) ⌝ }
-    ensures { λ r. ⌜ StartWalk (headerItem header (now (pdata .entry))) r ⌝ }
+    requires { ⌜ StartKnown (headerRequest header (now pdata)) ⌝ }
+    ensures { λ r. ⌜ StartWalk (headerRequest header (now (pdata .entry))) r ⌝ }
 {
     let end = pdata.len();
     if header.pnum == pnum::LIGHTS {
@@ -226,8 +226,8 @@ pub fn lamps_after(
     pdata: &[u8],
     lamps: [Lamp; LAMPS],
 ) -> [Lamp; LAMPS]
-    requires { ⌜ (success ≡ true → StartKnown (headerItem header (now pdata))) ⌝ }
-    ensures { λ r. ⌜ r ≡ cond success (lampsAfterSuccess settings (headerItem header (now (pdata .entry))) lamps) lamps ⌝ }
+    requires { ⌜ (success ≡ true → StartKnown (headerRequest header (now pdata))) ⌝ }
+    ensures { λ r. ⌜ r ≡ cond success (lampsAfterSuccess settings (headerRequest header (now (pdata .entry))) lamps) lamps ⌝ }
 {
     if !success {
         return lamps;

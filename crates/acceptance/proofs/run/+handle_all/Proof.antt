@@ -7,7 +7,7 @@ use lib.ListN.{length, length-drop, length-take}
 use lib.Seq.{length-take-le}
 use borrow.Fn.Kinds.{In}
 use borrow.Fn.PlainCycle.{Measures, is, falls, and}
-use Rattle.outcome.specs.Request.{state}
+use Rattle.node.specs.State.{state}
 use Rattle.acceptance.proofs.OutputRequests.{first-covered, rest-covered, none-handled, one-handled}
 use Rattle.acceptance.proofs.run.handle_all.Reads as handle-all
 use Rattle.acceptance.proofs.run.handle_all.Kinds as handle-all-kinds

@@ -3,7 +3,7 @@ use borrow.Author.Needs.{needs}
 use mathlib.Core.Path.{ap, _∙_}
 use mathlib.Core.List.{List}
 use Prim.Native.Nat.{ℕ}
-use Rattle.outcome.specs.Request.{state}
+use Rattle.node.specs.State.{state}
 use Rattle.acceptance.specs.SceneTheorem.{afterCalls}
 use Rattle.acceptance.specs.RunScene.{zeroBuffer}
 use Rattle.acceptance.proofs.OutputRequests.{parts-covered, parts-requests}

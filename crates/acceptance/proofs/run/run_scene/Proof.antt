@@ -8,7 +8,7 @@ use lib.Seq.{length-take-le}
 use Rattle.memory.specs.declared.block.Memory.the-variants.{Eeprom}
 use Rattle.memory.specs.Block.{sizeOf}
 use Rattle.node.specs.Node.{nodeOk}
-use Rattle.outcome.specs.Request.{State, SoundState, state}
+use Rattle.node.specs.State.{State, SoundState, state}
 use Rattle.scene.specs.Call.{compileResult}
 use Rattle.acceptance.specs.declared.run.SceneAnswer.{SceneAnswer}
 use Rattle.acceptance.specs.RunScene.{sceneResult}

@@ -1,7 +1,7 @@
 -- `handle_addressed`: by the NADR.
 use borrow.Author.Needs.{needs}
 use mathlib.Core.Path.{_∙_}
-use Rattle.outcome.specs.Request.{execute, headerItem}
+use Rattle.outcome.specs.Request.{execute, headerRequest}
 use Rattle.outcome.specs.Seen.{stateFromParts}
 use Rattle.outcome.proofs.Calls.{addressed-broadcast, addressed-unicast}
 use Rattle.handler.proofs.request.handle_addressed.Statement.{statement}
@@ -19,7 +19,7 @@ returns c =
     let call = broadcast c in
     let test = call .before .before .before .before in
     let a = test .before .before .before .before .before .before .before .args in
-    let i = headerItem (a .header) (a .pdata .now) in
+    let i = headerRequest (a .header) (a .pdata .now) in
     call .handle-broadcast .ensures (a .response .now)
     ∙ addressed-broadcast (a .fixed .settings) (a .header) i (execute i (stateFromParts (a .fixed) (a .lamps) (a .ram .now) (a .eeprom .now) (a .external .now))) (a .response .now) (test .if1 .taken)
 
@@ -28,7 +28,7 @@ returns-2 c =
     let call = unicast c in
     let test = call .before .before .before .before .before in
     let a = test .before .before .before .before .before .before .before .args in
-    let i = headerItem (a .header) (a .pdata .now) in
+    let i = headerRequest (a .header) (a .pdata .now) in
     call .handle-unicast .ensures
     ∙ addressed-unicast (a .fixed .settings) (a .header) i (execute i (stateFromParts (a .fixed) (a .lamps) (a .ram .now) (a .eeprom .now) (a .external .now))) (a .response .now) (test .if1 .left)
 

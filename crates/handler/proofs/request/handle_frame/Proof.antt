@@ -8,13 +8,14 @@ use lib.Dec.{eqb}
 use lib.ListN.{length, take, drop}
 use Rattle.dpa.specs.declared.frame.Frame.{Frame}
 use Rattle.dpa.specs.Frame.{headerSize, broadcastNadr, headerOf}
-use Rattle.batch.specs.Batch.{Item}
+use Rattle.batch.specs.Batch.{Request}
 use Rattle.node.specs.declared.record.ReadOnly.{ReadOnly}
 use Rattle.node.proofs.Nodes.{node-ram}
 use Rattle.outcome.specs.declared.reply.Report.{Report}
-use Rattle.outcome.specs.Request.{State, SoundState, Outcome, headerItem, frameItem, execute}
+use Rattle.node.specs.State.{State, SoundState}
+use Rattle.outcome.specs.Request.{Outcome, headerRequest, frameRequest, execute}
 use Rattle.outcome.specs.Seen.{stateFromParts, SeenHandled, addressedResult, lampsAfterSuccess, succeeded}
-use Rattle.outcome.proofs.Calls.{frame-item-read, frame-addressed, frame-other, addressed-report, addressed-call, call-result-as}
+use Rattle.outcome.proofs.Calls.{frame-request-read, frame-addressed, frame-other, addressed-report, addressed-call, call-result-as}
 use Rattle.outcome.proofs.Parts.{request-settings, request-lamps, success-known}
 use Rattle.outcome.proofs.Sizes.{frame-place}
 use Rattle.handler.proofs.request.handle_frame.Statement.{statement}
@@ -43,10 +44,10 @@ abbrev call : tie.After-slice-known6 → tie.After-handle-addressed
 call c = c .before .before .before .before .before .before .before
 
 -- the request as the code reads it, and its outcome
-abbrev asked : tie.After-read-only → Item
+abbrev asked : tie.After-read-only → Request
 asked c =
     let f = start c .args .frame .now in
-    headerItem (header c) (take (length f - headerSize) (drop headerSize f))
+    headerRequest (header c) (take (length f - headerSize) (drop headerSize f))
 
 abbrev done : tie.After-read-only → Outcome
 done c = execute (asked c) (inParts (start c) (c .read-only .result))
@@ -108,9 +109,9 @@ returns-2 c =
     call-result-as (c .answer-handled .ensures)
     ∙ addressed-call k (header parts) i (done parts) o (handled .handle-addressed .ensures) (sym (request-settings i (inParts s k)))
     (lamps .lamps-after .ensures ∙ ap (λ (b : Bool). cond b (lampsAfterSuccess (k .settings) i (s .args .node .lamps)) (s .args .node .lamps)) (success-is handled) ∙ sym (request-lamps i (inParts s k)))
-    ∙ ap (λ (j : Item). addressedResult (k .settings) (header parts) j (execute j (inParts s k)) o) (frame-item-read f (tested parts .before .before .read .ensures))
-    ∙ ap (λ (h : Frame). addressedResult (k .settings) h (frameItem f) (execute (frameItem f) (inParts s k)) o) (tested parts .before .before .read .ensures)
-    ∙ ap (λ (r : ReadOnly). addressedResult (r .settings) (headerOf f) (frameItem f) (execute (frameItem f) (inParts s r)) o) (parts .read-only .ensures)
+    ∙ ap (λ (j : Request). addressedResult (k .settings) (header parts) j (execute j (inParts s k)) o) (frame-request-read f (tested parts .before .before .read .ensures))
+    ∙ ap (λ (h : Frame). addressedResult (k .settings) h (frameRequest f) (execute (frameRequest f) (inParts s k)) o) (tested parts .before .before .read .ensures)
+    ∙ ap (λ (r : ReadOnly). addressedResult (r .settings) (headerOf f) (frameRequest f) (execute (frameRequest f) (inParts s r)) o) (parts .read-only .ensures)
     ∙ sym (frame-addressed _ _ _ (address-test (tested parts .before) ∙ not-false _ (tested parts .if1 .left)))
 
 pub handle-frame-spec : {M : Type 1} → statement M

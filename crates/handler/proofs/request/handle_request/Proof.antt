@@ -1,7 +1,8 @@
 -- `handle_request`: refused, or the result of `handle_frame`.
 use borrow.Author.Needs.{needs}
 use mathlib.Core.Path.{_≡_, sym, _∙_}
-use Rattle.outcome.specs.Request.{state, callRefusal}
+use Rattle.node.specs.State.{state}
+use Rattle.outcome.specs.Request.{callRefusal}
 use Rattle.outcome.proofs.Calls.{call-refused, call-accepted, not-refused-facts, accepted-sound, call-result-as}
 use Rattle.handler.proofs.request.handle_request.Statement.{statement}
 use Rattle.handler.proofs.request.handle_request.Tie as tie

@@ -2,8 +2,9 @@
 use borrow.Author.Needs.{needs}
 use native.Mathlib.Omega.{arith}
 use mathlib.Core.Path.{ap}
-use Rattle.batch.specs.Batch.{Item}
-use Rattle.outcome.specs.Request.{State, execute, headerItem}
+use Rattle.batch.specs.Batch.{Request}
+use Rattle.node.specs.State.{State}
+use Rattle.outcome.specs.Request.{execute, headerRequest}
 use Rattle.outcome.specs.Seen.{stateFromParts, SeenOutcome}
 use Rattle.outcome.proofs.Sizes.{execute-fits, unanswered-empty}
 use Rattle.outcome.proofs.Calls.{unicast-response}
@@ -16,8 +17,8 @@ given c =
     stateFromParts (c .args .fixed) (c .args .lamps) (c .args .ram .now) (c .args .eeprom .now) (c .args .external .now)
 
 -- the request
-abbrev asked : tie.Start → Item
-asked c = headerItem (c .args .header) (c .args .pdata .now)
+abbrev asked : tie.Start → Request
+asked c = headerRequest (c .args .header) (c .args .pdata .now)
 
 -- the start, from after the call of `execute`
 abbrev start : tie.After-execute → tie.Start

@@ -6,7 +6,7 @@ use Rattle.batch.proofs.Faults.{broken-not-sound}
 use Rattle.outcome.specs.Request.{noReport}
 use Rattle.outcome.specs.Seen.{Memories, stateFromParts}
 use Rattle.outcome.proofs.Outcomes.{list-broken, list-runs, outcome-as, outcome-broken, in-buffer}
-use Rattle.outcome.proofs.Parts.{items-memories}
+use Rattle.outcome.proofs.Parts.{entries-memories}
 use Rattle.peripherals.proofs.os.list_request.Statement.{statement}
 use Rattle.peripherals.proofs.os.list_request.Tie as tie
 
@@ -27,7 +27,7 @@ returns-2 c = λ ls o.
     let a = told .before .before .before .before .before .before .args in
     outcome-as (c .without-data .ensures)
     ∙ ap (λ (ms : Memories). record { answered = true; after = ms; error = 0; length = 0; report = noReport; out = o })
-    (run .run-memories .ensures ∙ sym (items-memories (a .list .now) (stateFromParts (a .fixed) ls (a .ram .now) (a .eeprom .now) (a .external .now))))
+    (run .run-memories .ensures ∙ sym (entries-memories (a .list .now) (stateFromParts (a .fixed) ls (a .ram .now) (a .eeprom .now) (a .external .now))))
     ∙ in-buffer o (list-runs _ _ _ (told .enum-told .given .1))
 
 pub list-request-spec : {M : Type 1} → statement M

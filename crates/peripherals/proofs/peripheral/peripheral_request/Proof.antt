@@ -8,7 +8,7 @@ use Rattle.memory.specs.declared.block.Memory.the-variants.{Eeprom, Ram, Extern
 use Rattle.lights.specs.declared.lamp.Lamp.{Lamp}
 use Rattle.lights.specs.Lights.{lightsRequest}
 use Rattle.node.proofs.Nodes.{node-settings, node-levels, node-ram}
-use Rattle.outcome.specs.Request.{State}
+use Rattle.node.specs.State.{State}
 use Rattle.outcome.specs.Seen.{memories, memoriesOf}
 use Rattle.outcome.proofs.Peripherals.{peripheral-lights, peripheral-unknown, memory-seen}
 use Rattle.peripherals.proofs.peripheral.peripheral_request.Statement.{statement}

@@ -11,7 +11,7 @@ use Rattle.batch.specs.Batch.{closingZero, entryBytes}
 use Rattle.book.specs.declared.step.Step.{Step}
 use Rattle.book.specs.Book.{stepsIn}
 use Rattle.book.specs.Group.{concat}
-use Rattle.book.specs.Entry.{groupData, joinedItem}
+use Rattle.book.specs.Entry.{groupData, joinedEntry}
 use Rattle.book.specs.Join.{entriesOf}
 use Rattle.book.specs.EntrySize.{FirstEntry}
 use Rattle.book.proofs.Positions.{steps-length, steps-slice}
@@ -179,7 +179,7 @@ loop-again c =
     let l = iteration e .before .loop in
     let k = e .before .before .wide .result in (
       bytes-more (s .pre .3) _ _ _ _ _ _ _ _ _ (entry e) _ _ (l .inv .0) _ _ (t .ensures .2) (t .ensures .0) _ _ _
-          (w .1 ∙ ap (λ (x : List Step). sets (t .last .1 .1 .1 .1 .1 .0) (t .result .at) (entryBytes (joinedItem (s .args .header .hwpid) x)))
+          (w .1 ∙ ap (λ (x : List Step). sets (t .last .1 .1 .1 .1 .1 .0) (t .result .at) (entryBytes (joinedEntry (s .args .header .hwpid) x)))
           (sym (steps-slice (s .args .count) (l .step) k (s .args .body .now) (in-scene e))))
           (w .0) (t .ensures .1),
       rw (← (e .before .before .wide .ensures .0), drop-drop k (l .step) (steps s)) at (span (iteration e) .rest),

@@ -1,0 +1,43 @@
+-- What a request changes: an answer is found first, and then the request has an effect on the node and the memories.
+use Prim.Native.Nat.{_≤_}
+use mathlib.Core.Path.{_≡_}
+use mathlib.Core.Bool.{true, cond}
+use lib.ListN.{length, drop}
+use lib.Dec.{eqb}
+use Rattle.dpa.specs.NodeSet.{nodeSetSize}
+use Rattle.dpa.specs.Pnum.{osPnum, lightsPnum}
+use Rattle.lights.specs.declared.apply.Command.the-variants.{Lower}
+use Rattle.lights.specs.Lights.{commandPcmd, changesLamps}
+use Rattle.batch.specs.Batch.{batchPcmd, Request, reading, runEntries}
+use Rattle.batch.specs.Selective.{selectivePcmd}
+use Rattle.node.specs.State.{State}
+use Rattle.outcome.specs.declared.reply.Effect.{Effect}
+use Rattle.outcome.specs.declared.reply.Effect.the-variants.{Nothing, Alone, Batch, Selective}
+use Rattle.outcome.specs.Request.{Outcome, peripheralRequest, entryAfter}
+use Rattle.outcome.specs.Seen.{succeeded}
+
+-- the effect of a request that succeeded: a batch and a selective batch run their lists, any other OS request changes nothing, and a
+-- request to a peripheral acts by itself
+abbrev pub requestEffect : Request → Effect
+requestEffect i =
+    cond (eqb (i .pnum) osPnum)
+    (cond (eqb (i .pcmd) batchPcmd) Batch
+    (cond (eqb (i .pcmd) selectivePcmd) Selective
+    Nothing))
+    Alone
+
+-- the effect of a request with this outcome; without success there is none
+unfoldable pub effectOf : Request → Outcome → Effect
+effectOf i done = cond (succeeded done) (requestEffect i) Nothing
+
+-- the state after an effect
+abbrev pub afterEffect : Effect → Request → State → State
+afterEffect Nothing i st = st
+afterEffect Alone i st = peripheralRequest (i .pnum) (i .pcmd) (i .pdata) st .after
+afterEffect Batch i st = runEntries entryAfter (reading (i .pdata) .entries) st
+afterEffect Selective i st = runEntries entryAfter (reading (drop nodeSetSize (i .pdata)) .entries) st
+
+-- what the answer found out: set, raise and lower have valid power entries, and a selective batch has a node set
+pub record EffectKnown (effect : Effect) (i : Request) : Type 0 where
+  pub changes : effect ≡ Alone → i .pnum ≡ lightsPnum → i .pcmd ≤ commandPcmd Lower → changesLamps (i .pcmd) (i .pdata) ≡ true
+  pub node-set : effect ≡ Selective → nodeSetSize ≤ length (i .pdata)
