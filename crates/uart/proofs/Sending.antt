@@ -6,7 +6,7 @@ use Prim.Native.Nat.{ℕ, _≤_, _<_}
 use lib.Dec.{ltb, leb}
 use lib.ListN.{length, drop}
 use lib.Seq.{drop-append-seam}
-use borrow.Author.Tests.{lt-ltb, le-ltb}
+use borrow.Author.Tests.{lt-ltb, le-ltb, le-leb}
 use Rattle.dpa.specs.Answer.{LengthResult, RefusedKeeps, resultInBuffer}
 use Rattle.dpa.specs.Lists.{overwriteFront}
 use Rattle.dpa.proofs.Bool.{by-cond}
@@ -29,6 +29,11 @@ module _ (m o : List ℕ) where
       pub room-refused : leb (length (framed m)) (length o) ≡ false → resultInBuffer 11 [] o ≡ frameOf m o
       unfolding frameOf
       room-refused e = rw (le-ltb (length m) shortest long-enough, le-ltb longest (length m) short-enough, e)
+
+      -- there is room for the framed message
+      pub frame-accepted : length (framed m) ≤ length o → frameOf m o ≡ resultInBuffer 0 (framed m) o
+      unfolding frameOf
+      frame-accepted h = rw (le-ltb (length m) shortest long-enough, le-ltb longest (length m) short-enough, le-leb (length (framed m)) (length o) h) refl
 
       -- a framed message
       pub framed-answered : leb (length (framed m)) (length o) ≡ true → (k : ℕ) (o′ : List ℕ) → k ≡ length (framed m) → o′ ≡ overwriteFront (framed m) o

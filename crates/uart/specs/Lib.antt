@@ -3,3 +3,4 @@ pub mod ShiftTable
 pub mod Framing
 pub mod Receiver
 pub mod Stream
+pub mod Serial

@@ -113,3 +113,26 @@ unfoldable pub heardByParts : Receiver → List (List ℕ) → Heard
 heardByParts r [] = heard [] r
 heardByParts r (p ∷ ps) =
     heardBefore (heardByCalls (length p) r p .events) (heardByParts (heardByCalls (length p) r p .receiver) ps)
+
+-- ---- calls that get any bytes of the stream that are next
+
+-- what calls leave: frames and drops in order, the receiver, and the bytes of the stream that no call has taken
+pub record Calls : Type 0 where
+  pub events : List Event
+  pub receiver : Receiver
+  pub left : List ℕ
+
+-- what calls leave, an answer before them
+abbrev pub callsAfter : ReceiveAnswer → (Receiver → ℕ → Calls) → Calls
+callsAfter a rest =
+    record {
+      events = listed (answerEvent a) ++ rest (a .receiver) (a .taken) .events;
+      receiver = rest (a .receiver) (a .taken) .receiver;
+      left = rest (a .receiver) (a .taken) .left;
+    }
+
+-- Calls of `receive` on a stream, one for each size. A call gets that many of the bytes that no call has taken: bytes that an earlier call
+-- left, newer ones, both together, or none.
+unfoldable pub callsOn : Receiver → (stream sizes : List ℕ) → Calls
+callsOn r bs [] = record { events = []; receiver = r; left = bs }
+callsOn r bs (n ∷ ns) = callsAfter (receiveOf r (take n bs)) (λ r′ taken. callsOn r′ (drop taken bs) ns)
