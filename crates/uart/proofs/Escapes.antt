@@ -5,13 +5,13 @@ use mathlib.Core.List.{List, [], _∷_, _++_, append-assoc, append-nil}
 use Prim.Native.Nat.{ℕ, _+_, _*_, _≤_, _<_}
 use native.Mathlib.Omega.{arith}
 use native.Mathlib.Numerals.{add-one}
-use lib.ListN.{length, getD, take, drop, set, length-append, drop-of-length-le}
+use lib.ListN.{length, getD, take, drop, set, replicate, length-append, drop-of-length-le}
 use lib.Seq.{drop-cons, take-append-seam, getD-append-seam, sets, length-sets}
-use Rattle.dpa.specs.Lists.{overwriteFront}
+use Rattle.dpa.specs.Lists.{overwriteFront, fold}
 use Rattle.dpa.proofs.Bool.{by-cond}
 use Rattle.dpa.proofs.Lists.{sets-append, sets-front}
-use Rattle.uart.specs.CheckByte.{checkByte}
-use Rattle.uart.specs.Framing.{flag, escape, flipped, reserved, escaped, escapedAll, withCheckByte, framed}
+use Rattle.uart.specs.CheckByte.{shift, shifts, crcByte, checkByte}
+use Rattle.uart.specs.Framing.{flag, escape, flipped, reserved, escaped, escapedAll, withCheckByte, framed, LongestFramed}
 
 -- a reserved byte is written as two bytes
 pub escaped-reserved : (b : ℕ) → reserved b ≡ true → escaped b ≡ escape ∷ flipped b ∷ []
@@ -132,3 +132,14 @@ module _ (m : List ℕ) (c : ℕ) (e : c ≡ checkByte m) where
       let whole : sets o w (escaped c ++ (flag ∷ [])) ≡ sets old 0 (framed m)
       = rw (eo, ew, framed-parts) (sym (sets-append (set old 0 flag) 1 (escapedAll m) (escaped c ++ (flag ∷ [])))) in
       (omega (arith, framed-length), last ∙ whole ∙ sets-front (framed m) old room)
+
+-- 11 flags and 53 escapes: every byte is written as two, and so is their check byte, 7D hex
+pub longest-framed : LongestFramed 132
+unfolding shift shifts crcByte fold reserved escaped escapedAll
+longest-framed =
+    record {
+      none-longer = λ m h. let z = framed-max m (checkByte m) refl in omega arith;
+      message = replicate 11 flag ++ replicate 53 escape;
+      sized = (omega arith, omega arith);
+      as-long = refl;
+    }

@@ -1,5 +1,6 @@
 -- Document 000, 2.3.2: flag, escape, a framed message. Document 02, change 5: the sender.
-use Prim.Native.Nat.{ℕ}
+use Prim.Native.Nat.{ℕ, _≤_}
+use mathlib.Core.Path.{_≡_}
 use mathlib.Core.List.{List, [], _∷_, _++_}
 use mathlib.Core.Bool.{Bool, cond, _||_}
 use lib.ListN.{length}
@@ -55,6 +56,13 @@ shortest = 6
 
 abbrev pub longest : ℕ
 longest = 64
+
+-- n is the length of the longest framed message: none is longer, and one is as long
+pub record LongestFramed (n : ℕ) : Type 0 where
+  pub none-longer : (m : List ℕ) → length m ≤ longest → length (framed m) ≤ n
+  pub message : List ℕ
+  pub sized : (shortest ≤ length message) × (length message ≤ longest)
+  pub as-long : length (framed message) ≡ n
 
 -- `frame`: a message of fewer than 6 or more than 64 bytes: 2; a buffer that the framed message does not fit: 11
 unfoldable pub frameOf : List ℕ → List ℕ → LengthResult

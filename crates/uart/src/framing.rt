@@ -10,7 +10,7 @@ ghost use lib.Seq.{sets};
 ghost use Rattle.dpa.specs.Answer.{lengthResult};
 ghost use Rattle.dpa.specs.Lists.{overwriteFront};
 ghost use Rattle.uart.specs.CheckByte.{checkByte};
-ghost use Rattle.uart.specs.Framing.{reserved, flipped, longest, escaped, escapedAll, framed, frameOf};
+ghost use Rattle.uart.specs.Framing.{reserved, flipped, longest, escaped, escapedAll, framed, LongestFramed, frameOf};
 
 // Flag Sequence: the first and the last byte of a framed message.
 pub const FLAG: u8 = 0x7E;
@@ -25,7 +25,7 @@ pub const SHORTEST: usize = 6;
 
 pub const LONGEST: usize = 64;
 
-// The longest framed message: two flags, and twice the message and its check byte (`framed-max`).
+// The longest framed message: two flags, and twice the message and its check byte.
 pub const LONGEST_FRAMED: usize = 2 * LONGEST + 4;
 
 pub fn flipped(byte: u8) -> u8
@@ -92,10 +92,11 @@ fn write_escaped_all(out: &mut [u8], at: usize, message: &[u8]) -> usize
     next
 }
 
-// Whether a framed message fits. Its escapes are counted only if the room is not enough for every message of this length.
+// Whether a framed message fits. LONGEST_FRAMED bytes are enough for any. Escapes are counted only if the room is not enough for every message
+// of this length.
 fn fits(message: &[u8], check: u8, room: usize) -> bool
     requires { ⌜ (length (now message) ≤ longest) × (check ≡ checkByte (now message)) ⌝ }
-    ensures { λ r. ⌜ r ≡ leb (length (framed (now (message .entry)))) room ⌝ }
+    ensures { λ r. do ⌜ (r ≡ leb (length (framed (now (message .entry)))) room) × LongestFramed (← ⟦LONGEST_FRAMED⟧ .entry) ⌝ }
 {
     if 2 * message.len() + 4 <= room {
         return true;

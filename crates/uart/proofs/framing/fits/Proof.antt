@@ -5,7 +5,7 @@ use lib.ListN.{length}
 use borrow.Author.Tests.{le-leb}
 use borrow.Author.Needs.{needs}
 use Rattle.uart.specs.Framing.{framed}
-use Rattle.uart.proofs.Escapes.{framed-length, framed-max}
+use Rattle.uart.proofs.Escapes.{framed-length, framed-max, longest-framed}
 use Rattle.uart.proofs.framing.fits.Statement.{statement}
 use Rattle.uart.proofs.framing.fits.Tie as tie
 
@@ -13,12 +13,12 @@ returns : tie.Need-returns
 returns c =
     let start = c .before .before in
     let m = start .args .message .now in
-    sym (le-leb (length (framed m)) (start .args .room) (omega (arith, framed-max m (start .args .check) (start .pre .1), c .if1 .taken)))
+    (sym (le-leb (length (framed m)) (start .args .room) (omega (arith, framed-max m (start .args .check) (start .pre .1), c .if1 .taken))), longest-framed)
 
 returns-2 : tie.Need-returns-2
 returns-2 c =
     let start = c .before .before .before .before in
-    rw (c .before .escaped-all-length .ensures .0, c .escaped-length .ensures .0, framed-length (start .args .message .now) (start .args .check) (start .pre .1))
+    (rw (c .before .escaped-all-length .ensures .0, c .escaped-length .ensures .0, framed-length (start .args .message .now) (start .args .check) (start .pre .1)), longest-framed)
 
 pub fits-spec : {M : Type 1} → statement M
 fits-spec =

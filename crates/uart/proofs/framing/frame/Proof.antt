@@ -26,11 +26,11 @@ returns-3 c =
     let a = sized .before .before .before .before .before .before .args in
     rw (c .length-answer3 .ensures)
     (room-refused (a .message .now) (a .out .now) (sized .before .before .before .if1 .left) (sized .before .before .if2 .left)
-    (sym (sized .fits2 .ensures) ∙ not-true _ (c .before .if3 .taken)))
+    (sym (sized .fits2 .ensures .0) ∙ not-true _ (c .before .if3 .taken)))
 
 -- there is room
 room : (c : tie.Else3) → let a = c .before .before .before .before .before .before .before .args in leb (length (framed (a .message .now))) (length (a .out .now)) ≡ true
-room c = sym (c .before .fits2 .ensures) ∙ not-false _ (c .if3 .left)
+room c = sym (c .before .fits2 .ensures .0) ∙ not-false _ (c .if3 .left)
 
 write-framed-requires : tie.Need-write-framed-requires
 write-framed-requires c κs = (c .before .before .before .check-byte .ensures, leb-true _ _ (room (c .before)))
