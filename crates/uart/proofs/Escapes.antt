@@ -10,7 +10,7 @@ use lib.Seq.{drop-cons, take-append-seam, getD-append-seam, sets, length-sets}
 use Rattle.dpa.specs.Lists.{overwriteFront, fold}
 use Rattle.dpa.proofs.Bool.{by-cond}
 use Rattle.dpa.proofs.Lists.{sets-append, sets-front}
-use Rattle.uart.specs.CheckByte.{shift, shifts, crcByte, checkByte}
+use Rattle.crc.specs.CheckByte.{shift, shifts, crcByte, checkByte}
 use Rattle.uart.specs.Framing.{flag, escape, flipped, reserved, escaped, escapedAll, withCheckByte, framed, LongestFramed}
 
 -- a reserved byte is written as two bytes

@@ -5,22 +5,16 @@ use mathlib.Core.Bool.{Bool, true, false}
 use Prim.Native.Nat.{ℕ}
 use lib.ListN.{replicate}
 use Rattle.dpa.specs.Lists.{fold}
-use Rattle.uart.specs.CheckByte.{shift, shifts, crcByte, checkByte}
+use Rattle.crc.specs.CheckByte.{shift, shifts, crcByte}
+use Rattle.crc.proofs.Examples.{guideMessage}
 use Rattle.uart.specs.Framing.{flag, escape, reserved, escaped, escapedAll, framed, frameOf}
 use Rattle.uart.specs.Receiver.{newReceiver, Event, frame, dropped, dropCause, eventFor, begun, byteEvent, dataByte, stored, nextReceiver}
 use Rattle.uart.specs.Stream.{heardFrom}
 
--- ---- document 000: write 7E 7D to RAM address 0 of node 2F hex
-
-abbrev guideMessage : List ℕ
-guideMessage = 0x2F ∷ 0x00 ∷ 0x05 ∷ 0x01 ∷ 0xFF ∷ 0xFF ∷ 0x00 ∷ 0x7E ∷ 0x7D ∷ []
+-- ---- document 000: the message of the check byte's example, framed
 
 abbrev guideFramed : List ℕ
 guideFramed = 0x7E ∷ 0x2F ∷ 0x00 ∷ 0x05 ∷ 0x01 ∷ 0xFF ∷ 0xFF ∷ 0x00 ∷ 0x7D ∷ 0x5E ∷ 0x7D ∷ 0x5D ∷ 0x7D ∷ 0x5E ∷ 0x7E ∷ []
-
-pub guide-check-byte : checkByte guideMessage ≡ 0x7E
-unfolding shift shifts crcByte fold
-guide-check-byte = refl
 
 pub guide-framed : framed guideMessage ≡ guideFramed
 unfolding shift shifts crcByte fold reserved escaped escapedAll

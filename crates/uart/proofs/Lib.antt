@@ -1,5 +1,3 @@
-pub mod Xor
-pub mod CheckBytes
 pub mod Escapes
 pub mod Sending
 pub mod Causes

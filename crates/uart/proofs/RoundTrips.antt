@@ -15,7 +15,7 @@ use Rattle.dpa.proofs.All.{all-append, all-at}
 use Rattle.dpa.proofs.Bool.{by-test}
 use Rattle.dpa.proofs.Lists.{fold-append}
 use Rattle.uart.specs.declared.receiver.Receiver.{Receiver}
-use Rattle.uart.specs.CheckByte.{checkByte}
+use Rattle.crc.specs.CheckByte.{checkByte}
 use Rattle.uart.specs.Framing.{flag, escape, flipped, reserved, escaped, escapedAll, withCheckByte, betweenFlags, framed, shortest, frameOf}
 use Rattle.uart.specs.Receiver.{inFrame, receiverFrom, receiverOk, frame, dropped, eventFor, byteEvent}
 use Rattle.uart.specs.Stream.{Content, CauseOf, tooLong, good, content, nothingYet, addByte, addBytes, contentEvent, listed, heard, heardFrom}

@@ -7,7 +7,7 @@ use lib.ListN.{length}
 use lib.Dec.{eqb, ltb, leb}
 use lib.Bits.{bitXor}
 use Rattle.dpa.specs.Answer.{LengthResult, resultInBuffer}
-use Rattle.uart.specs.CheckByte.{checkByte}
+use Rattle.crc.specs.CheckByte.{checkByte}
 
 -- Flag Sequence: the first and the last byte of a framed message
 abbrev pub flag : ℕ

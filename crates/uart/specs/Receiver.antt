@@ -8,7 +8,7 @@ use lib.Dec.{eqb, ltb, leb}
 use Rattle.dpa.specs.Lists.{overwriteFront}
 use Rattle.uart.specs.declared.receiver.Receiver.{Receiver}
 use Rattle.uart.specs.declared.receiver.ReceiveAnswer.{ReceiveAnswer}
-use Rattle.uart.specs.CheckByte.{checkByte}
+use Rattle.crc.specs.CheckByte.{checkByte}
 use Rattle.uart.specs.Framing.{flag, escape, flipped, shortest, longest}
 
 -- ---- the record

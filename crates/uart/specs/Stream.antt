@@ -9,7 +9,7 @@ use lib.Dec.{eqb}
 use Rattle.dpa.specs.Lists.{fold}
 use Rattle.uart.specs.declared.receiver.Receiver.{Receiver}
 use Rattle.uart.specs.declared.receiver.ReceiveAnswer.{ReceiveAnswer}
-use Rattle.uart.specs.CheckByte.{checkByte}
+use Rattle.crc.specs.CheckByte.{checkByte}
 use Rattle.uart.specs.Framing.{flag, escape, flipped, shortest}
 use Rattle.uart.specs.Receiver.{Event, none, frame, dropped, frameEvent, byteEvent, nextReceiver, receiveOf}
 

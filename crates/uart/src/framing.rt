@@ -1,5 +1,5 @@
 // Framing: a message between two flags, with its check byte.
-use crate::check_byte::check_byte;
+use crc::check_byte::check_byte;
 use dpa::answer::LengthAnswer;
 use dpa::refusal;
 ghost use mathlib.Core.Path.{_≡_};
@@ -9,7 +9,7 @@ ghost use lib.ListN.{length};
 ghost use lib.Seq.{sets};
 ghost use Rattle.dpa.specs.Answer.{lengthResult};
 ghost use Rattle.dpa.specs.Lists.{overwriteFront};
-ghost use Rattle.uart.specs.CheckByte.{checkByte};
+ghost use Rattle.crc.specs.CheckByte.{checkByte};
 ghost use Rattle.uart.specs.Framing.{reserved, flipped, longest, escaped, escapedAll, framed, LongestFramed, frameOf};
 
 // Flag Sequence: the first and the last byte of a framed message.

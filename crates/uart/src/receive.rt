@@ -1,5 +1,4 @@
 // Receiving: the bytes of a call up to the first flag that completes or drops a frame.
-use crate::check_byte::check_byte;
 use crate::framing::ESCAPE;
 use crate::framing::FLAG;
 use crate::framing::LONGEST;
@@ -16,6 +15,7 @@ use crate::receiver::ReceiveAnswer;
 use crate::receiver::Receiver;
 use crate::receiver::receiver_from;
 use crate::receiver::receiver_ok;
+use crc::check_byte::check_byte;
 use dpa::number::wide;
 use dpa::refusal;
 ghost use mathlib.Core.Path.{_≡_};

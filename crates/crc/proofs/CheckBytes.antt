@@ -10,10 +10,10 @@ use lib.Dec.{eqb}
 use lib.ListN.{length, getD, take, drop, length-drop, take-append-drop}
 use lib.Seq.{drop-cons, drop-length, drop-drop}
 use Rattle.dpa.specs.Lists.{fold}
-use Rattle.uart.specs.CheckByte.{polynomial, shift, shifts, crcByte, crcBytes}
-use Rattle.uart.specs.ShiftTable.{blockLength, tableFrom, shiftEntry, shiftTable}
+use Rattle.crc.specs.CheckByte.{polynomial, shift, shifts, crcByte, crcBytes}
+use Rattle.crc.specs.ShiftTable.{bytesAtOnce, tableFrom, shiftEntry, shiftTable}
 use Rattle.dpa.proofs.Lists.{fold-append}
-use Rattle.uart.proofs.Xor.{by-bit, xor-assoc}
+use Rattle.crc.proofs.Xor.{by-bit, xor-assoc}
 
 -- ---- linearity
 
@@ -104,7 +104,7 @@ unfolding shiftTable
 table-entry k h = let z : 0 + k ≡ k = omega arith in entry-from shiftEntry 0 128 k h ∙ ap shiftEntry z
 
 -- the entries for the two digits of a byte that n bytes follow
-pub table-digits : (n b low high : ℕ) → n < blockLength → b < 256 → low ≡ b % 16 → high ≡ b / 16
+pub table-digits : (n b low high : ℕ) → n < bytesAtOnce → b < 256 → low ≡ b % 16 → high ≡ b / 16
     → bitXor (getD shiftTable (32 * n + low) 0) (getD shiftTable (32 * n + 16 + high) 0) ≡ shifts (8 * (n + 1)) b
 table-digits n b low high h l el eh =
     let low-of : shiftEntry (32 * n + low) ≡ shifts (8 * (n + 1)) low = entry-of (32 * n + low) n low 0 low (omega arith) (omega arith) (omega arith) (omega arith) in

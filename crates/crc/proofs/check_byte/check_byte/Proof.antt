@@ -5,11 +5,11 @@ use native.Mathlib.Omega.{arith}
 use lib.ListN.{length, drop, length-take, length-drop}
 use borrow.Author.Needs.{needs}
 use Rattle.dpa.proofs.Lists.{slice-to-end}
-use Rattle.uart.specs.CheckByte.{initialCrc, crcBytes}
-use Rattle.uart.specs.ShiftTable.{blockLength}
-use Rattle.uart.proofs.CheckBytes.{crc-later}
-use Rattle.uart.proofs.check_byte.check_byte.Statement.{statement}
-use Rattle.uart.proofs.check_byte.check_byte.Tie as tie
+use Rattle.crc.specs.CheckByte.{initialCrc, crcBytes}
+use Rattle.crc.specs.ShiftTable.{bytesAtOnce}
+use Rattle.crc.proofs.CheckBytes.{crc-later}
+use Rattle.crc.proofs.check_byte.check_byte.Statement.{statement}
+use Rattle.crc.proofs.check_byte.check_byte.Tie as tie
 
 abbrev Inv-loop : tie.InvT-loop
 Inv-loop bytes table crc₀ i₀ crc i = (i ≤ length bytes) × (crcBytes crc (drop i bytes) ≡ crcBytes initialCrc bytes)
@@ -24,8 +24,8 @@ loop-again : tie.Need-loop-again Inv-loop μ-loop
 loop-again c =
     let loop = c .before .before .before .before .loop in
     let bytes = c .before .before .before .before .before .before .before .args .bytes .now in
-    let n : loop .i + blockLength - loop .i ≡ blockLength = omega arith in
-    (omega arith, crc-later bytes (loop .crc) _ (loop .i) blockLength (c .crc-block .ensures ∙ rw n) ∙ loop .inv .1)
+    let n : loop .i + bytesAtOnce - loop .i ≡ bytesAtOnce = omega arith in
+    (omega arith, crc-later bytes (loop .crc) _ (loop .i) bytesAtOnce (c .crc-block .ensures ∙ rw n) ∙ loop .inv .1)
 
 returns : tie.Need-returns Inv-loop μ-loop
 returns c =

@@ -3,9 +3,9 @@ use mathlib.Core.Path.{_≡_, ap, _∙_}
 use native.Mathlib.Omega.{arith}
 use lib.ListN.{length}
 use borrow.Author.Needs.{needs}
-use Rattle.uart.proofs.CheckBytes.{table-digits, table-length}
-use Rattle.uart.proofs.check_byte.shifted.Statement.{statement}
-use Rattle.uart.proofs.check_byte.shifted.Tie as tie
+use Rattle.crc.proofs.CheckBytes.{table-digits, table-length}
+use Rattle.crc.proofs.check_byte.shifted.Statement.{statement}
+use Rattle.crc.proofs.check_byte.shifted.Tie as tie
 
 table-size : (c : tie.Start) → length (c .args .table .now) ≡ 128
 table-size c = ap length (c .pre .0) ∙ table-length

@@ -3,8 +3,8 @@ use dpa::number::wide;
 ghost use mathlib.Core.Path.{_≡_};
 ghost use Prim.Native.Nat.{_+_, _*_, _<_};
 ghost use lib.ListN.{length};
-ghost use Rattle.uart.specs.CheckByte.{shifts, crcBytes, checkByte};
-ghost use Rattle.uart.specs.ShiftTable.{blockLength, shiftTable};
+ghost use Rattle.crc.specs.CheckByte.{shifts, crcBytes, checkByte};
+ghost use Rattle.crc.specs.ShiftTable.{bytesAtOnce, shiftTable};
 
 const INITIAL_CRC: u8 = 0xFF;
 
@@ -150,7 +150,7 @@ fn shift_table() -> [u8; 128]
 
 // What is left of a byte when it and n more are shifted out.
 fn shifted(table: &[u8], byte: u8, n: usize) -> u8
-    requires { ⌜ (now table ≡ shiftTable) × (n < blockLength) ⌝ }
+    requires { ⌜ (now table ≡ shiftTable) × (n < bytesAtOnce) ⌝ }
     ensures { λ r. ⌜ r ≡ shifts (8 * (n + 1)) byte ⌝ }
 {
     table[32 * n + wide(byte % 16)] ^ table[32 * n + 16 + wide(byte / 16)]
@@ -158,7 +158,7 @@ fn shifted(table: &[u8], byte: u8, n: usize) -> u8
 
 // The CRC after a block. Its length is fixed, so that the loop can be unrolled.
 fn crc_block(table: &[u8], crc: u8, block: &[u8]) -> u8
-    requires { ⌜ (now table ≡ shiftTable) × (length (now block) ≡ blockLength) ⌝ }
+    requires { ⌜ (now table ≡ shiftTable) × (length (now block) ≡ bytesAtOnce) ⌝ }
     ensures { λ r. ⌜ r ≡ crcBytes crc (now (block .entry)) ⌝ }
 {
     let mut sum: u8 = 0;

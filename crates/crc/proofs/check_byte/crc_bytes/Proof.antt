@@ -3,10 +3,10 @@ use Prim.Native.Nat.{_≤_, _-_}
 use mathlib.Core.Path.{_≡_, refl, sym, _∙_}
 use native.Mathlib.Omega.{arith}
 use lib.ListN.{length, drop, drop-of-length-le}
-use Rattle.uart.specs.CheckByte.{crcBytes}
-use Rattle.uart.proofs.CheckBytes.{crc-next, crc-none}
-use Rattle.uart.proofs.check_byte.crc_bytes.Statement.{statement}
-use Rattle.uart.proofs.check_byte.crc_bytes.Tie as tie
+use Rattle.crc.specs.CheckByte.{crcBytes}
+use Rattle.crc.proofs.CheckBytes.{crc-next, crc-none}
+use Rattle.crc.proofs.check_byte.crc_bytes.Statement.{statement}
+use Rattle.crc.proofs.check_byte.crc_bytes.Tie as tie
 
 abbrev Inv-loop : tie.InvT-loop
 Inv-loop table initial bytes crc₀ i₀ i-end crc i = (i ≤ length bytes) × (crcBytes crc (drop i bytes) ≡ crcBytes initial bytes)

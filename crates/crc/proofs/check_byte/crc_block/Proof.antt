@@ -4,17 +4,17 @@ use mathlib.Core.Path.{_≡_, refl, sym, _∙_}
 use native.Mathlib.Omega.{arith}
 use lib.Bits.{bitXor}
 use lib.ListN.{length, drop}
-use Rattle.uart.specs.CheckByte.{crcBytes}
-use Rattle.uart.specs.ShiftTable.{blockLength}
-use Rattle.uart.proofs.CheckBytes.{sum-next, sum-all}
-use Rattle.uart.proofs.check_byte.crc_block.Statement.{statement}
-use Rattle.uart.proofs.check_byte.crc_block.Tie as tie
+use Rattle.crc.specs.CheckByte.{crcBytes}
+use Rattle.crc.specs.ShiftTable.{bytesAtOnce}
+use Rattle.crc.proofs.CheckBytes.{sum-next, sum-all}
+use Rattle.crc.proofs.check_byte.crc_block.Statement.{statement}
+use Rattle.crc.proofs.check_byte.crc_block.Tie as tie
 
 abbrev Inv-loop : tie.InvT-loop
-Inv-loop table crc block sum₀ i₀ sum i = (1 ≤ i) × (i ≤ blockLength) × (bitXor sum (crcBytes 0 (drop i block)) ≡ crcBytes 0 (drop 1 block))
+Inv-loop table crc block sum₀ i₀ sum i = (1 ≤ i) × (i ≤ bytesAtOnce) × (bitXor sum (crcBytes 0 (drop i block)) ≡ crcBytes 0 (drop 1 block))
 
 abbrev μ-loop : tie.MeasureT-loop
-μ-loop table crc block sum₀ i₀ sum i = blockLength - i
+μ-loop table crc block sum₀ i₀ sum i = bytesAtOnce - i
 
 -- the start, from the loop
 abbrev start : tie.At-loop Inv-loop μ-loop → tie.Start Inv-loop μ-loop
@@ -24,7 +24,7 @@ loop-again : tie.Need-loop-again Inv-loop μ-loop
 loop-again c =
     let at = c .before .before .before in
     let block = start at .args .block .now in
-    let n : blockLength - 1 - at .loop .i + 1 ≡ length block - at .loop .i = omega (arith, start at .pre .1) in (
+    let n : bytesAtOnce - 1 - at .loop .i + 1 ≡ length block - at .loop .i = omega (arith, start at .pre .1) in (
       omega arith,
       omega arith,
       rw (c .shifted .ensures, n) (sym (sum-next block (at .loop .sum) (at .loop .i) (omega (arith, start at .pre .1)))) ∙ at .loop .inv .2,
@@ -35,7 +35,7 @@ returns c =
     let at = c .before .before .before in
     let block = start at .args .block .now in
     let n : at .loop .i ≡ length block = omega (arith, start at .pre .1, at .loop .inv) in
-    rw (c .shifted2 .ensures) (sum-all block (start at .args .crc) (at .loop .sum) blockLength (sym (start at .pre .1)) (omega arith) (rw (← n) (at .loop .inv .2)))
+    rw (c .shifted2 .ensures) (sum-all block (start at .args .crc) (at .loop .sum) bytesAtOnce (sym (start at .pre .1)) (omega arith) (rw (← n) (at .loop .inv .2)))
 
 pub crc-block-spec : {M : Type 1} → statement M
 crc-block-spec =

@@ -1,11 +1,11 @@
 -- The table by which the code computes the check byte.
 use Prim.Native.Nat.{ℕ, zero, suc, _+_, _*_, _/_, _%_, _^_}
 use mathlib.Core.List.{List, [], _∷_}
-use Rattle.uart.specs.CheckByte.{shifts}
+use Rattle.crc.specs.CheckByte.{shifts}
 
 -- bytes that are added at once
-abbrev pub blockLength : ℕ
-blockLength = 4
+abbrev pub bytesAtOnce : ℕ
+bytesAtOnce = 4
 
 -- f of the n numbers from i on
 unfoldable pub tableFrom : (ℕ → ℕ) → ℕ → ℕ → List ℕ
