@@ -6,7 +6,7 @@ use Prim.Native.Nat.{ℕ}
 use lib.ListN.{replicate}
 use Rattle.dpa.specs.Reply.{reply}
 use Rattle.checksum.specs.Sums.{addWithCarry, addByte, sums}
-use Rattle.checksum.specs.Blocks.{blockMax, pair, plainSums, reduce, blockSums}
+use Rattle.checksum.specs.Blocks.{blockMax, plain, pair, plainSums, reduce, blockSums}
 use Rattle.checksum.specs.Check.{blockSize, initialLow, imageError, imageMatches, codeCheck}
 
 -- 64 zeros at the start of external memory: with the load flag, without it, and with another checksum
@@ -27,7 +27,7 @@ pub record BlockExamples : Type 0 where
   pub low-full : blockSums (pair 255 0) (replicate blockMax 0) ≡ pair 255 255
   pub high-full : blockSums (pair 0 255) (replicate blockMax 0) ≡ pair 0 255
   pub one-byte : blockSums (pair 1 0) (0xFE ∷ []) ≡ pair 255 255
-  pub largest : plainSums (pair 255 255) (replicate blockMax 0xFF) ≡ pair 16575 546975
+  pub largest : plainSums (plain 255 255) (replicate blockMax 0xFF) ≡ plain 16575 546975
 
 -- the definitions give these sums
 pub block-examples : BlockExamples

@@ -18,7 +18,7 @@ use Rattle.uart.specs.declared.receiver.Receiver.{Receiver}
 use Rattle.crc.specs.CheckByte.{checkByte}
 use Rattle.uart.specs.Framing.{flag, escape, flipped, reserved, escaped, escapedAll, withCheckByte, betweenFlags, framed, shortest, frameOf}
 use Rattle.uart.specs.Receiver.{inFrame, receiverFrom, receiverOk, frame, dropped, eventFor, byteEvent}
-use Rattle.uart.specs.Stream.{Content, CauseOf, tooLong, good, content, nothingYet, addByte, addBytes, contentEvent, listed, heard, heardFrom}
+use Rattle.uart.specs.Stream.{Content, CauseOf, tooLong, good, content, nothingYet, unescapeByte, unescapeBytes, contentEvent, listed, heard, heardFrom}
 use Rattle.uart.specs.Serial.{written, messageHeard, GivesBack}
 use Rattle.uart.proofs.Escapes.{with-check-length, with-check-message, with-check-right}
 use Rattle.uart.proofs.Sending.{frame-accepted}
@@ -58,26 +58,26 @@ framed-flags m (suc i) h k =
     rw (List·getD-append inner (flag ∷ []) 0 i j) (all-at (λ (b : ℕ). b ≡ flag → ⊥) inner 0 i (inner-no-flag (withCheckByte m)) j)
 
 -- an escaped byte adds the byte
-add-escaped : (bytes : List ℕ) (b : ℕ) → addBytes (content bytes false) (escaped b) ≡ content (bytes ++ (b ∷ [])) false
-unfolding addByte fold
+add-escaped : (bytes : List ℕ) (b : ℕ) → unescapeBytes (content bytes false) (escaped b) ≡ content (bytes ++ (b ∷ [])) false
+unfolding unescapeByte fold
 add-escaped bytes b =
-    escaped-cases (λ (x : ℕ) (e : List ℕ). addBytes (content bytes false) e ≡ content (bytes ++ (x ∷ [])) false) refl refl
+    escaped-cases (λ (x : ℕ) (e : List ℕ). unescapeBytes (content bytes false) e ≡ content (bytes ++ (x ∷ [])) false) refl refl
     (λ x h k. rw (ne-eqb x escape k) refl)
     b
 
 -- an escaped message adds the message, after any bytes
-add-message : (m bytes : List ℕ) → addBytes (content bytes false) (escapedAll m) ≡ content (bytes ++ m) false
+add-message : (m bytes : List ℕ) → unescapeBytes (content bytes false) (escapedAll m) ≡ content (bytes ++ m) false
 unfolding escapedAll fold
 add-message [] bytes = rw append-nil refl
 add-message (b ∷ bs) bytes =
-    fold-append addByte (content bytes false) (escaped b) (escapedAll bs)
-    ∙ ap (λ (t : Content). addBytes t (escapedAll bs)) (add-escaped bytes b)
+    fold-append unescapeByte (content bytes false) (escaped b) (escapedAll bs)
+    ∙ ap (λ (t : Content). unescapeBytes t (escapedAll bs)) (add-escaped bytes b)
     ∙ add-message bs (bytes ++ (b ∷ []))
     ∙ ap (λ (xs : List ℕ). content xs false) (append-snoc bytes b bs)
 
 -- an escaped message adds the message, after any content that no escape ends
-pub unescaped : (m : List ℕ) (t : Content) → t .cut ≡ false → addBytes t (escapedAll m) ≡ content (t .bytes ++ m) false
-unescaped m t c = ap (λ (x : Bool). addBytes (content (t .bytes) x) (escapedAll m)) c ∙ add-message m (t .bytes)
+pub unescaped : (m : List ℕ) (t : Content) → t .cut ≡ false → unescapeBytes t (escapedAll m) ≡ content (t .bytes ++ m) false
+unescaped m t c = ap (λ (x : Bool). unescapeBytes (content (t .bytes) x) (escapedAll m)) c ∙ add-message m (t .bytes)
 
 -- ---- a framed message
 

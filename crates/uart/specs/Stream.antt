@@ -27,15 +27,15 @@ abbrev pub nothingYet : Content
 nothingYet = content [] false
 
 -- one more byte, not a flag
-unfoldable pub addByte : Content → ℕ → Content
-addByte t b =
+unfoldable pub unescapeByte : Content → ℕ → Content
+unescapeByte t b =
     cond (t .cut) (content (t .bytes ++ (flipped b ∷ [])) false)
     (cond (eqb b escape) (content (t .bytes) true)
     (content (t .bytes ++ (b ∷ [])) false))
 
 -- all bytes of a list
-abbrev pub addBytes : Content → List ℕ → Content
-addBytes t bytes = fold addByte t bytes
+abbrev pub unescapeBytes : Content → List ℕ → Content
+unescapeBytes t bytes = fold unescapeByte t bytes
 
 -- what the flag after a content ends; one with no byte at all is skipped
 unfoldable pub contentEvent : ℕ → Content → Event
@@ -64,7 +64,7 @@ unfoldable pub eventsAfter : ℕ → Content → List ℕ → List Event
 eventsAfter limit t [] = []
 eventsAfter limit t (b ∷ bs) =
     cond (eqb b flag) (listed (contentEvent limit t) ++ eventsAfter limit nothingYet bs)
-    (eventsAfter limit (addByte t b) bs)
+    (eventsAfter limit (unescapeByte t b) bs)
 
 -- the frames and drops of a stream: bytes before the first flag are skipped
 unfoldable pub streamEvents : ℕ → List ℕ → List Event
