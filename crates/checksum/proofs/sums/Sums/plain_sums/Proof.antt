@@ -22,9 +22,13 @@ Inv-loop block low₀ high₀ i₀ i-end low high i =
 abbrev μ-loop : tie.MeasureT-loop
 μ-loop block low₀ high₀ i₀ i-end low high i = length block - i
 
+-- the start, from the loop
+abbrev start : tie.At-loop Inv-loop μ-loop → tie.Start Inv-loop μ-loop
+start l = l .before .before .before
+
 -- the next byte of the block is a byte
 byte : (c : tie.After-shared-slice-known Inv-loop μ-loop)
-    → let l = c .before .before in getD (l .before .before .before .args .block .now) (l .loop .i) 0 < 256
+    → let l = c .before .before in getD (start l .args .block .now) (l .loop .i) 0 < 256
 byte c = c .shared-slice-known .given (c .before .before .loop .i) .fits
 
 loop-holds : tie.Need-loop-holds Inv-loop μ-loop
@@ -33,7 +37,7 @@ loop-holds c = (omega arith, omega arith, omega arith, refl)
 loop-again : tie.Need-loop-again Inv-loop μ-loop
 loop-again c =
     let l = c .before .before in
-    let block = l .before .before .before .args .block .now in (
+    let block = start l .args .block .now in (
       omega arith,
       omega (arith, byte c),
       omega (arith, byte c),
@@ -43,8 +47,8 @@ loop-again c =
 returns : tie.Need-returns Inv-loop μ-loop
 returns c =
     let l = c .before in
-    let a = l .before .before .before .args in
-    sym (plain-done (a .block .now) (plain (l .loop .low) (l .loop .high)) (l .loop .i) (c .loop-test .left)) ∙ l .loop .inv .3
+    let block = start l .args .block .now in
+    sym (plain-done block (plain (l .loop .low) (l .loop .high)) (l .loop .i) (c .loop-test .left)) ∙ l .loop .inv .3
 
 pub plain-sums-spec : {M : Type 1} → statement M
 plain-sums-spec =
