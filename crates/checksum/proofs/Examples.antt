@@ -28,10 +28,10 @@ pub record CheckErrors (external : List ℕ) : Type 0 where
   pub too-short : codeCheck external (4 ∷ 0xFF ∷ 0xFF ∷ 65 ∷ 0 ∷ 0 ∷ []) ≡ errorReply false 5
   pub too-many : codeCheck external (4 ∷ 0xFF ∷ 0xFF ∷ 65 ∷ 0 ∷ 0 ∷ 0 ∷ 0 ∷ []) ≡ errorReply false 5
   pub flag-bit-2 : codeCheck external (4 ∷ 0xFF ∷ 0xFF ∷ 65 ∷ 0 ∷ 0 ∷ 0 ∷ []) ≡ errorReply false 1
-  pub flag-bit-7 : codeCheck external (0x80 ∷ 0xFF ∷ 0xFF ∷ 65 ∷ 0 ∷ 0 ∷ 0 ∷ []) ≡ errorReply false 1
+  pub flag-bit-7 : codeCheck external (0x80 ∷ 0xFF ∷ 0xFF ∷ 0 ∷ 0 ∷ 0 ∷ 0 ∷ []) ≡ errorReply false 1
   pub no-bytes : codeCheck external (3 ∷ 0xFF ∷ 0xFF ∷ 0 ∷ 0 ∷ 0 ∷ 0 ∷ []) ≡ errorReply false 6
-  pub not-20s : codeCheck external (2 ∷ 0xFF ∷ 0xFF ∷ 64 ∷ 0 ∷ 0 ∷ 0 ∷ []) ≡ errorReply false 6
-  pub not-64s : codeCheck external (1 ∷ 0xFF ∷ 0xFF ∷ 20 ∷ 0 ∷ 0 ∷ 0 ∷ []) ≡ errorReply false 6
+  pub not-20s : codeCheck external (2 ∷ 0xFF ∷ 0xFF ∷ 10 ∷ 0 ∷ 0 ∷ 0 ∷ []) ≡ errorReply false 6
+  pub not-64s : codeCheck external (1 ∷ 0xFF ∷ 0xFF ∷ 32 ∷ 0 ∷ 0 ∷ 0 ∷ []) ≡ errorReply false 6
   pub outside : codeCheck external (0 ∷ 0xC1 ∷ 0x3F ∷ 64 ∷ 0 ∷ 0 ∷ 0 ∷ []) ≡ errorReply false 4
   -- an image may end where external memory ends
   pub at-end : imageError (imageOf (0 ∷ 0xC0 ∷ 0x3F ∷ 64 ∷ 0 ∷ 0 ∷ 0 ∷ [])) ≡ 0
