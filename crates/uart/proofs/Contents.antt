@@ -14,7 +14,7 @@ use Rattle.dpa.specs.Lists.{overwriteFront, All, fold}
 use Rattle.dpa.proofs.Bool.{by-cond, by-test, and-left, and-right}
 use Rattle.uart.specs.declared.receiver.Receiver.{Receiver}
 use Rattle.crc.specs.CheckByte.{checkByte}
-use Rattle.uart.specs.Framing.{flag, escape, flipped, shortest}
+use Rattle.framing.specs.Framing.{flag, escape, flipped, shortest}
 use Rattle.uart.specs.Receiver.{placeCount, beforeFlag, inFrame, afterEscape, receiverFrom, newReceiver, limitOk, receiverOk, Event, none, frame, dropped, dropCause, eventFor, frameEvent, begun, byteEvent, dataByte, stored, nextReceiver}
 use Rattle.uart.specs.Stream.{Content, CauseOf, tooLong, cutAfterEscape, short, wrongCheckByte, good, content, nothingYet, unescapeByte, unescapeBytes, contentEvent, listed, eventsAfter, streamEvents, heard, heardFrom}
 use Rattle.uart.proofs.Causes.{too-long, cut-off, too-short, right-check, wrong-check}

@@ -13,10 +13,10 @@ use Rattle.crc.specs.CheckByte.{checkByte}
 use Rattle.crc.proofs.Xor.{xor-cancel}
 use Rattle.crc.proofs.Changes.{check-byte, check-changed}
 use Rattle.uart.specs.declared.receiver.Receiver.{Receiver}
-use Rattle.uart.specs.Framing.{flag, withCheckByte, betweenFlags, shortest}
+use Rattle.framing.specs.Framing.{flag, withCheckByte, betweenFlags, shortest}
 use Rattle.uart.specs.Receiver.{receiverOk, Event, dropped, eventFor, byteEvent}
 use Rattle.uart.specs.Stream.{Heard, wrongCheckByte, content, contentEvent, listed, heardFrom}
-use Rattle.uart.proofs.Escapes.{with-check-length, with-check-right}
+use Rattle.framing.proofs.Escapes.{with-check-length, with-check-right}
 use Rattle.uart.proofs.Contents.{cause-event}
 use Rattle.uart.proofs.RoundTrips.{between-heard}
 

@@ -1,4 +1,4 @@
--- Worked examples: document 000, 2.3.2, and the limits, causes, answers and refusals of document 02, change 5.
+-- Worked examples of receiving: document 000, 2.3.2, and the limits, causes and answers of document 02, change 5.
 use mathlib.Core.Path.{_≡_, refl}
 use mathlib.Core.List.{List, [], _∷_, _++_}
 use mathlib.Core.Bool.{Bool, true, false}
@@ -7,18 +7,10 @@ use lib.ListN.{drop, replicate}
 use Rattle.dpa.specs.Lists.{fold}
 use Rattle.crc.specs.CheckByte.{shift, shifts, crcByte}
 use Rattle.crc.proofs.Examples.{guideMessage}
-use Rattle.uart.specs.Framing.{flag, escape, reserved, escaped, escapedAll, framed, frameOf}
+use Rattle.framing.proofs.Examples.{guideFramed}
+use Rattle.framing.specs.Framing.{flag, escape, reserved, escaped, escapedAll, framed}
 use Rattle.uart.specs.Receiver.{receiverFrom, newReceiver, limitOk, receiverOk, receiveFrom, receiveOf, Event, frame, dropped, dropCause, eventFor, begun, byteEvent, dataByte, stored, nextReceiver}
 use Rattle.uart.specs.Stream.{heardFrom}
-
--- ---- document 000: the message of the check byte's example, framed
-
-abbrev guideFramed : List ℕ
-guideFramed = 0x7E ∷ 0x2F ∷ 0x00 ∷ 0x05 ∷ 0x01 ∷ 0xFF ∷ 0xFF ∷ 0x00 ∷ 0x7D ∷ 0x5E ∷ 0x7D ∷ 0x5D ∷ 0x7D ∷ 0x5E ∷ 0x7E ∷ []
-
-pub guide-framed : framed guideMessage ≡ guideFramed
-unfolding shift shifts crcByte fold reserved escaped escapedAll
-guide-framed = refl
 
 -- ---- what a new receiver hears
 
@@ -129,17 +121,3 @@ record-tests = (refl, refl, refl, refl, refl)
 pub refused-record : (bs : List ℕ) → receiveOf (receiverFrom 63 0 0 (replicate 65 0)) bs .refusal ≡ 1
 unfolding limitOk receiverOk receiveOf
 refused-record bs = refl
-
--- ---- refusals of the sender: 2 before 11
-
-pub refused-lengths : (frameOf (replicate 5 0) [] .refusal ≡ 2) × (frameOf (replicate 65 0) [] .refusal ≡ 2)
-unfolding frameOf
-refused-lengths = (refl, refl)
-
-pub accepted-lengths : (frameOf (replicate 6 0) (replicate 132 0) .refusal ≡ 0) × (frameOf (replicate 64 0) (replicate 132 0) .refusal ≡ 0)
-unfolding shift shifts crcByte fold reserved escaped escapedAll frameOf
-accepted-lengths = (refl, refl)
-
-pub refused-room : (frameOf guideMessage (replicate 14 0) .refusal ≡ 11) × (frameOf guideMessage (replicate 15 0) .refusal ≡ 0)
-unfolding shift shifts crcByte fold reserved escaped escapedAll frameOf
-refused-room = (refl, refl)

@@ -1,5 +1,3 @@
-pub mod Escapes
-pub mod Sending
 pub mod Causes
 pub mod Receivers
 pub mod Receiving

@@ -16,12 +16,12 @@ use Rattle.dpa.proofs.Bool.{by-test}
 use Rattle.dpa.proofs.Lists.{fold-append}
 use Rattle.uart.specs.declared.receiver.Receiver.{Receiver}
 use Rattle.crc.specs.CheckByte.{checkByte}
-use Rattle.uart.specs.Framing.{flag, escape, flipped, reserved, escaped, escapedAll, withCheckByte, betweenFlags, framed, shortest, frameOf}
+use Rattle.framing.specs.Framing.{flag, escape, flipped, reserved, escaped, escapedAll, withCheckByte, betweenFlags, framed, shortest, frameOf}
 use Rattle.uart.specs.Receiver.{inFrame, receiverFrom, receiverOk, frame, dropped, eventFor, byteEvent}
 use Rattle.uart.specs.Stream.{Content, CauseOf, tooLong, good, content, nothingYet, unescapeByte, unescapeBytes, contentEvent, listed, heard, heardFrom}
 use Rattle.uart.specs.Serial.{written, messageHeard, GivesBack}
-use Rattle.uart.proofs.Escapes.{with-check-length, with-check-message, with-check-right}
-use Rattle.uart.proofs.Sending.{frame-accepted}
+use Rattle.framing.proofs.Escapes.{with-check-length, with-check-message, with-check-right}
+use Rattle.framing.proofs.Sending.{frame-accepted}
 use Rattle.uart.proofs.Receivers.{limit-range, receiver-facts}
 use Rattle.uart.proofs.Streams.{heard-append, however-cut}
 use Rattle.uart.proofs.Contents.{cause-event, holding, holding-flag, holding-event, ended-record, no-flag-heard}

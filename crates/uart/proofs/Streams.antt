@@ -12,7 +12,7 @@ use Rattle.dpa.specs.Lists.{All}
 use Rattle.dpa.proofs.Bool.{by-cond, by-test}
 use Rattle.uart.specs.declared.receiver.Receiver.{Receiver}
 use Rattle.crc.specs.CheckByte.{checkByte}
-use Rattle.uart.specs.Framing.{flag, shortest, longest}
+use Rattle.framing.specs.Framing.{flag, shortest, longest}
 use Rattle.uart.specs.Receiver.{afterEscape, receiverOk, dropCause, eventFor, frameEvent, begun, Event, none, frame, dropped, byteEvent, nextReceiver, Received, isNone, receiveFrom, eventAnswer, receivedAnswer, receiveOf}
 use Rattle.uart.specs.Stream.{listed, heard, heardBefore, heardFrom, answerEvent, heardAfter, heardByCalls, heardByParts, callsOn}
 use Rattle.uart.specs.Serial.{HoweverCut}

@@ -1,4 +1,3 @@
-pub mod Framing
 pub mod Receiver
 pub mod Stream
 pub mod Serial

@@ -9,7 +9,7 @@ use Rattle.dpa.specs.Lists.{overwriteFront}
 use Rattle.uart.specs.declared.receiver.Receiver.{Receiver}
 use Rattle.uart.specs.declared.receiver.ReceiveAnswer.{ReceiveAnswer}
 use Rattle.crc.specs.CheckByte.{checkByte}
-use Rattle.uart.specs.Framing.{flag, escape, flipped, shortest, longest}
+use Rattle.framing.specs.Framing.{flag, escape, flipped, shortest, longest}
 
 -- ---- the record
 

@@ -7,7 +7,7 @@ use lib.ListN.{length, take}
 use Rattle.dpa.specs.Answer.{LengthResult}
 use Rattle.dpa.specs.Lists.{All, overwriteFront}
 use Rattle.uart.specs.declared.receiver.Receiver.{Receiver}
-use Rattle.uart.specs.Framing.{flag, withCheckByte, framed, shortest, frameOf}
+use Rattle.framing.specs.Framing.{flag, withCheckByte, framed, shortest, frameOf}
 use Rattle.uart.specs.Receiver.{inFrame, receiverFrom, receiverOk, frame, byteEvent}
 use Rattle.uart.specs.Stream.{Heard, heard, heardBefore, listed, heardFrom, heardByParts, callsOn}
 

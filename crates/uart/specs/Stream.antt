@@ -10,7 +10,7 @@ use Rattle.dpa.specs.Lists.{fold}
 use Rattle.uart.specs.declared.receiver.Receiver.{Receiver}
 use Rattle.uart.specs.declared.receiver.ReceiveAnswer.{ReceiveAnswer}
 use Rattle.crc.specs.CheckByte.{checkByte}
-use Rattle.uart.specs.Framing.{flag, escape, flipped, shortest}
+use Rattle.framing.specs.Framing.{flag, escape, flipped, shortest}
 use Rattle.uart.specs.Receiver.{Event, none, frame, dropped, frameEvent, byteEvent, nextReceiver, receiveOf}
 
 -- ---- between two flags, without a receiver
