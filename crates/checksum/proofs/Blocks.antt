@@ -11,8 +11,9 @@ use borrow.Author.Tests.{eqb-true, eqb-false}
 use Rattle.dpa.specs.Lists.{Bytes}
 use Rattle.dpa.proofs.Bool.{by-cond}
 use Rattle.checksum.specs.declared.sums.Sums.{Sums}
+use Rattle.checksum.specs.declared.sums.PlainSums.{PlainSums}
 use Rattle.checksum.specs.Sums.{byteMax, addWithCarry, addByte, sums}
-use Rattle.checksum.specs.Blocks.{addPlain, plainSums, reduce, reduceSums, blockSums}
+use Rattle.checksum.specs.Blocks.{plainly, addPlain, plainSums, reduce, reduceSums, blockSums}
 use Rattle.checksum.proofs.Fletcher.{add-with-carry-byte, add-with-carry-remainder, add-with-carry-zero}
 
 -- a reduced sum is a byte
@@ -69,14 +70,14 @@ reduce-add x y =
         rw (p, q, byte-stays 0 (omega arith)) zero-sum
 
 -- one byte added to reduced sums
-byte-added : (s : Sums) (b : ℕ) → b < 256 → addByte (reduceSums s) b ≡ reduceSums (addPlain s b)
+byte-added : (s : PlainSums) (b : ℕ) → b < 256 → addByte (reduceSums s) b ≡ reduceSums (addPlain s b)
 unfolding addByte
 byte-added s b h =
     let l : addWithCarry (reduce (s .low)) b ≡ reduce (s .low + b) = ap (addWithCarry (reduce (s .low))) (sym (byte-stays b h)) ∙ reduce-add (s .low) b in
     rw (l, reduce-add (s .high) (s .low + b))
 
 -- all bytes of a block added to reduced sums
-plain-reduced : (s : Sums) (block : List ℕ) → Bytes block → sums (reduceSums s) block ≡ blockSums s block
+plain-reduced : (s : PlainSums) (block : List ℕ) → Bytes block → sums (reduceSums s) block ≡ reduceSums (plainSums s block)
 unfolding sums plainSums
 plain-reduced s [] k = refl
 plain-reduced s (b ∷ bs) k = ap (λ (t : Sums). sums t bs) (byte-added s b (k 0)) ∙ plain-reduced (addPlain s b) bs (λ i. k (suc i))
@@ -84,16 +85,16 @@ plain-reduced s (b ∷ bs) k = ap (λ (t : Sums). sums t bs) (byte-added s b (k 
 -- from any two bytes, over any bytes, the plain sums reduced once are the sums of document 01
 pub block-sums : (s : Sums) (block : List ℕ) → s .low < 256 → s .high < 256 → Bytes block → sums s block ≡ blockSums s block
 block-sums s block l h k =
-    let e : reduceSums s ≡ s = rw (byte-stays (s .low) l, byte-stays (s .high) h) in
-    ap (λ (t : Sums). sums t block) (sym e) ∙ plain-reduced s block k
+    let e : reduceSums (plainly s) ≡ s = rw (byte-stays (s .low) l, byte-stays (s .high) h) in
+    ap (λ (t : Sums). sums t block) (sym e) ∙ plain-reduced (plainly s) block k
 
 -- the bytes still to add plainly, after one more
-pub plain-next : (block : List ℕ) (s : Sums) (i : ℕ) → i < length block
+pub plain-next : (block : List ℕ) (s : PlainSums) (i : ℕ) → i < length block
     → plainSums s (drop i block) ≡ plainSums (addPlain s (getD block i 0)) (drop (i + 1) block)
 unfolding plainSums
 plain-next block s i h = rw (add-one, drop-cons block i 0)
 
 -- no bytes are left to add plainly
-pub plain-done : (block : List ℕ) (s : Sums) (i : ℕ) → length block ≤ i → plainSums s (drop i block) ≡ s
+pub plain-done : (block : List ℕ) (s : PlainSums) (i : ℕ) → length block ≤ i → plainSums s (drop i block) ≡ s
 unfolding plainSums
 plain-done block s i h = rw (drop-of-length-le block {i = i} h)

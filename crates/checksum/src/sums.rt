@@ -4,7 +4,7 @@ ghost use mathlib.Core.Path.{_≡_};
 ghost use Prim.Native.Nat.{_≤_};
 ghost use lib.ListN.{length};
 ghost use Rattle.checksum.specs.Sums.{sums, start};
-ghost use Rattle.checksum.specs.Blocks.{blockMax, reduce};
+ghost use Rattle.checksum.specs.Blocks.{blockMax, plainly, plainSums, reduce};
 
 // The most bytes between two reductions. The high sum then needs 20 bits.
 const BLOCK_MAX: usize = 64;
@@ -12,6 +12,12 @@ const BLOCK_MAX: usize = 64;
 pub struct Sums {
     pub low: u8,
     pub high: u8,
+}
+
+// Sums without carries.
+struct PlainSums {
+    low: u32,
+    high: u32,
 }
 
 // Reduces a plain sum modulo 255 to a byte: 0 for 0, otherwise 1 to 255. Other multiples of 255 give 255, as they do with carries.
@@ -35,10 +41,10 @@ impl Sums {
         }
     }
 
-    // Adds each byte to the low sum and each new low sum to the high sum, without carries, then reduces both.
-    fn add_block(self, block: &[u8]) -> Sums
+    // Adds each byte to the low sum and each new low sum to the high sum, without carries.
+    fn plain_sums(self, block: &[u8]) -> PlainSums
         requires { ⌜ length (now block) ≤ blockMax ⌝ }
-        ensures { λ r. ⌜ r ≡ sums self (now (block .entry)) ⌝ }
+        ensures { λ r. ⌜ r ≡ plainSums (plainly self) (now (block .entry)) ⌝ }
     {
         let mut low = self.low as u32;
         let mut high = self.high as u32;
@@ -46,9 +52,18 @@ impl Sums {
             low += block[i] as u32;
             high += low;
         }
+        PlainSums { low, high }
+    }
+
+    // Adds a block: plain sums, reduced once.
+    fn add_block(self, block: &[u8]) -> Sums
+        requires { ⌜ length (now block) ≤ blockMax ⌝ }
+        ensures { λ r. ⌜ r ≡ sums self (now (block .entry)) ⌝ }
+    {
+        let plain = self.plain_sums(block);
         Sums {
-            low: reduce(low),
-            high: reduce(high),
+            low: reduce(plain.low),
+            high: reduce(plain.high),
         }
     }
 }

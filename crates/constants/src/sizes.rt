@@ -9,6 +9,8 @@ use book::step::STEPS_MAX;
 use desk::record::DESK_SIZE;
 use dpa::frame::Frame;
 use dpa::node_set::NODE_SET_SIZE;
+use framing::frame::LONGEST;
+use framing::frame::LONGEST_FRAMED;
 use gateway::record::BONDS_SIZE;
 use lights::lamp::LAMPS;
 use lights::power::BITMAP_SIZE;
@@ -20,8 +22,6 @@ use timing::confirm::AT_HOPS;
 use timing::confirm::AT_RESPONSE_HOPS;
 use timing::confirm::AT_TIMESLOT;
 use timing::confirm::CONFIRMATION_LENGTH;
-use uart::framing::LONGEST;
-use uart::framing::LONGEST_FRAMED;
 
 pub fn counts() {
     print(b"LAMPS", LAMPS as u64);

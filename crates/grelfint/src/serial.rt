@@ -6,7 +6,7 @@ use uart::receiver::Receiver;
 use uart::receiver::new_receiver;
 ghost use mathlib.Core.Path.{_≡_};
 ghost use Rattle.dpa.specs.Answer.{lengthResult};
-ghost use Rattle.uart.specs.Framing.{frameOf};
+ghost use Rattle.framing.specs.Framing.{frameOf};
 ghost use Rattle.uart.specs.Receiver.{newReceiver, receiveOf};
 
 #[no_mangle]
@@ -27,5 +27,5 @@ pub extern "C" fn grelfint_uart_receive(receiver: Receiver, bytes: &[u8]) -> Rec
 pub extern "C" fn grelfint_uart_frame(frame: &[u8], out: &mut [u8]) -> LengthAnswer
     ensures { λ r. ⌜ lengthResult r (now (out .exit)) ≡ frameOf (now (frame .entry)) (now (out .entry)) ⌝ }
 {
-    uart::framing::frame(frame, out)
+    framing::frame::frame(frame, out)
 }

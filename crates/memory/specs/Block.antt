@@ -45,7 +45,7 @@ writeCommand Memory.External = 3
 
 -- The block rule: too long; then outside, when the block starts at or past the size or ends past it; else 0.
 -- Requests (5, 4) and the view (15, 16) share the rule and differ only in the two numbers.
-unfoldable pub blockFault : ℕ → ℕ → ℕ → ℕ → ℕ → ℕ → ℕ
+unfoldable pub blockFault : (size longest start n tooLong outside : ℕ) → ℕ
 blockFault size longest start n tooLong outside =
     cond (ltb longest n) tooLong
     (cond (leb size start) outside

@@ -14,7 +14,7 @@ abbrev pub blockRefusal : Memory → ℕ → ℕ → ℕ
 blockRefusal m start n = blockFault (sizeOf m) (longestOf m) start n 15 16
 
 -- 4 for a memory of the wrong size, then 10 for a PNUM that is neither EEPROM nor external memory, then the block rule
-unfoldable pub viewStatus : List ℕ → List ℕ → ℕ → ℕ → ℕ → ℕ
+unfoldable pub viewStatus : (eeprom external : List ℕ) (pnum start n : ℕ) → ℕ
 viewStatus eeprom external pnum start n =
     cond (eqb (length eeprom) (sizeOf Memory.Eeprom))
     (cond (eqb (length external) (sizeOf Memory.External))
@@ -25,7 +25,7 @@ viewStatus eeprom external pnum start n =
     4
 
 -- the bytes that the view asks for; none if it is refused
-unfoldable pub viewBytes : List ℕ → List ℕ → ℕ → ℕ → ℕ → List ℕ
+unfoldable pub viewBytes : (eeprom external : List ℕ) (pnum start n : ℕ) → List ℕ
 viewBytes eeprom external pnum start n =
     cond (eqb (viewStatus eeprom external pnum start n) 0)
     (cond (eqb pnum (memoryPnum Memory.Eeprom)) (slice eeprom start n) (slice external start n))
@@ -37,7 +37,7 @@ placeIn bytes start = (ptr bytes .0, start + ptr bytes .1)
 
 -- where the returned slice starts: in the memory that the PNUM selects, even if the slice is empty; at the start of EEPROM if the
 -- view is refused
-unfoldable pub viewPlace : RefT (List ℕ) → RefT (List ℕ) → ℕ → ℕ → ℕ → ℕ × ℕ
+unfoldable pub viewPlace : (eeprom external : RefT (List ℕ)) (pnum start n : ℕ) → ℕ × ℕ
 viewPlace eeprom external pnum start n =
     cond (eqb (viewStatus (now eeprom) (now external) pnum start n) 0)
     (cond (eqb pnum (memoryPnum Memory.Eeprom)) (placeIn eeprom start) (placeIn external start))

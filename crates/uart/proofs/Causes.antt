@@ -10,8 +10,8 @@ use lib.Seq.{take-length, length-take-le}
 use borrow.Author.Tests.{ltb-false, lt-ltb, le-ltb, eq-eqb, ne-eqb}
 use Rattle.dpa.proofs.Bool.{else-taken, by-cond}
 use Rattle.uart.specs.declared.receiver.Receiver.{Receiver}
-use Rattle.uart.specs.CheckByte.{checkByte}
-use Rattle.uart.specs.Framing.{shortest, longest}
+use Rattle.crc.specs.CheckByte.{checkByte}
+use Rattle.framing.specs.Framing.{shortest, longest}
 use Rattle.uart.specs.Receiver.{Event, isNone, dropCause, eventFor, frameEvent, receiveAnswer, eventAnswer}
 
 module _ (limit n : ℕ) (cut : Bool) (bytes : List ℕ) where

@@ -13,10 +13,10 @@ use lib.Seq.{length-take-le, take-all, take-at, take-nil, take-append-le, drop-c
 use Rattle.dpa.specs.Lists.{overwriteFront, All, fold}
 use Rattle.dpa.proofs.Bool.{by-cond, by-test, and-left, and-right}
 use Rattle.uart.specs.declared.receiver.Receiver.{Receiver}
-use Rattle.uart.specs.CheckByte.{checkByte}
-use Rattle.uart.specs.Framing.{flag, escape, flipped, shortest}
+use Rattle.crc.specs.CheckByte.{checkByte}
+use Rattle.framing.specs.Framing.{flag, escape, flipped, shortest}
 use Rattle.uart.specs.Receiver.{placeCount, beforeFlag, inFrame, afterEscape, receiverFrom, newReceiver, limitOk, receiverOk, Event, none, frame, dropped, dropCause, eventFor, frameEvent, begun, byteEvent, dataByte, stored, nextReceiver}
-use Rattle.uart.specs.Stream.{Content, CauseOf, tooLong, cutAfterEscape, short, wrongCheckByte, good, content, nothingYet, addByte, addBytes, contentEvent, listed, eventsAfter, streamEvents, heard, heardFrom}
+use Rattle.uart.specs.Stream.{Content, CauseOf, tooLong, cutAfterEscape, short, wrongCheckByte, good, content, nothingYet, unescapeByte, unescapeBytes, contentEvent, listed, eventsAfter, streamEvents, heard, heardFrom}
 use Rattle.uart.proofs.Causes.{too-long, cut-off, too-short, right-check, wrong-check}
 use Rattle.uart.proofs.Receivers.{limit-range, receiver-facts, new-sound}
 use Rattle.uart.proofs.Receiving.{no-flag-event, idle-event, next-before}
@@ -158,11 +158,11 @@ module _ (limit : ℕ) (ok : limitOk limit ≡ true) where
         rw (e, c, m, take-all (limit + 1) bytes (omega arith), take-all (limit + 1) (bytes ++ (d ∷ [])) (omega arith), set-front bytes old d (omega arith)) refl)
 
     -- a byte other than a flag is added to what is held
-    pub holding-next : (t : Content) (b : ℕ) → (b ≡ flag → ⊥) → nextReceiver (holding limit t old) b ≡ holding limit (addByte t b) old
-    unfolding nextReceiver dataByte holding addByte
+    pub holding-next : (t : Content) (b : ℕ) → (b ≡ flag → ⊥) → nextReceiver (holding limit t old) b ≡ holding limit (unescapeByte t b) old
+    unfolding nextReceiver dataByte holding unescapeByte
     holding-next t b h = at (t .cut)
       where
-        at : (c : Bool) → nextReceiver (holding limit (content (t .bytes) c) old) b ≡ holding limit (addByte (content (t .bytes) c) b) old
+        at : (c : Bool) → nextReceiver (holding limit (content (t .bytes) c) old) b ≡ holding limit (unescapeByte (content (t .bytes) c) b) old
         at true = rw (ne-eqb b flag h) (holding-stored (t .bytes) true (flipped b))
         at false =
             by-test (eqb b escape)
@@ -186,15 +186,15 @@ module _ (limit : ℕ) (ok : limitOk limit ≡ true) where
       (λ e.
       let h = eqb-false b flag e in
       rw (e, no-flag-event (holding limit t old) b h, holding-next old places t b h)
-      (stream-heard (addByte t b) old places bs))
+      (stream-heard (unescapeByte t b) old places bs))
 
   -- bytes without a flag only add to what is held
   pub no-flag-heard : (t : Content) (old : List ℕ) → length old ≡ placeCount → (bs : List ℕ) → All (λ (b : ℕ). b ≡ flag → ⊥) bs
-      → heardFrom (holding limit t old) bs ≡ heard [] (holding limit (addBytes t bs) old)
+      → heardFrom (holding limit t old) bs ≡ heard [] (holding limit (unescapeBytes t bs) old)
   unfolding heardFrom fold
   no-flag-heard t old places [] a = refl
   no-flag-heard t old places (b ∷ bs) a =
-      rw (no-flag-event (holding limit t old) b (a .0), holding-next old places t b (a .0), no-flag-heard (addByte t b) old places bs (a .1))
+      rw (no-flag-event (holding limit t old) b (a .0), holding-next old places t b (a .0), no-flag-heard (unescapeByte t b) old places bs (a .1))
       refl
 
 -- ---- any sound receiver in a frame

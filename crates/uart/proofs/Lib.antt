@@ -1,7 +1,3 @@
-pub mod Xor
-pub mod CheckBytes
-pub mod Escapes
-pub mod Sending
 pub mod Causes
 pub mod Receivers
 pub mod Receiving

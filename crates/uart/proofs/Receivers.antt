@@ -9,7 +9,7 @@ use lib.Dec.{eqb, ltb, leb}
 use lib.ListN.{length, set, length-set}
 use Rattle.dpa.proofs.Bool.{and-left, and-right, both, by-cond, by-test}
 use Rattle.uart.specs.declared.receiver.Receiver.{Receiver}
-use Rattle.uart.specs.Framing.{flag, escape}
+use Rattle.framing.specs.Framing.{flag, escape}
 use Rattle.uart.specs.Receiver.{gatewayLimit, nodeLimit, placeCount, beforeFlag, inFrame, afterEscape, receiverFrom, newReceiver, limitOk, receiverOk, ReceiverRule, Event, none, frame, dropped, isNone, byteEvent, stored, nextReceiver, dataByte, Received, receiveFrom, receiveAnswer, eventAnswer, receivedAnswer, receiveOf}
 
 -- a valid limit lies between those of a node and of a gateway

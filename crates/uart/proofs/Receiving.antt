@@ -11,7 +11,7 @@ use lib.Seq.{drop-cons}
 use borrow.Author.Tests.{eqb-true, eq-eqb, ne-eqb, lt-ltb, le-ltb, not-false}
 use Rattle.dpa.proofs.Bool.{by-cond}
 use Rattle.uart.specs.declared.receiver.Receiver.{Receiver}
-use Rattle.uart.specs.Framing.{flag}
+use Rattle.framing.specs.Framing.{flag}
 use Rattle.uart.specs.Receiver.{beforeFlag, inFrame, afterEscape, receiverFrom, receiverOk, ReceiverRule, Event, none, isNone, frameEvent, begun, byteEvent, dataByte, stored, startsEscape, nextReceiver, Received, received, takenBefore, receiveFrom, receivedAnswer, receiveAnswer, eventAnswer, receiveOf}
 use Rattle.uart.proofs.Receivers.{receiver-facts, next-rule, call-answer}
 

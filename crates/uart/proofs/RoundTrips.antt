@@ -7,20 +7,23 @@ use Prim.Native.Nat.{ℕ, zero, suc, _+_, _-_, _≤_, _<_}
 use native.Mathlib.Omega.{arith}
 use borrow.Author.Tests.{ne-eqb, eqb-true, eqb-false}
 use lib.Dec.{eqb}
-use lib.ListN.{length, getD, take, length-append, List·getD-append}
-use lib.Seq.{take-all, take-append-le, append-snoc}
+use lib.ListN.{length, getD, take, drop, length-append, List·getD-append}
+use lib.Seq.{take-all, take-append-le, take-append-seam, append-snoc}
+use Rattle.dpa.specs.Answer.{LengthResult}
 use Rattle.dpa.specs.Lists.{overwriteFront, All, fold}
 use Rattle.dpa.proofs.All.{all-append, all-at}
 use Rattle.dpa.proofs.Bool.{by-test}
 use Rattle.dpa.proofs.Lists.{fold-append}
 use Rattle.uart.specs.declared.receiver.Receiver.{Receiver}
-use Rattle.uart.specs.CheckByte.{checkByte}
-use Rattle.uart.specs.Framing.{flag, escape, flipped, reserved, escaped, escapedAll, withCheckByte, betweenFlags, framed, shortest}
+use Rattle.crc.specs.CheckByte.{checkByte}
+use Rattle.framing.specs.Framing.{flag, escape, flipped, reserved, escaped, escapedAll, withCheckByte, betweenFlags, framed, shortest, frameOf}
 use Rattle.uart.specs.Receiver.{inFrame, receiverFrom, receiverOk, frame, dropped, eventFor, byteEvent}
-use Rattle.uart.specs.Stream.{Content, CauseOf, tooLong, good, content, nothingYet, addByte, addBytes, contentEvent, listed, heard, heardFrom}
-use Rattle.uart.proofs.Escapes.{with-check-length, with-check-message, with-check-right}
-use Rattle.uart.proofs.Receivers.{receiver-facts}
-use Rattle.uart.proofs.Streams.{heard-append}
+use Rattle.uart.specs.Stream.{Content, CauseOf, tooLong, good, content, nothingYet, unescapeByte, unescapeBytes, contentEvent, listed, heard, heardFrom}
+use Rattle.uart.specs.Serial.{written, messageHeard, GivesBack}
+use Rattle.framing.proofs.Escapes.{with-check-length, with-check-message, with-check-right}
+use Rattle.framing.proofs.Sending.{frame-accepted}
+use Rattle.uart.proofs.Receivers.{limit-range, receiver-facts}
+use Rattle.uart.proofs.Streams.{heard-append, however-cut}
 use Rattle.uart.proofs.Contents.{cause-event, holding, holding-flag, holding-event, ended-record, no-flag-heard}
 
 -- ---- escaped bytes
@@ -55,26 +58,26 @@ framed-flags m (suc i) h k =
     rw (List·getD-append inner (flag ∷ []) 0 i j) (all-at (λ (b : ℕ). b ≡ flag → ⊥) inner 0 i (inner-no-flag (withCheckByte m)) j)
 
 -- an escaped byte adds the byte
-add-escaped : (bytes : List ℕ) (b : ℕ) → addBytes (content bytes false) (escaped b) ≡ content (bytes ++ (b ∷ [])) false
-unfolding addByte fold
+add-escaped : (bytes : List ℕ) (b : ℕ) → unescapeBytes (content bytes false) (escaped b) ≡ content (bytes ++ (b ∷ [])) false
+unfolding unescapeByte fold
 add-escaped bytes b =
-    escaped-cases (λ (x : ℕ) (e : List ℕ). addBytes (content bytes false) e ≡ content (bytes ++ (x ∷ [])) false) refl refl
+    escaped-cases (λ (x : ℕ) (e : List ℕ). unescapeBytes (content bytes false) e ≡ content (bytes ++ (x ∷ [])) false) refl refl
     (λ x h k. rw (ne-eqb x escape k) refl)
     b
 
 -- an escaped message adds the message, after any bytes
-add-message : (m bytes : List ℕ) → addBytes (content bytes false) (escapedAll m) ≡ content (bytes ++ m) false
+add-message : (m bytes : List ℕ) → unescapeBytes (content bytes false) (escapedAll m) ≡ content (bytes ++ m) false
 unfolding escapedAll fold
 add-message [] bytes = rw append-nil refl
 add-message (b ∷ bs) bytes =
-    fold-append addByte (content bytes false) (escaped b) (escapedAll bs)
-    ∙ ap (λ (t : Content). addBytes t (escapedAll bs)) (add-escaped bytes b)
+    fold-append unescapeByte (content bytes false) (escaped b) (escapedAll bs)
+    ∙ ap (λ (t : Content). unescapeBytes t (escapedAll bs)) (add-escaped bytes b)
     ∙ add-message bs (bytes ++ (b ∷ []))
     ∙ ap (λ (xs : List ℕ). content xs false) (append-snoc bytes b bs)
 
 -- an escaped message adds the message, after any content that no escape ends
-pub unescaped : (m : List ℕ) (t : Content) → t .cut ≡ false → addBytes t (escapedAll m) ≡ content (t .bytes ++ m) false
-unescaped m t c = ap (λ (x : Bool). addBytes (content (t .bytes) x) (escapedAll m)) c ∙ add-message m (t .bytes)
+pub unescaped : (m : List ℕ) (t : Content) → t .cut ≡ false → unescapeBytes t (escapedAll m) ≡ content (t .bytes ++ m) false
+unescaped m t c = ap (λ (x : Bool). unescapeBytes (content (t .bytes) x) (escapedAll m)) c ∙ add-message m (t .bytes)
 
 -- ---- a framed message
 
@@ -94,7 +97,7 @@ between-heard r bytes e =
 module _ (r : Receiver) (m : List ℕ) (e : receiverOk r ≡ true) where
   -- a message of 6 bytes up to the limit comes out as it went in
   pub round-trip : shortest ≤ length m → length m ≤ r .limit
-      → heardFrom r (framed m) ≡ heard (listed (byteEvent r flag) ++ (frame m ∷ [])) (receiverFrom (r .limit) inFrame 0 (overwriteFront (withCheckByte m) (r .bytes)))
+      → heardFrom r (framed m) ≡ messageHeard r m
   unfolding eventFor
   round-trip h k =
       let n = with-check-length m in
@@ -112,3 +115,16 @@ module _ (r : Receiver) (m : List ℕ) (e : receiverOk r ≡ true) where
       let n = with-check-length m in
       let v : contentEvent (r .limit) (content (withCheckByte m) false) ≡ dropped 1 = cause-event (r .limit) _ 1 (tooLong refl (omega arith)) (λ e. omega arith) in
       between-heard r (withCheckByte m) e ∙ rw (v, take-append-le (r .limit + 1) m (checkByte m ∷ []) (omega arith)) refl
+
+-- framing and then receiving gives back each frame
+pub given-back : GivesBack
+given-back r m o e h k room =
+    let f = frame-accepted m o h (omega (arith, limit-range (r .limit) (receiver-facts r e .limit-ok))) room in
+    let w : written (frameOf m o) ≡ framed m = ap written f ∙ take-append-seam (framed m) (drop (length (framed m)) o) in
+    let c = however-cut r (written (frameOf m o)) e in
+    let b : heardFrom r (written (frameOf m o)) ≡ messageHeard r m = ap (heardFrom r) w ∙ round-trip r m e h k in
+    record {
+      accepted = ap (λ (x : LengthResult). x .refusal) f;
+      parts = λ ps j. c .parts ps j ∙ b;
+      calls = λ sizes z. c .whole sizes z ∙ b;
+    }

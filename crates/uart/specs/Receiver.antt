@@ -8,8 +8,8 @@ use lib.Dec.{eqb, ltb, leb}
 use Rattle.dpa.specs.Lists.{overwriteFront}
 use Rattle.uart.specs.declared.receiver.Receiver.{Receiver}
 use Rattle.uart.specs.declared.receiver.ReceiveAnswer.{ReceiveAnswer}
-use Rattle.uart.specs.CheckByte.{checkByte}
-use Rattle.uart.specs.Framing.{flag, escape, flipped, shortest, longest}
+use Rattle.crc.specs.CheckByte.{checkByte}
+use Rattle.framing.specs.Framing.{flag, escape, flipped, shortest, longest}
 
 -- ---- the record
 
@@ -34,7 +34,7 @@ inFrame = 1
 abbrev pub afterEscape : ℕ
 afterEscape = 2
 
-abbrev pub receiverFrom : ℕ → ℕ → ℕ → List ℕ → Receiver
+abbrev pub receiverFrom : (limit phase count : ℕ) → List ℕ → Receiver
 receiverFrom limit phase count bytes = record { limit = limit; phase = phase; count = count; bytes = bytes }
 
 -- `new_receiver`
@@ -70,7 +70,7 @@ pub data Event : Type 0 where
 
 -- Why a frame is dropped, the first of 1 too long, 2 cut after an escape, 3 short, 4 check byte; 0 for a good frame.
 -- n bytes of it came, with the check byte; the first ones, up to the limit and the check byte, stand in bytes.
-unfoldable pub dropCause : ℕ → ℕ → Bool → List ℕ → ℕ
+unfoldable pub dropCause : (limit n : ℕ) (cut : Bool) → List ℕ → ℕ
 dropCause limit n cut bytes =
     cond (ltb (limit + 1) n) 1
     (cond cut 2
@@ -79,11 +79,11 @@ dropCause limit n cut bytes =
     4)))
 
 -- the event for a cause; a good frame is handed out without its check byte
-unfoldable pub eventFor : ℕ → ℕ → List ℕ → Event
+unfoldable pub eventFor : (cause n : ℕ) → List ℕ → Event
 eventFor cause n bytes = cond (eqb cause 0) (frame (take (n - 1) bytes)) (dropped cause)
 
 -- the event of a frame of which n bytes came
-abbrev pub frameEvent : ℕ → ℕ → Bool → List ℕ → Event
+abbrev pub frameEvent : (limit n : ℕ) (cut : Bool) → List ℕ → Event
 frameEvent limit n cut bytes = eventFor (dropCause limit n cut bytes) n bytes
 
 -- a frame has begun: an escape or a byte came since the last flag
@@ -152,7 +152,7 @@ receiveFrom r (b ∷ bs) =
     cond (isNone (byteEvent r b)) (takenBefore 1 (receiveFrom (nextReceiver r b) bs))
     (received (byteEvent r b) 1 (nextReceiver r b))
 
-abbrev pub receiveAnswer : ℕ → ℕ → ℕ → ℕ → List ℕ → Receiver → ReceiveAnswer
+abbrev pub receiveAnswer : (refusal event cause taken : ℕ) → List ℕ → Receiver → ReceiveAnswer
 receiveAnswer refusal event cause taken message r =
     record {
       refusal = refusal;

@@ -9,8 +9,8 @@ use lib.Dec.{eqb}
 use Rattle.dpa.specs.Lists.{fold}
 use Rattle.uart.specs.declared.receiver.Receiver.{Receiver}
 use Rattle.uart.specs.declared.receiver.ReceiveAnswer.{ReceiveAnswer}
-use Rattle.uart.specs.CheckByte.{checkByte}
-use Rattle.uart.specs.Framing.{flag, escape, flipped, shortest}
+use Rattle.crc.specs.CheckByte.{checkByte}
+use Rattle.framing.specs.Framing.{flag, escape, flipped, shortest}
 use Rattle.uart.specs.Receiver.{Event, none, frame, dropped, frameEvent, byteEvent, nextReceiver, receiveOf}
 
 -- ---- between two flags, without a receiver
@@ -27,15 +27,15 @@ abbrev pub nothingYet : Content
 nothingYet = content [] false
 
 -- one more byte, not a flag
-unfoldable pub addByte : Content → ℕ → Content
-addByte t b =
+unfoldable pub unescapeByte : Content → ℕ → Content
+unescapeByte t b =
     cond (t .cut) (content (t .bytes ++ (flipped b ∷ [])) false)
     (cond (eqb b escape) (content (t .bytes) true)
     (content (t .bytes ++ (b ∷ [])) false))
 
 -- all bytes of a list
-abbrev pub addBytes : Content → List ℕ → Content
-addBytes t bytes = fold addByte t bytes
+abbrev pub unescapeBytes : Content → List ℕ → Content
+unescapeBytes t bytes = fold unescapeByte t bytes
 
 -- what the flag after a content ends; one with no byte at all is skipped
 unfoldable pub contentEvent : ℕ → Content → Event
@@ -64,7 +64,7 @@ unfoldable pub eventsAfter : ℕ → Content → List ℕ → List Event
 eventsAfter limit t [] = []
 eventsAfter limit t (b ∷ bs) =
     cond (eqb b flag) (listed (contentEvent limit t) ++ eventsAfter limit nothingYet bs)
-    (eventsAfter limit (addByte t b) bs)
+    (eventsAfter limit (unescapeByte t b) bs)
 
 -- the frames and drops of a stream: bytes before the first flag are skipped
 unfoldable pub streamEvents : ℕ → List ℕ → List Event
@@ -113,3 +113,26 @@ unfoldable pub heardByParts : Receiver → List (List ℕ) → Heard
 heardByParts r [] = heard [] r
 heardByParts r (p ∷ ps) =
     heardBefore (heardByCalls (length p) r p .events) (heardByParts (heardByCalls (length p) r p .receiver) ps)
+
+-- ---- calls that get any bytes of the stream that are next
+
+-- what calls leave: frames and drops in order, the receiver, and the bytes of the stream that no call has taken
+pub record Calls : Type 0 where
+  pub events : List Event
+  pub receiver : Receiver
+  pub left : List ℕ
+
+-- what calls leave, an answer before them
+abbrev pub callsAfter : ReceiveAnswer → (Receiver → ℕ → Calls) → Calls
+callsAfter a rest =
+    record {
+      events = listed (answerEvent a) ++ rest (a .receiver) (a .taken) .events;
+      receiver = rest (a .receiver) (a .taken) .receiver;
+      left = rest (a .receiver) (a .taken) .left;
+    }
+
+-- Calls of `receive` on a stream, one for each size. A call gets that many of the bytes that no call has taken: bytes that an earlier call
+-- left, newer ones, both together, or none.
+unfoldable pub callsOn : Receiver → (stream sizes : List ℕ) → Calls
+callsOn r bs [] = record { events = []; receiver = r; left = bs }
+callsOn r bs (n ∷ ns) = callsAfter (receiveOf r (take n bs)) (λ r′ taken. callsOn r′ (drop taken bs) ns)

@@ -1,6 +1,3 @@
-// The serial line between a gateway and its module: messages framed into bytes, and frames found again in a stream that arrives in
-// parts of any length.
-pub mod check_byte;
-pub mod framing;
+// The receiver of the serial line: frames found in a stream that arrives in parts of any length.
 pub mod receive;
 pub mod receiver;

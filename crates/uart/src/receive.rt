@@ -1,10 +1,4 @@
 // Receiving: the bytes of a call up to the first flag that completes or drops a frame.
-use crate::check_byte::check_byte;
-use crate::framing::ESCAPE;
-use crate::framing::FLAG;
-use crate::framing::LONGEST;
-use crate::framing::SHORTEST;
-use crate::framing::flipped;
 use crate::receiver::AFTER_ESCAPE;
 use crate::receiver::BEFORE_FLAG;
 use crate::receiver::EVENT_DROPPED;
@@ -16,14 +10,20 @@ use crate::receiver::ReceiveAnswer;
 use crate::receiver::Receiver;
 use crate::receiver::receiver_from;
 use crate::receiver::receiver_ok;
+use crc::check_byte::check_byte;
 use dpa::number::wide;
 use dpa::refusal;
+use framing::escape::ESCAPE;
+use framing::escape::FLAG;
+use framing::escape::flipped;
+use framing::frame::LONGEST;
+use framing::frame::SHORTEST;
 ghost use mathlib.Core.Path.{_≡_};
 ghost use mathlib.Core.List.{[]};
 ghost use Prim.Native.Nat.{_≤_};
 ghost use lib.ListN.{length};
 ghost use lib.Dec.{eqb};
-ghost use Rattle.uart.specs.Framing.{longest};
+ghost use Rattle.framing.specs.Framing.{longest};
 ghost use Rattle.uart.specs.Receiver.{afterEscape, placeCount, inFrame, receiverFrom, dropCause, frameEvent, begun, startsEscape, dataByte, receiveAnswer, eventAnswer, receiveOf};
 
 // Why a frame is dropped; the first that applies is given.

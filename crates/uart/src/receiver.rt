@@ -1,5 +1,5 @@
 // The record of a receiver, its rule, and the answer to a call.
-use crate::framing::LONGEST;
+use framing::frame::LONGEST;
 ghost use mathlib.Core.Path.{_≡_};
 ghost use Rattle.uart.specs.Receiver.{receiverFrom, newReceiver, limitOk, receiverOk};
 

@@ -6,6 +6,7 @@ use dpa::pnum;
 use dpa::settings::Settings;
 use dpa::sizes::EEPROM_SIZE;
 use dpa::sizes::EXTERNAL_SIZE;
+use framing::frame::frame;
 use gateway::bonding::bond;
 use gateway::bonding::gateway_start;
 use gateway::record::Gateway;
@@ -20,7 +21,6 @@ use node::start::start;
 use timing::confirm::confirm;
 use timing::slot::Network;
 use timing::slot::earliest_send;
-use uart::framing::frame;
 use uart::receive::receive;
 use uart::receiver::new_receiver;
 

@@ -6,7 +6,7 @@ use lib.Dec.{eqb}
 use lib.ListN.{length}
 use lib.Seq.{length-take-le}
 use borrow.Author.Needs.{needs}
-use Rattle.uart.specs.Framing.{shortest}
+use Rattle.framing.specs.Framing.{shortest}
 use Rattle.uart.specs.Receiver.{placeCount, afterEscape}
 use Rattle.uart.proofs.Causes.{good-size, dropped-answer, frame-answer}
 use Rattle.uart.proofs.receive.end_frame.Statement.{statement}

@@ -6,7 +6,7 @@ use native.Mathlib.Omega.{arith}
 use lib.ListN.{length}
 use borrow.Author.Tests.{not-true, not-false}
 use borrow.Author.Needs.{needs}
-use Rattle.uart.specs.Framing.{longest}
+use Rattle.framing.specs.Framing.{longest}
 use Rattle.uart.specs.Receiver.{receiverFrom, receiverOk}
 use Rattle.uart.proofs.Causes.{event-some}
 use Rattle.uart.proofs.Receivers.{limit-range, refused-call}

@@ -1,0 +1,4 @@
+pub mod Xor
+pub mod CheckBytes
+pub mod Changes
+pub mod Examples

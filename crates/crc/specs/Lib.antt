@@ -1,0 +1,2 @@
+pub mod CheckByte
+pub mod ShiftTable

@@ -1,0 +1,2 @@
+// The check byte of a frame on the serial line.
+pub mod check_byte;

@@ -1,0 +1,3 @@
+pub mod Escapes
+pub mod Sending
+pub mod Examples
