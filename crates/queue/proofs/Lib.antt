@@ -1,0 +1,4 @@
+pub mod Rules
+pub mod PlaceTests
+pub mod Changes
+pub mod Shifts
