@@ -1,21 +1,21 @@
 -- Laws of histories: first in, first out; releases keep their distance; no request waits for more than seven others.
-use Prim.Native.Nat.{ℕ, zero, suc, _+_, _≤_, _<_, min}
+use Prim.Native.Nat.{ℕ, zero, suc, _+_, _-_, _≤_, _<_, min}
 use mathlib.Core.Path.{_≡_, refl, sym, ap, ap₂, subst, _∙_}
-use mathlib.Core.Bool.{Bool, true, cond}
+use mathlib.Core.Bool.{Bool, true, cond, _&&_}
 use mathlib.Core.List.{List, [], _∷_, _++_, map, append-nil, append-assoc}
 use native.Mathlib.Omega.{arith}
-use lib.ListN.{length, getD, take, drop, List·getD-append}
+use lib.ListN.{length, getD, take, drop, length-append, length-drop, List·getD-append}
 use lib.Seq.{getD-at}
-use lib.Dec.{eqb, ltb}
-use borrow.Author.Tests.{eqb-true, eqb-false, ltb-true, ltb-false}
+use lib.Dec.{eqb, ltb, leb}
+use borrow.Author.Tests.{eqb-true, eqb-false, ne-eqb, ltb-true, ltb-false, lt-ltb, le-ltb}
 use Rattle.dpa.proofs.Bool.{by-test}
 use Rattle.queue.specs.declared.record.SendQueue.{SendQueue}
 use Rattle.gateway.specs.declared.record.Gateway.{Gateway}
 use Rattle.queue.specs.declared.record.Waiting.{Waiting}
 use Rattle.queue.specs.Queue.{newQueue, Outgoing, waitAfter, queueSize, QueueRule, networkIn, waitingIn, oldest, due, queueFrom, withTime, withRequest, withoutOldest}
-use Rattle.gateway.specs.Gateway.{gatewayFrom, gatewayOk, newGateway, sendRequest}
-use Rattle.gateway.specs.History.{Call, after, afterAll, acceptedAll, released, releasedAll, Handout, noHandout, HandoutOf, arrivals, noRequest, FirstInFirstOut, Spaced, NextTime, lateEnough, lateCalls, NoStarvation}
-use Rattle.gateway.proofs.Calls.{queue-rule, send-accepted, by-effect}
+use Rattle.gateway.specs.Gateway.{gatewayFrom, gatewayOk, newGateway, sendRequest, releaseOf}
+use Rattle.gateway.specs.History.{Call, release, after, afterAll, acceptedAll, released, releasedAll, Handout, noHandout, handout, HandoutOf, arrivals, noRequest, FirstInFirstOut, Spaced, earliestRelease, ReleasesExactly, lateEnough, lateCalls, NoStarvation}
+use Rattle.gateway.proofs.Calls.{queue-rule, send-accepted, release-cases, by-effect}
 use Rattle.queue.proofs.Changes.{waiting-length, sent-queue, released-queue, due-facts}
 
 -- ---- one call and a whole history
@@ -192,9 +192,9 @@ releases-apart g cs i (suc j) l m =
     (λ e. rw (eqb-true i j e) next)
     (λ e. omega (arith, next, releases-apart g cs i j (omega (arith, eqb-false i j e)) (omega arith)))
 
--- ---- the next time
+-- ---- releases exactly when
 
--- the claim over plain lists, for the queue at the end
+-- the next time over plain lists, for the queue at the end
 abbrev NextOf : SendQueue → List Outgoing → List Handout → SendQueue → Type 0
 NextOf q arr hs end =
     (length hs ≡ 0 → end .next ≡ q .next)
@@ -211,7 +211,8 @@ next-more q h arr hs end x = (λ z. absurd (omega arith), at)
     at (suc k) l = x .1 k (omega arith)
 
 -- the queue's next time is reckoned from the last release
-pub next-time : (g : Gateway) (cs : List Call) → NextTime g cs
+pub next-time : (g : Gateway) (cs : List Call) → afterAll g cs .queue .next ≡ earliestRelease g cs
+unfolding earliestRelease
 next-time g cs =
     let x =
     by-history (λ q rs hs n end. NextOf q (waitingIn q ++ rs) hs end)
@@ -222,13 +223,63 @@ next-time g cs =
     subst (λ (arr : List Outgoing). NextOf q arr (h ∷ hs) end) (arrivals-handed q f rs (h .time) (due-facts q (h .time) u .0))
     (next-more q h (waitingIn (withoutOldest q (h .time)) ++ rs) hs end x))
     g cs in
-    record { none-yet = x .0; since-last = x .1 }
+    let n = length (releasedAll g cs) in
+    by-test (eqb n 0) (λ e. rw e (x .0 (eqb-true n 0 e)))
+    (λ e. rw e (x .1 (n - 1) (omega (arith, eqb-false n 0 e))))
 
--- the first request ever: until it is released the next time of a new gateway stays 0, so that it may be released at any time
+-- the first request ever is released at any time
 pub first-any-time : (lp : Bool) (dpaValue : ℕ) (cs : List Call) → let g = newGateway lp dpaValue in
-    length (releasedAll g cs) ≡ 0 → afterAll g cs .queue .next ≡ 0
-unfolding newQueue
-first-any-time lp dpaValue cs = next-time (newGateway lp dpaValue) cs .none-yet
+    length (releasedAll g cs) ≡ 0 → earliestRelease g cs ≡ 0
+unfolding newQueue earliestRelease
+first-any-time lp dpaValue cs e = rw e
+
+module _ (g : Gateway) (cs : List Call) (t : ℕ) (o : List ℕ) where
+  abbrev end : Gateway
+  end = afterAll g cs
+
+  abbrev handed : ℕ
+  handed = length (releasedAll g cs)
+
+  -- a request waits if fewer were handed out than arrived
+  one-waits : gatewayOk end ≡ true → ltb 0 (end .queue .count) ≡ ltb handed (length (arrivals g cs))
+  one-waits ok =
+      let x = in-order g cs in
+      let n : end .queue .count ≡ length (arrivals g cs) - handed =
+      sym (waiting-length (end .queue) (queue-rule end ok)) ∙ ap length (x .2) ∙ length-drop handed (arrivals g cs) in
+      by-test (ltb 0 (end .queue .count))
+      (λ e. e ∙ sym (lt-ltb handed (length (arrivals g cs)) (omega (arith, n, ltb-true 0 (end .queue .count) e))))
+      (λ e. e ∙ sym (le-ltb handed (length (arrivals g cs)) (omega (arith, n, x .0, ltb-false 0 (end .queue .count) e))))
+
+  -- a request is due if one waits and the time is not before the earliest
+  due-exactly : gatewayOk end ≡ true
+      → due (end .queue .count) (end .queue .next) t ≡ (ltb handed (length (arrivals g cs)) && leb (earliestRelease g cs) t)
+  unfolding due
+  due-exactly ok = ap₂ (λ (w : Bool) (n : ℕ). w && leb n t) (one-waits ok) (next-time g cs)
+
+  -- a release call releases the oldest request exactly when it is not refused, a request waits, and its time is at or after the earliest
+  -- send time of the one before
+  pub releases-exactly : ReleasesExactly g cs t o
+  unfolding acceptedAll releasedAll
+  releases-exactly =
+      record {
+        exactly =
+            release-cases end t o (λ x. x .answer .released ≡ (eqb (x .answer .refusal) 0 && ltb handed (length (arrivals g cs)) && leb (earliestRelease g cs) t))
+            (λ k n. rw (ne-eqb k 0 n) refl)
+            (λ ok c u. sym u ∙ due-exactly ok)
+            (λ ok c u. sym u ∙ due-exactly ok);
+        oldest-first = λ e.
+            let c = release t o in
+            let a = history-append g cs (c ∷ []) in
+            let y = handout t (releaseOf end t o) in
+            let h : releasedAll g (cs ++ (c ∷ [])) ≡ releasedAll g cs ++ (y ∷ []) = a .2 ∙ rw e refl in
+            let r : arrivals g (cs ++ (c ∷ [])) ≡ arrivals g cs =
+            ap (λ (xs : List Outgoing). waitingIn (g .queue) ++ xs) (a .1 ∙ append-nil (acceptedAll g cs)) in
+            let l : handed < length (releasedAll g (cs ++ (c ∷ []))) = rw (h, length-append) (omega arith) in
+            subst (λ (x : Handout). HandoutOf (g .queue) (getD (arrivals g cs) handed noRequest) x)
+            (ap (λ (xs : List Handout). getD xs handed noHandout) h ∙ getD-at (releasedAll g cs) y [] noHandout handed refl)
+            (subst (λ (xs : List Outgoing). HandoutOf (g .queue) (getD xs handed noRequest) (getD (releasedAll g (cs ++ (c ∷ []))) handed noHandout)) r
+            (in-order g (cs ++ (c ∷ [])) .1 handed l));
+      }
 
 -- ---- no starvation
 

@@ -1,10 +1,10 @@
 -- Document 02, change 6: histories. Calls in a row, each on the record that the last one left, and what is claimed of every such list.
-use Prim.Native.Nat.{ℕ, suc, _+_, _≤_, _<_}
+use Prim.Native.Nat.{ℕ, suc, _+_, _-_, _≤_, _<_}
 use mathlib.Core.Path.{_≡_}
 use mathlib.Core.List.{List, [], _∷_, _++_}
-use mathlib.Core.Bool.{Bool, false, cond, _&&_}
+use mathlib.Core.Bool.{Bool, true, false, cond, _&&_}
 use lib.ListN.{length, getD, take, drop}
-use lib.Dec.{eqb, leb}
+use lib.Dec.{eqb, ltb, leb}
 use Rattle.queue.specs.declared.record.SendQueue.{SendQueue}
 use Rattle.gateway.specs.declared.record.Gateway.{Gateway}
 use Rattle.queue.specs.Queue.{Outgoing, outgoing, confirmationOf, networkIn, waitAfter, waitingIn}
@@ -130,11 +130,24 @@ pub record Spaced (g : Gateway) (cs : List Call) : Type 0 where
   pub apart : (k : ℕ) → suc k < length (releasedAll g cs)
       → getD (releasedAll g cs) k noHandout .time + waitAfter (networkIn (g .queue)) (getD (arrivals g cs) k noRequest) ≤ getD (releasedAll g cs) (suc k) noHandout .time
 
--- the queue's next time: as at the start until a request is released; then the time of the last release plus the wait after its request
-pub record NextTime (g : Gateway) (cs : List Call) : Type 0 where
-  pub none-yet : length (releasedAll g cs) ≡ 0 → afterAll g cs .queue .next ≡ g .queue .next
-  pub since-last : (k : ℕ) → length (releasedAll g cs) ≡ suc k
-      → afterAll g cs .queue .next ≡ getD (releasedAll g cs) k noHandout .time + waitAfter (networkIn (g .queue)) (getD (arrivals g cs) k noRequest)
+-- ---- releases exactly when
+
+-- the earliest time of the next release after a history: the earliest send time of the request released last, reckoned from its release,
+-- with the slot of the longest response. Before the first release it is the next time of the gateway at the start: 0 for a new one, so that
+-- the first request ever is released at any time
+unfoldable pub earliestRelease : Gateway → List Call → ℕ
+earliestRelease g cs =
+    let n = length (releasedAll g cs) in
+    cond (eqb n 0) (g .queue .next)
+    (getD (releasedAll g cs) (n - 1) noHandout .time + waitAfter (networkIn (g .queue)) (getD (arrivals g cs) (n - 1) noRequest))
+
+-- a release call after a history, at time t with buffer o. It releases exactly when it is not refused, a request waits (fewer were handed
+-- out than arrived), and t is at or after that time. What it releases is the oldest: the request after those that were handed out
+pub record ReleasesExactly (g : Gateway) (cs : List Call) (t : ℕ) (o : List ℕ) : Type 0 where
+  pub exactly : let x = releaseOf (afterAll g cs) t o .answer in
+      x .released ≡ (eqb (x .refusal) 0 && ltb (length (releasedAll g cs)) (length (arrivals g cs)) && leb (earliestRelease g cs) t)
+  pub oldest-first : let x = releaseOf (afterAll g cs) t o in
+      x .answer .released ≡ true → HandoutOf (g .queue) (getD (arrivals g cs) (length (releasedAll g cs)) noRequest) (handout t x)
 
 -- ---- no starvation
 
