@@ -1,4 +1,5 @@
-pub mod Rules
-pub mod PlaceTests
 pub mod Changes
+pub mod Examples
+pub mod PlaceTests
+pub mod Rules
 pub mod Shifts
