@@ -1,5 +1,7 @@
 // Runs worked examples of the buyer's documents and of the DPA guide, and some of our own, through the public calls and
 // prints the results.
+mod gateways;
+
 use dpa::frame::Frame;
 use dpa::number::wide;
 use dpa::pnum;
@@ -296,4 +298,5 @@ fn main() {
     confirmation();
     serial_line();
     send_queue();
+    gateways::histories();
 }
