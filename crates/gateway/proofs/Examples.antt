@@ -9,12 +9,12 @@ use Rattle.timing.specs.Slot.{baseSlot, networkOf, networkExtra, slotOf, direct
 use Rattle.timing.specs.Confirm.{responseHopsSent}
 use Rattle.queue.specs.Queue.{newQueue, waitAfter, confirmationOf, allZero, widthsOk, waitingOk, emptyOk, placeOk, placesOk, queueOk, clockOk, due}
 use Rattle.gateway.specs.Bonds.{bondedNode, bondCount, canAdd, canSend, bondsOk}
-use Rattle.gateway.specs.Gateway.{gatewayOk, changeOf, bondCountOf, bondBitmapOf, sendRefusal, sendRequest, releaseRefusal, releaseEffect, releaseOf}
+use Rattle.gateway.specs.Gateway.{gatewayOk, changeOf, clearOf, bondCountOf, bondBitmapOf, sendRefusal, sendRequest, releaseRefusal, releaseEffect, releaseOf}
 use Rattle.gateway.specs.History.{afterAll, releasedAll}
 use Rattle.gateway.specs.Examples.{callRefusals, GatewayExamples}
 
 pub gateway-examples : GatewayExamples
-unfolding newQueue bondedNode changeOf sendRequest sendRefusal releaseOf releaseRefusal releaseEffect gatewayOk bondsOk bondCount bondCountOf bondBitmapOf canAdd canSend queueOk placesOk placeOk widthsOk waitingOk emptyOk allZero allBelow selects addressOk frameFits clockOk due waitAfter confirmationOf baseSlot networkOf networkExtra slotOf directionTime earliestOf responseHopsSent ones onesIn afterAll releasedAll callRefusals
+unfolding newQueue bondedNode changeOf sendRequest sendRefusal releaseOf releaseRefusal releaseEffect gatewayOk bondsOk bondCount clearOf bondCountOf bondBitmapOf canAdd canSend queueOk placesOk placeOk widthsOk waitingOk emptyOk allZero allBelow selects addressOk frameFits clockOk due waitAfter confirmationOf baseSlot networkOf networkExtra slotOf directionTime earliestOf responseHopsSent ones onesIn afterAll releasedAll callRefusals
 gateway-examples =
     record {
       second-waits = refl;
@@ -26,4 +26,6 @@ gateway-examples =
       frames-refused = refl;
       bonds-refused = refl;
       bonds-left = (refl, refl);
+      bonds-counted = (refl, refl, refl, refl, refl, refl);
+      broken-refused = (refl, refl);
     }

@@ -5,9 +5,9 @@ use mathlib.Core.Path.{_≡_}
 use mathlib.Core.Bool.{true, false}
 use mathlib.Core.List.{List, [], _∷_, _++_}
 use lib.ListN.{replicate}
-use Rattle.queue.specs.Queue.{Outgoing, outgoing}
+use Rattle.queue.specs.Queue.{Outgoing, outgoing, newQueue}
 use Rattle.gateway.specs.declared.record.Gateway.{Gateway}
-use Rattle.gateway.specs.Gateway.{newGateway, bondOf, unbondOf, clearOf, bondCountOf, bondBitmapOf, sendRequest, releaseOf}
+use Rattle.gateway.specs.Gateway.{gatewayFrom, newGateway, bondOf, unbondOf, clearOf, bondCountOf, bondBitmapOf, sendRequest, releaseOf}
 use Rattle.gateway.specs.History.{Call, bond, unbond, clear, count, bitmap, send, release, after, afterAll, releasedAll}
 
 -- the refusal of a call
@@ -63,6 +63,10 @@ abbrev bondCalls : List Call
 bondCalls =
     bond 0 ∷ bond 1 ∷ bond 1 ∷ bond 239 ∷ bond 240 ∷ bond 255 ∷ bond 257 ∷ bond 10 ∷ unbond 2 ∷ unbond 257 ∷ unbond 1 ∷ unbond 1 ∷ []
 
+-- one call of each kind
+abbrev everyCall : List Call
+everyCall = bond 1 ∷ unbond 1 ∷ clear ∷ count ∷ bitmap ∷ send (shortTo 255) 0 ∷ releaseAt 0 ∷ []
+
 -- ---- what they answer (proofs/Examples)
 
 pub record GatewayExamples : Type 0 where
@@ -99,3 +103,10 @@ pub record GatewayExamples : Type 0 where
   pub bonds-left : let g = afterAll (newGateway false 0) bondCalls in
       (bondCountOf g ≡ record { refusal = 0; count = 2 })
       × (bondBitmapOf g ≡ record { refusal = 0; bitmap = (0 ∷ 4 ∷ []) ++ (replicate 27 0 ++ (128 ∷ 0 ∷ 0 ∷ [])) })
+  -- the count is that after the call, and 0 in a refused one; removing all bonds twice is not refused
+  pub bonds-counted : let one = bondOf (newGateway false 0) 1 in let two = bondOf (one .gateway) 239 in
+      (one .count ≡ 1) × (two .count ≡ 2) × (unbondOf (two .gateway) 1 .count ≡ 1) × (bondOf (two .gateway) 1 ≡ record { refusal = 12; count = 0; gateway = two .gateway })
+      × (clearOf (two .gateway) .count ≡ 0) × (callRefusals (two .gateway) (clear ∷ clear ∷ []) ≡ 0 ∷ 0 ∷ [])
+  -- address 0 or 240 is bonded: every call is refused
+  pub broken-refused : (callRefusals (gatewayFrom (1 ∷ replicate 31 0) (newQueue false 0)) everyCall ≡ replicate 7 1)
+      × (callRefusals (gatewayFrom (replicate 30 0 ++ (1 ∷ 0 ∷ [])) (newQueue false 0)) everyCall ≡ replicate 7 1)
