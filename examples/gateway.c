@@ -92,7 +92,7 @@ int main(void)
     node = started.node;
     if (hand_in() != GRELFINT_OK)
         return 1;
-    while (gateway.desk.count > 0) {
+    while (gateway.queue.count > 0) {
         grelfint_release_answer released = grelfint_release(gateway, now, confirmation, sizeof confirmation);
 
         if (released.refusal != GRELFINT_OK)
@@ -100,12 +100,12 @@ int main(void)
         gateway = released.gateway;
         /* 1. Wait till the routing of the previous request is finished. */
         if (!released.released) {
-            now = gateway.desk.next; /* a real gateway sleeps until then */
+            now = gateway.queue.next; /* a real gateway sleeps until then */
             continue;
         }
         /* 2. The interface is ready, and nothing is left to read: step 6 has read the last response. */
         send_request(&released);
-        /* 7. The earliest time for the next request is gateway.desk.next; it allows for the longest response. */
+        /* 7. The earliest time for the next request is gateway.queue.next; it allows for the longest response. */
     }
     printf("lamp 0 of node 1: %u\n", node.lamps[0].level);
     return 0;

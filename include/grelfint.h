@@ -64,9 +64,9 @@
 /* The second number grows with every change of the interface or of an answer,
  * the third with every other change. Until the first number is 1, a change may
  * add fields to records. */
-#define GRELFINT_VERSION "0.6.0"
+#define GRELFINT_VERSION "0.7.0"
 #define GRELFINT_VERSION_MAJOR 0
-#define GRELFINT_VERSION_MINOR 6
+#define GRELFINT_VERSION_MINOR 7
 #define GRELFINT_VERSION_PATCH 0
 
 /* A dropped answer is a lost node, or a refusal that goes unnoticed. */
@@ -663,11 +663,11 @@ grelfint_length_answer grelfint_uart_frame(
 
 /* ==== The gateway ====
  *
- * A gateway keeps the bonds of its nodes, and a desk of requests on their way
- * to the network. Times are in ms from any moment that the caller chooses, and
- * never go back. */
+ * A gateway keeps the bonds of its nodes, and a send queue: the requests on
+ * their way to the network. Times are in ms from any moment that the caller
+ * chooses, and never go back. */
 #define GRELFINT_BONDS 32 /* bytes of the bitmap of bonds */
-#define GRELFINT_DESK 8   /* the most requests that wait */
+#define GRELFINT_QUEUE 8  /* the most requests that wait */
 #define GRELFINT_NETWORK_STD 0
 #define GRELFINT_NETWORK_STD_LP 1
 #define GRELFINT_TIME_MAX UINT64_C(0x10000000000) /* 2^40 ms, almost 35 years */
@@ -682,20 +682,20 @@ typedef struct grelfint_waiting {
     uint8_t frame[GRELFINT_FRAME]; /* the request, then zeros */
 } grelfint_waiting;
 
-typedef struct grelfint_desk {
+typedef struct grelfint_send_queue {
     uint64_t last;     /* the time of the last send or release, refused ones not
                         * counted */
     uint64_t next;     /* the earliest time of the next release */
     uint8_t network;   /* GRELFINT_NETWORK_STD or GRELFINT_NETWORK_STD_LP */
     uint8_t dpa_value; /* for the confirmations */
     uint8_t count;     /* requests that wait */
-    grelfint_waiting places[GRELFINT_DESK]; /* these requests, the oldest first;
-                                             * then zeros */
-} grelfint_desk;
+    grelfint_waiting places[GRELFINT_QUEUE]; /* these requests, the oldest
+                                              * first; then zeros */
+} grelfint_send_queue;
 
 /* A gateway, from grelfint_gateway_start; store it between calls, and read
- * desk.count and desk.next. It is sound if neither address 0 nor 240 to 255 is
- * bonded; its network is 0 or 1 and its count at most 8; each of the first
+ * queue.count and queue.next. It is sound if neither address 0 nor 240 to 255
+ * is bonded; its network is 0 or 1 and its count at most 8; each of the first
  * `count` places has a length of 6 to 62, NADR 1 to 239 or 255 in its frame,
  * and zeros after the frame; all later places are zero; `last` is at most
  * GRELFINT_TIME_MAX, and `next` at most last + GRELFINT_WAIT_MAX. A sound
@@ -703,7 +703,7 @@ typedef struct grelfint_desk {
 typedef struct grelfint_gateway {
     uint8_t bonds[GRELFINT_BONDS]; /* bit a % 8 of byte a / 8 is set if node a
                                     * is bonded */
-    grelfint_desk desk;
+    grelfint_send_queue queue;
 } grelfint_gateway;
 
 typedef struct grelfint_bond_answer {
@@ -811,7 +811,7 @@ grelfint_gateway_answer grelfint_send(
  *
  * Answer:   released; the request and its length; length of the confirmation;
  *           gateway. Too early or with none waiting, `released` is false and
- *           only the time is recorded; gateway.desk.next is the earliest time.
+ *           only the time is recorded; gateway.queue.next is the earliest time.
  * Refusals: NODE, RESPONSE, TIME.
  * Written:  the first `length` bytes of `out`, as by grelfint_confirm.
  *

@@ -5,7 +5,7 @@
  * include/grelfint.h. To see how one compiled scene reaches chosen nodes, read
  * `one_scene_for_chosen_nodes`; how a request travels over a serial line,
  * `one_request_over_the_serial_line`; how requests wait at a gateway,
- * `two_requests_at_the_desk`.
+ * `two_requests_in_the_queue`.
  * tests/c/run builds and runs it.
  *
  * Prints each failure, then `N passed` (or `N passed, M failed`, exit status 1). */
@@ -53,13 +53,13 @@ _Static_assert(offsetof(grelfint_waiting, length) == 2, "length of a waiting req
 _Static_assert(offsetof(grelfint_waiting, hops) == 3, "hops");
 _Static_assert(offsetof(grelfint_waiting, response_hops) == 4, "response hops");
 _Static_assert(offsetof(grelfint_waiting, frame) == 5, "frame of a waiting request");
-_Static_assert(offsetof(grelfint_desk, next) == 8, "next");
-_Static_assert(offsetof(grelfint_desk, network) == 16, "network");
-_Static_assert(offsetof(grelfint_desk, dpa_value) == 17, "DpaValue");
-_Static_assert(offsetof(grelfint_desk, count) == 18, "count");
-_Static_assert(offsetof(grelfint_desk, places) == 20, "places");
-_Static_assert(sizeof(grelfint_desk) == 568, "desk");
-_Static_assert(offsetof(grelfint_gateway, desk) == 32, "desk of a gateway");
+_Static_assert(offsetof(grelfint_send_queue, next) == 8, "next");
+_Static_assert(offsetof(grelfint_send_queue, network) == 16, "network");
+_Static_assert(offsetof(grelfint_send_queue, dpa_value) == 17, "DpaValue");
+_Static_assert(offsetof(grelfint_send_queue, count) == 18, "count");
+_Static_assert(offsetof(grelfint_send_queue, places) == 20, "places");
+_Static_assert(sizeof(grelfint_send_queue) == 568, "queue");
+_Static_assert(offsetof(grelfint_gateway, queue) == 32, "queue of a gateway");
 _Static_assert(sizeof(grelfint_gateway) == 600, "gateway");
 _Static_assert(offsetof(grelfint_bond_answer, count) == 1, "count of an answer");
 _Static_assert(offsetof(grelfint_bond_answer, gateway) == 8, "gateway of a bond's answer");
@@ -990,12 +990,12 @@ static bool same_gateway(const grelfint_gateway *a, const grelfint_gateway *b)
 {
     size_t i;
 
-    for (i = 0; i < GRELFINT_DESK; i++)
-        if (!same_place(&a->desk.places[i], &b->desk.places[i]))
+    for (i = 0; i < GRELFINT_QUEUE; i++)
+        if (!same_place(&a->queue.places[i], &b->queue.places[i]))
             return false;
-    return memcmp(a->bonds, b->bonds, sizeof a->bonds) == 0 && a->desk.last == b->desk.last &&
-           a->desk.next == b->desk.next && a->desk.network == b->desk.network &&
-           a->desk.dpa_value == b->desk.dpa_value && a->desk.count == b->desk.count;
+    return memcmp(a->bonds, b->bonds, sizeof a->bonds) == 0 && a->queue.last == b->queue.last &&
+           a->queue.next == b->queue.next && a->queue.network == b->queue.network &&
+           a->queue.dpa_value == b->queue.dpa_value && a->queue.count == b->queue.count;
 }
 
 /* Adds or removes a bond; refused, the gateway stays as it was. */
@@ -1028,8 +1028,8 @@ static void gateway_bonds(void)
     size_t i;
 
     gateway = grelfint_gateway_start(true, 9);
-    check("started", gateway.desk.network == 1 && gateway.desk.dpa_value == 9 && gateway.desk.count == 0 &&
-                         gateway.desk.last == 0 && gateway.desk.next == 0);
+    check("started", gateway.queue.network == 1 && gateway.queue.dpa_value == 9 && gateway.queue.count == 0 &&
+                         gateway.queue.last == 0 && gateway.queue.next == 0);
     bonds_are("no bonds", 0, 0, 0, 0);
     for (i = 0; i < sizeof none / sizeof none[0]; i++) {
         bond("cannot be bonded", true, none[i], 12, 0);
@@ -1049,8 +1049,8 @@ static void gateway_bonds(void)
     bonds_are("after clearing", 0, 0, 0, 0);
 }
 
-/* Sends a frame to the desk; refused, the gateway stays as it was. */
-static void to_desk(const char *name, const uint8_t *frame, size_t length, uint8_t hops, uint8_t response_hops,
+/* Puts a frame into the queue; refused, the gateway stays as it was. */
+static void to_queue(const char *name, const uint8_t *frame, size_t length, uint8_t hops, uint8_t response_hops,
                     uint16_t delay, uint64_t time, uint8_t refusal)
 {
     grelfint_gateway_answer answer = grelfint_send(gateway, frame, length, hops, response_hops, delay, time);
@@ -1076,7 +1076,7 @@ static void release(const char *name, uint64_t time, const uint8_t *frame, size_
     answer = grelfint_release(gateway, time, confirmation, GRELFINT_RESPONSE);
     check(name, answer.refusal == 0 && answer.released == (length > 0) && answer.length == confirmed_length &&
                     answer.frame_length == length && memcmp(answer.frame, want_frame, sizeof want_frame) == 0 &&
-                    answer.gateway.desk.last == time && memcmp(confirmation, want, sizeof want) == 0);
+                    answer.gateway.queue.last == time && memcmp(confirmation, want, sizeof want) == 0);
     gateway = answer.gateway;
 }
 
@@ -1097,41 +1097,41 @@ static void release_refused(const char *name, uint64_t time, size_t room, uint8_
 /* Document 01's hops and delay, with the longest response: (2 + 1) x 40 + 20 +
  * (3 + 1) x 60 = 380 ms. Then a broadcast, which waits for no response:
  * (2 + 1) x 50 + 20 = 170 ms. */
-static void two_requests_at_the_desk(void)
+static void two_requests_in_the_queue(void)
 {
     static const uint8_t to_node[] = {5, 0, 0x71, 0, 0xFF, 0xFF, 1, 0, 0, 0, 10};
     static const uint8_t to_all[6 + 17] = {0xFF, 0, 2, 5, 0xFF, 0xFF};
 
     start_with_node_5();
-    to_desk("to node 5", to_node, sizeof to_node, 2, 3, 20, 1000, 0);
-    to_desk("to all nodes", to_all, sizeof to_all, 2, 3, 20, 1000, 0);
-    check("two waiting", gateway.desk.count == 2 && gateway.desk.places[0].length == sizeof to_node &&
-                             gateway.desk.places[1].length == sizeof to_all);
+    to_queue("to node 5", to_node, sizeof to_node, 2, 3, 20, 1000, 0);
+    to_queue("to all nodes", to_all, sizeof to_all, 2, 3, 20, 1000, 0);
+    check("two waiting", gateway.queue.count == 2 && gateway.queue.places[0].length == sizeof to_node &&
+                             gateway.queue.places[1].length == sizeof to_all);
     release("the first at any time", 1000, to_node, sizeof to_node,
             BYTES(5, 0, 0x71, 0, 0xFF, 0xFF, 0xFF, 7, 2, 4, 3));
     release("too early", 1379, NO_BYTES, NO_BYTES);
     release("in time", 1380, to_all, sizeof to_all, BYTES(0xFF, 0, 2, 5, 0xFF, 0xFF, 0xFF, 7, 2, 5, 0));
-    check("next", gateway.desk.next == 1380 + 170);
+    check("next", gateway.queue.next == 1380 + 170);
     release("none waiting", 5000, NO_BYTES, NO_BYTES);
 }
 
 /* Nine requests of different lengths: the ninth has to wait for a place. */
-static void full_desk(void)
+static void full_queue(void)
 {
     uint8_t frame[GRELFINT_FRAME] = {5, 0, 5, 1, 0xFF, 0xFF, 0};
     uint8_t i;
 
     start_with_node_5();
     for (i = 0; i < 8; i++)
-        to_desk("one of eight", frame, 8u + i, 0, 0, 0, 0, 0);
-    to_desk("the ninth", frame, 8 + 8, 0, 0, 0, 0, 13);
+        to_queue("one of eight", frame, 8u + i, 0, 0, 0, 0, 0);
+    to_queue("the ninth", frame, 8 + 8, 0, 0, 0, 0, 13);
     gateway = grelfint_clear_bonds(gateway).gateway; /* withdraws nothing */
     for (i = 0; i < 8; i++) {
         release("in order", 100u * i, frame, 8u + i, BYTES(5, 0, 5, 1, 0xFF, 0xFF, 0xFF, 7, 0, 4, 0));
         if (i == 0) {
-            to_desk("no bond", frame, 8 + 8, 0, 0, 0, 0, 12);
+            to_queue("no bond", frame, 8 + 8, 0, 0, 0, 0, 12);
             gateway = grelfint_bond(gateway, 5).gateway;
-            to_desk("a place again", frame, 8 + 8, 0, 0, 0, 0, 0);
+            to_queue("a place again", frame, 8 + 8, 0, 0, 0, 0, 0);
         }
     }
     release("the ninth, released", 800, frame, 8 + 8, BYTES(5, 0, 5, 1, 0xFF, 0xFF, 0xFF, 7, 0, 4, 0));
@@ -1145,28 +1145,28 @@ static void gateway_refusals(void)
     size_t i;
 
     start_with_node_5();
-    to_desk("5 bytes", frame, 5, 0, 0, 0, 0, 2);
-    to_desk("63 bytes", frame, 63, 0, 0, 0, 0, 2);
-    to_desk("not bonded", other, 6, 0, 0, 0, 0, 12);
-    to_desk("high byte", high_byte, 6, 0, 0, 0, 0, 12);
-    to_desk("high byte of all", all_with_high_byte, 6, 0, 0, 0, 0, 12);
-    to_desk("above 2^40", frame, 6, 0, 0, 0, latest + 1, 14);
-    to_desk("6 bytes", frame, 6, 0, 0, 0, 100, 0);
-    to_desk("before the last time", frame, 6, 0, 0, 0, 99, 14);
-    to_desk("62 bytes", frame, 62, 0, 0, 0, 100, 0);
+    to_queue("5 bytes", frame, 5, 0, 0, 0, 0, 2);
+    to_queue("63 bytes", frame, 63, 0, 0, 0, 0, 2);
+    to_queue("not bonded", other, 6, 0, 0, 0, 0, 12);
+    to_queue("high byte", high_byte, 6, 0, 0, 0, 0, 12);
+    to_queue("high byte of all", all_with_high_byte, 6, 0, 0, 0, 0, 12);
+    to_queue("above 2^40", frame, 6, 0, 0, 0, latest + 1, 14);
+    to_queue("6 bytes", frame, 6, 0, 0, 0, 100, 0);
+    to_queue("before the last time", frame, 6, 0, 0, 0, 99, 14);
+    to_queue("62 bytes", frame, 62, 0, 0, 0, 100, 0);
     release_refused("no room", 100, 63, 3);
     release_refused("no room, before the last time", 99, 0, 3);
     release_refused("release before the last time", 99, 64, 14);
     release_refused("release above 2^40", latest + 1, 64, 14);
     for (i = 2; i < 8; i++)
-        to_desk("no bond needed", all, 6, 0, 0, 0, 100, 0);
-    to_desk("length before bond", other, 5, 0, 0, 0, 99, 2);
-    to_desk("bond before room", other, 6, 0, 0, 0, 99, 12);
-    to_desk("room before time", all, 6, 0, 0, 0, 99, 13);
+        to_queue("no bond needed", all, 6, 0, 0, 0, 100, 0);
+    to_queue("length before bond", other, 5, 0, 0, 0, 99, 2);
+    to_queue("bond before room", other, 6, 0, 0, 0, 99, 12);
+    to_queue("room before time", all, 6, 0, 0, 0, 99, 13);
 
     /* at 2^40 the next release would be later */
     release("at 2^40", latest, frame, 6, BYTES(5, 0, 0x71, 0, 0xFF, 0xFF, 0xFF, 7, 0, 4, 0));
-    check("next above 2^40", gateway.desk.next == latest + 100);
+    check("next above 2^40", gateway.queue.next == latest + 100);
     release("never again", latest, NO_BYTES, NO_BYTES);
 }
 
@@ -1185,7 +1185,7 @@ static void refused_by_all(const char *name, grelfint_gateway broken)
     check(name, cleared.refusal == 1 && cleared.count == 0 && same_gateway(&cleared.gateway, &broken));
     check(name, counted.refusal == 1 && counted.count == 0);
     check(name, bitmap.refusal == 1 && memcmp(bitmap.bitmap, zeros, sizeof zeros) == 0);
-    to_desk(name, frame, sizeof frame, 0, 0, 0, 500, 1);
+    to_queue(name, frame, sizeof frame, 0, 0, 0, 500, 1);
     release_refused(name, 500, GRELFINT_RESPONSE, 1);
     gateway = before;
 }
@@ -1198,12 +1198,12 @@ static void gateway_records(void)
     size_t i;
 
     start_with_node_5();
-    to_desk("first", frame, 10, 0, 0, 0, 500, 0);
-    to_desk("second", frame, 62, 0, 0, 0, 500, 0);
+    to_queue("first", frame, 10, 0, 0, 0, 500, 0);
+    to_queue("second", frame, 62, 0, 0, 0, 500, 0);
     sound = full = gateway;
     for (i = 2; i < 8; i++)
-        full.desk.places[i] = full.desk.places[0];
-    full.desk.count = 8;
+        full.queue.places[i] = full.queue.places[0];
+    full.queue.count = 8;
 
 #define BROKEN(record, field, value)               \
     do {                                           \
@@ -1215,24 +1215,24 @@ static void gateway_records(void)
     BROKEN(sound, bonds[0], 1);
     BROKEN(sound, bonds[30], 1);
     BROKEN(sound, bonds[31], 0x80);
-    BROKEN(sound, desk.network, 2);
-    BROKEN(full, desk.count, 9);
-    BROKEN(sound, desk.places[0].length, 5);
-    BROKEN(sound, desk.places[1].length, 63);
-    BROKEN(sound, desk.places[0].frame[0], 0);
-    BROKEN(sound, desk.places[0].frame[0], 240);
-    BROKEN(sound, desk.places[1].frame[1], 1);
-    BROKEN(sound, desk.places[0].frame[10], 1);
-    BROKEN(sound, desk.places[0].frame[61], 1);
-    BROKEN(sound, desk.places[2].delay, 1);
-    BROKEN(sound, desk.places[3].length, 6);
-    BROKEN(sound, desk.places[5].hops, 1);
-    BROKEN(sound, desk.places[6].response_hops, 1);
-    BROKEN(sound, desk.places[7].frame[61], 1);
-    BROKEN(sound, desk.last, ((uint64_t)1 << 40) + 1);
-    BROKEN(sound, desk.next, 500 + 116736);
+    BROKEN(sound, queue.network, 2);
+    BROKEN(full, queue.count, 9);
+    BROKEN(sound, queue.places[0].length, 5);
+    BROKEN(sound, queue.places[1].length, 63);
+    BROKEN(sound, queue.places[0].frame[0], 0);
+    BROKEN(sound, queue.places[0].frame[0], 240);
+    BROKEN(sound, queue.places[1].frame[1], 1);
+    BROKEN(sound, queue.places[0].frame[10], 1);
+    BROKEN(sound, queue.places[0].frame[61], 1);
+    BROKEN(sound, queue.places[2].delay, 1);
+    BROKEN(sound, queue.places[3].length, 6);
+    BROKEN(sound, queue.places[5].hops, 1);
+    BROKEN(sound, queue.places[6].response_hops, 1);
+    BROKEN(sound, queue.places[7].frame[61], 1);
+    BROKEN(sound, queue.last, ((uint64_t)1 << 40) + 1);
+    BROKEN(sound, queue.next, 500 + 116736);
 #undef BROKEN
-    gateway.desk.next = 500 + 116735;
+    gateway.queue.next = 500 + 116735;
     release("the longest wait", 116734 + 500, NO_BYTES, NO_BYTES);
     release("the longest wait is over", 116735 + 500, frame, 10, BYTES(5, 0, 0x71, 0, 0x71, 0, 0xFF, 7, 0, 4, 0));
 }
@@ -1262,8 +1262,8 @@ int main(void)
     serial_lengths();
     one_request_over_the_serial_line();
     gateway_bonds();
-    two_requests_at_the_desk();
-    full_desk();
+    two_requests_in_the_queue();
+    full_queue();
     gateway_refusals();
     gateway_records();
     if (failed > 0) {

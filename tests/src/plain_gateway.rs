@@ -1,19 +1,19 @@
 //! The gateway's rules in ordinary Rust without allocation, with the C boundary
 //! of include/grelfint.h: the benchmark's yardstick. `gateway.rs` compares it
 //! with the reference.
-use super::reference_gateway::{is_node, BROADCAST, DESK, HEADER, LATEST, LONGEST, LONGEST_PDATA, LONGEST_WAIT, ROOM};
-use grelfint::raw::{BitmapAnswer, BondAnswer, CountAnswer, Desk, Gateway, GatewayAnswer, ReleaseAnswer, Waiting};
+use super::reference_gateway::{is_node, BROADCAST, HEADER, LATEST, LONGEST, LONGEST_PDATA, LONGEST_WAIT, QUEUE, ROOM};
+use grelfint::raw::{BitmapAnswer, BondAnswer, CountAnswer, Gateway, GatewayAnswer, ReleaseAnswer, SendQueue, Waiting};
 use std::slice::{from_raw_parts, from_raw_parts_mut};
 
 // ---- records ----
 fn sound(gateway: &Gateway) -> bool {
-    let Gateway { bonds, desk } = gateway;
+    let Gateway { bonds, queue } = gateway;
     let bonds_are_sound = bonds[0] & 1 == 0 && bonds[30] == 0 && bonds[31] == 0;
-    let times_are_sound = desk.last <= LATEST && desk.next <= desk.last + LONGEST_WAIT;
-    let Some((waiting, free)) = desk.places.split_at_checked(desk.count as usize) else { return false };
+    let times_are_sound = queue.last <= LATEST && queue.next <= queue.last + LONGEST_WAIT;
+    let Some((waiting, free)) = queue.places.split_at_checked(queue.count as usize) else { return false };
     bonds_are_sound
         && times_are_sound
-        && desk.network <= 1
+        && queue.network <= 1
         && waiting.iter().all(is_request)
         && free.iter().all(|place| *place == Waiting::ZERO)
 }
@@ -36,14 +36,14 @@ fn nadr(frame: &[u8]) -> u16 {
     u16::from_le_bytes([frame[0], frame[1]])
 }
 
-fn accepts_time(desk: &Desk, time: u64) -> bool {
-    (desk.last..=LATEST).contains(&time)
+fn accepts_time(queue: &SendQueue, time: u64) -> bool {
+    (queue.last..=LATEST).contains(&time)
 }
 
 #[inline(never)]
 pub extern "C" fn start(lp: bool, dpa_value: u8) -> Gateway {
-    let desk = Desk { last: 0, next: 0, network: lp as u8, dpa_value, count: 0, places: [Waiting::ZERO; DESK] };
-    Gateway { bonds: [0; 32], desk }
+    let queue = SendQueue { last: 0, next: 0, network: lp as u8, dpa_value, count: 0, places: [Waiting::ZERO; QUEUE] };
+    Gateway { bonds: [0; 32], queue }
 }
 
 // ---- bonds ----
@@ -112,7 +112,7 @@ pub extern "C" fn bond_bitmap(gateway: Gateway) -> BitmapAnswer {
     BitmapAnswer { refusal: 0, bitmap: gateway.bonds }
 }
 
-// ---- desk ----
+// ---- send queue ----
 /// # Safety
 /// The pointer and the length are a slice.
 #[inline(never)]
@@ -142,18 +142,18 @@ fn put(gateway: &mut Gateway, frame: &[u8], hops: u8, response_hops: u8, delay: 
     if nadr != BROADCAST && !is_bonded(&gateway.bonds, nadr) {
         return 12;
     }
-    let desk = &mut gateway.desk;
-    if desk.count as usize == DESK {
+    let queue = &mut gateway.queue;
+    if queue.count as usize == QUEUE {
         return 13;
     }
-    if !accepts_time(desk, time) {
+    if !accepts_time(queue, time) {
         return 14;
     }
-    let place = &mut desk.places[desk.count as usize]; // free, and so all zero
+    let place = &mut queue.places[queue.count as usize]; // free, and so all zero
     (place.length, place.hops, place.response_hops, place.delay) = (frame.len() as u8, hops, response_hops, delay);
     place.frame[..frame.len()].copy_from_slice(frame);
-    desk.count += 1;
-    desk.last = time;
+    queue.count += 1;
+    queue.last = time;
     0
 }
 
@@ -168,27 +168,27 @@ pub unsafe extern "C" fn release(mut gateway: Gateway, time: u64, out: *mut u8, 
     if out.len() < ROOM {
         return ReleaseAnswer { refusal: 3, ..ReleaseAnswer::zeros(gateway) };
     }
-    let desk = &mut gateway.desk;
-    if !accepts_time(desk, time) {
+    let queue = &mut gateway.queue;
+    if !accepts_time(queue, time) {
         return ReleaseAnswer { refusal: 14, ..ReleaseAnswer::zeros(gateway) };
     }
-    desk.last = time;
-    if time < desk.next || desk.count == 0 {
+    queue.last = time;
+    if time < queue.next || queue.count == 0 {
         return ReleaseAnswer::zeros(gateway);
     }
-    let released = desk.places[0];
+    let released = queue.places[0];
     let length = released.length as usize;
-    let slot = slot(length - HEADER, desk.network);
+    let slot = slot(length - HEADER, queue.network);
     let response_hops = if nadr(&released.frame) == BROADCAST { None } else { Some(released.response_hops) };
     out[..HEADER].copy_from_slice(&released.frame[..HEADER]);
-    out[HEADER..11].copy_from_slice(&[0xFF, desk.dpa_value, released.hops, slot, response_hops.unwrap_or(0)]);
+    out[HEADER..11].copy_from_slice(&[0xFF, queue.dpa_value, released.hops, slot, response_hops.unwrap_or(0)]);
 
     let there = (released.hops as u64 + 1) * slot as u64 * 10;
-    let back = response_hops.map_or(0, |hops| (hops as u64 + 1) * self::slot(LONGEST_PDATA, desk.network) as u64 * 10);
-    desk.next = time + there + released.delay as u64 + back;
-    desk.places.copy_within(1.., 0);
-    desk.places[DESK - 1] = Waiting::ZERO;
-    desk.count -= 1;
+    let back = response_hops.map_or(0, |hops| (hops as u64 + 1) * self::slot(LONGEST_PDATA, queue.network) as u64 * 10);
+    queue.next = time + there + released.delay as u64 + back;
+    queue.places.copy_within(1.., 0);
+    queue.places[QUEUE - 1] = Waiting::ZERO;
+    queue.count -= 1;
     ReleaseAnswer { refusal: 0, released: true, length: 11, frame_length: length, frame: released.frame, gateway }
 }
 

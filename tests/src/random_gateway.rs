@@ -3,11 +3,11 @@
 use crate::board::frame_of;
 use crate::random::edge;
 use crate::reference_gateway::{
-    is_bonded, nadr, BROADCAST, DESK, FIRST_NODE, HEADER, LAST_NODE, LATEST, LONGEST, LONGEST_WAIT, ROOM,
+    is_bonded, nadr, BROADCAST, FIRST_NODE, HEADER, LAST_NODE, LATEST, LONGEST, LONGEST_WAIT, QUEUE, ROOM,
 };
 use crate::rng::Rng;
 use crate::sides_gateway::{Call, Request};
-use grelfint::raw::{Desk, Gateway, Waiting};
+use grelfint::raw::{Gateway, SendQueue, Waiting};
 
 /// PData lengths at the limits of the slots.
 pub const SLOT_LIMITS: [usize; 6] = [0, 16, 17, 40, 41, 56];
@@ -22,25 +22,25 @@ pub fn gateway(g: &mut Rng) -> Gateway {
             bonds[address as usize / 8] |= 1 << (address % 8);
         }
     }
-    let mut desk = Desk {
+    let mut queue = SendQueue {
         last: last(g),
         next: 0,
         network: g.below(2) as u8,
         dpa_value: g.byte(),
-        count: edge(g, 0, DESK) as u8,
-        places: [Waiting::ZERO; DESK],
+        count: edge(g, 0, QUEUE) as u8,
+        places: [Waiting::ZERO; QUEUE],
     };
-    desk.next = match g.below(6) {
+    queue.next = match g.below(6) {
         0 => 0,
-        1 => g.within(0, desk.last as usize) as u64,
-        2 => desk.last,
-        3 => desk.last + LONGEST_WAIT,
-        _ => desk.last + g.within(1, 3000) as u64,
+        1 => g.within(0, queue.last as usize) as u64,
+        2 => queue.last,
+        3 => queue.last + LONGEST_WAIT,
+        _ => queue.last + g.within(1, 3000) as u64,
     };
-    for place in &mut desk.places[..desk.count as usize] {
+    for place in &mut queue.places[..queue.count as usize] {
         *place = waiting(g);
     }
-    Gateway { bonds, desk }
+    Gateway { bonds, queue }
 }
 
 fn last(g: &mut Rng) -> u64 {
@@ -102,38 +102,38 @@ impl Clause {
 /// The record, which is sound, with this clause broken and no other.
 pub fn breaking(g: &mut Rng, gateway: &Gateway, clause: Clause) -> Gateway {
     let mut broken = *gateway;
-    let desk = &mut broken.desk;
+    let queue = &mut broken.queue;
     match clause {
         Clause::BondOf0 => broken.bonds[0] |= 1,
         Clause::BondFrom240 => broken.bonds[g.within(30, 31)] |= 1 << g.below(8),
-        Clause::Network => desk.network = over(g, 1),
+        Clause::Network => queue.network = over(g, 1),
         Clause::Count => {
-            for place in &mut desk.places[desk.count as usize..] {
+            for place in &mut queue.places[queue.count as usize..] {
                 *place = waiting(g);
             }
-            desk.count = over(g, DESK as u8);
+            queue.count = over(g, QUEUE as u8);
         }
         Clause::FreePlace => {
-            desk.count = desk.count.min(DESK as u8 - 1);
-            desk.places[desk.count as usize..].fill(Waiting::ZERO);
-            let place = g.within(desk.count as usize, DESK - 1);
-            spoil(g, &mut desk.places[place]);
+            queue.count = queue.count.min(QUEUE as u8 - 1);
+            queue.places[queue.count as usize..].fill(Waiting::ZERO);
+            let place = g.within(queue.count as usize, QUEUE - 1);
+            spoil(g, &mut queue.places[place]);
         }
         Clause::Last => {
-            desk.last = g.pick(&[LATEST + 1, LATEST + 2, 2 * LATEST, 1 << 63, u64::MAX - LONGEST_WAIT, u64::MAX]);
-            desk.next = desk.next.min(desk.last);
+            queue.last = g.pick(&[LATEST + 1, LATEST + 2, 2 * LATEST, 1 << 63, u64::MAX - LONGEST_WAIT, u64::MAX]);
+            queue.next = queue.next.min(queue.last);
         }
         Clause::Next => {
             let over = g.pick(&[1, 2, 1000, 1 << 32, LATEST]);
-            desk.next = if g.chance(1, 6) { u64::MAX } else { desk.last + LONGEST_WAIT + over };
+            queue.next = if g.chance(1, 6) { u64::MAX } else { queue.last + LONGEST_WAIT + over };
         }
         Clause::ShortFrame | Clause::LongFrame | Clause::Nadr | Clause::AfterFrame => {
-            if desk.count == 0 {
-                desk.places[0] = waiting(g);
-                desk.count = 1;
+            if queue.count == 0 {
+                queue.places[0] = waiting(g);
+                queue.count = 1;
             }
-            let place = g.below(desk.count as usize);
-            break_waiting(g, &mut desk.places[place], clause);
+            let place = g.below(queue.count as usize);
+            break_waiting(g, &mut queue.places[place], clause);
         }
     }
     broken
@@ -193,9 +193,9 @@ pub fn call(g: &mut Rng, gateway: &Gateway) -> Call {
         8..=15 => {
             let address = if g.chance(1, 5) { BROADCAST } else { address(g, &gateway.bonds, true) };
             let length = any_frame_length(g);
-            Call::Send { request: request(g, address, length), time: time(g, &gateway.desk) }
+            Call::Send { request: request(g, address, length), time: time(g, &gateway.queue) }
         }
-        _ => Call::Release { time: time(g, &gateway.desk) },
+        _ => Call::Release { time: time(g, &gateway.queue) },
     }
 }
 
@@ -211,8 +211,8 @@ pub fn room(g: &mut Rng) -> usize {
 }
 
 /// A time before, at and after the last one given and the earliest release, and at the limit.
-fn time(g: &mut Rng, desk: &Desk) -> u64 {
-    let Desk { last, next, .. } = *desk;
+fn time(g: &mut Rng, queue: &SendQueue) -> u64 {
+    let SendQueue { last, next, .. } = *queue;
     match g.below(32) {
         0 => last.saturating_sub(1),
         1 => g.within(0, last as usize) as u64,

@@ -4,7 +4,7 @@
 //! the call changes the model, which is then written as a record again.
 use super::reference::{confirm, earliest_send};
 use grelfint::raw::{
-    BitmapAnswer, BondAnswer, CountAnswer, Desk, Gateway, GatewayAnswer, ReleaseAnswer, SendAnswer, Waiting,
+    BitmapAnswer, BondAnswer, CountAnswer, Gateway, GatewayAnswer, ReleaseAnswer, SendAnswer, SendQueue, Waiting,
 };
 use std::collections::{BTreeSet, VecDeque};
 
@@ -15,7 +15,7 @@ pub const FIRST_NODE: u16 = 1;
 pub const LAST_NODE: u16 = 239;
 
 /// Requests that can wait.
-pub const DESK: usize = 8;
+pub const QUEUE: usize = 8;
 
 /// The bytes of a request, of which six are not PData.
 pub const HEADER: usize = 6;
@@ -65,17 +65,17 @@ pub fn gateway_rule(gateway: &Gateway) -> bool {
             return false;
         }
     }
-    let desk = &gateway.desk;
-    if desk.network > 1 || desk.count as usize > DESK {
+    let queue = &gateway.queue;
+    if queue.network > 1 || queue.count as usize > QUEUE {
         return false;
     }
-    for (i, place) in desk.places.iter().enumerate() {
-        let good = if i < desk.count as usize { waiting_rule(place) } else { *place == Waiting::ZERO };
+    for (i, place) in queue.places.iter().enumerate() {
+        let good = if i < queue.count as usize { waiting_rule(place) } else { *place == Waiting::ZERO };
         if !good {
             return false;
         }
     }
-    desk.last <= LATEST && desk.next <= desk.last + LONGEST_WAIT
+    queue.last <= LATEST && queue.next <= queue.last + LONGEST_WAIT
 }
 
 /// What a sound record says.
@@ -102,14 +102,14 @@ impl Model {
         if !gateway_rule(gateway) {
             return None;
         }
-        let desk = &gateway.desk;
+        let queue = &gateway.queue;
         Some(Model {
-            lp: desk.network == 1,
-            dpa_value: desk.dpa_value,
+            lp: queue.network == 1,
+            dpa_value: queue.dpa_value,
             bonded: (0..=255).filter(|&address| is_bonded(&gateway.bonds, address)).collect(),
-            waiting: desk.places[..desk.count as usize].iter().map(Request::read).collect(),
-            last: desk.last,
-            next: desk.next,
+            waiting: queue.places[..queue.count as usize].iter().map(Request::read).collect(),
+            last: queue.last,
+            next: queue.next,
         })
     }
 
@@ -118,11 +118,11 @@ impl Model {
         for &address in &self.bonded {
             bonds[address as usize / 8] |= 1 << (address % 8);
         }
-        let mut places = [Waiting::ZERO; DESK];
+        let mut places = [Waiting::ZERO; QUEUE];
         for (place, request) in places.iter_mut().zip(&self.waiting) {
             *place = request.write();
         }
-        let desk = Desk {
+        let queue = SendQueue {
             last: self.last,
             next: self.next,
             network: self.lp as u8,
@@ -130,7 +130,7 @@ impl Model {
             count: self.waiting.len() as u8,
             places,
         };
-        Gateway { bonds, desk }
+        Gateway { bonds, queue }
     }
 
     /// A time before the last one given, or above the limit.
@@ -208,7 +208,7 @@ pub fn bond_bitmap(gateway: Gateway) -> BitmapAnswer {
     }
 }
 
-// ---- desk ----
+// ---- send queue ----
 pub fn send(gateway: Gateway, frame: &[u8], hops: u8, response_hops: u8, delay: u16, time: u64) -> GatewayAnswer {
     let refused = |refusal| GatewayAnswer { refusal, gateway };
     let Some(mut model) = Model::read(&gateway) else { return refused(1) };
@@ -219,7 +219,7 @@ pub fn send(gateway: Gateway, frame: &[u8], hops: u8, response_hops: u8, delay: 
     if address != BROADCAST && !model.bonded.contains(&address) {
         return refused(12);
     }
-    if model.waiting.len() == DESK {
+    if model.waiting.len() == QUEUE {
         return refused(13);
     }
     if model.refuses_time(time) {

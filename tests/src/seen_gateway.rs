@@ -2,7 +2,7 @@
 //! a case. What a call did follows from its inputs and the record before it.
 use crate::random_gateway::{Clause, SLOT_LIMITS};
 use crate::reference_gateway::{
-    is_bonded, is_node, nadr, BROADCAST, DESK, FIRST_NODE, HEADER, LAST_NODE, LATEST, LONGEST, LONGEST_WAIT, ROOM,
+    is_bonded, is_node, nadr, BROADCAST, FIRST_NODE, HEADER, LAST_NODE, LATEST, LONGEST, LONGEST_WAIT, QUEUE, ROOM,
 };
 use crate::seen::{Counts, EITHER};
 use crate::sides_gateway::{Answer, Call};
@@ -102,7 +102,7 @@ impl Outcome {
         match answer {
             _ if answer.refusal() != 0 => Outcome::Refused(answer.refusal()),
             Answer::Release(release) if release.released => Outcome::Released,
-            Answer::Release(_) if before.desk.count == 0 => Outcome::NoneWaiting,
+            Answer::Release(_) if before.queue.count == 0 => Outcome::NoneWaiting,
             Answer::Release(_) => Outcome::TooEarly,
             _ => Outcome::Done,
         }
@@ -112,7 +112,7 @@ impl Outcome {
 /// The refusals that apply, in the order of the tests; `room` is that of a release.
 pub fn faults(gateway: &Gateway, call: &Call, room: usize) -> Vec<u8> {
     let bonded = |address: u16| is_node(address) && is_bonded(&gateway.bonds, address);
-    let bad_time = |time: u64| time < gateway.desk.last || time > LATEST;
+    let bad_time = |time: u64| time < gateway.queue.last || time > LATEST;
     let mut faults = Vec::new();
     let mut add = |applies, refusal| {
         if applies {
@@ -127,7 +127,7 @@ pub fn faults(gateway: &Gateway, call: &Call, room: usize) -> Vec<u8> {
             let frame = &request.frame;
             add(!(HEADER..=LONGEST).contains(&frame.len()), 2);
             add(frame.len() < 2 || nadr(frame) != BROADCAST && !bonded(nadr(frame)), 12);
-            add(gateway.desk.count as usize >= DESK, 13);
+            add(gateway.queue.count as usize >= QUEUE, 13);
             add(bad_time(*time), 14);
         }
         Call::Release { time } => {
@@ -141,21 +141,21 @@ pub fn faults(gateway: &Gateway, call: &Call, room: usize) -> Vec<u8> {
 
 /// The clauses of the rule that a record breaks.
 pub fn clauses_broken_in(gateway: &Gateway) -> Vec<Clause> {
-    let Gateway { bonds, desk } = gateway;
-    let (waiting, free) = desk.places.split_at(DESK.min(desk.count as usize));
+    let Gateway { bonds, queue } = gateway;
+    let (waiting, free) = queue.places.split_at(QUEUE.min(queue.count as usize));
     let any = |fault: fn(&Waiting) -> bool| waiting.iter().any(fault);
     let broken = |clause: &Clause| match clause {
         Clause::BondOf0 => is_bonded(bonds, 0),
         Clause::BondFrom240 => (LAST_NODE + 1..=255).any(|address| is_bonded(bonds, address)),
-        Clause::Network => desk.network > 1,
-        Clause::Count => desk.count as usize > DESK,
+        Clause::Network => queue.network > 1,
+        Clause::Count => queue.count as usize > QUEUE,
         Clause::ShortFrame => any(|place| (place.length as usize) < HEADER),
         Clause::LongFrame => any(|place| place.length as usize > LONGEST),
         Clause::Nadr => any(|place| !is_node(nadr(&place.frame)) && nadr(&place.frame) != BROADCAST),
         Clause::AfterFrame => any(|place| place.frame.iter().skip(place.length as usize).any(|&byte| byte != 0)),
         Clause::FreePlace => free.iter().any(|place| *place != Waiting::ZERO),
-        Clause::Last => desk.last > LATEST,
-        Clause::Next => desk.next > desk.last.saturating_add(LONGEST_WAIT),
+        Clause::Last => queue.last > LATEST,
+        Clause::Next => queue.next > queue.last.saturating_add(LONGEST_WAIT),
     };
     Clause::EVERY.into_iter().filter(broken).collect()
 }
@@ -312,7 +312,7 @@ impl Released {
             address if is_bonded(&gateway.bonds, address) => Receiver::BondedNode,
             _ => Receiver::OtherNode,
         };
-        Released { lp: gateway.desk.network == 1, pdata: frame.len() - HEADER, to }
+        Released { lp: gateway.queue.network == 1, pdata: frame.len() - HEADER, to }
     }
 }
 
@@ -336,10 +336,10 @@ impl Seen {
         }
         let (Call::Send { time, .. } | Call::Release { time }) = call else { return };
         if faults.first().is_none_or(|&refusal| refusal == 14) {
-            self.times.add((kind, Time::of(before.desk.last, *time)));
+            self.times.add((kind, Time::of(before.queue.last, *time)));
         }
-        if let (Answer::Release(release), true, 1..) = (answer, faults.is_empty(), before.desk.count) {
-            self.due.add(Due::of(before.desk.next, *time));
+        if let (Answer::Release(release), true, 1..) = (answer, faults.is_empty(), before.queue.count) {
+            self.due.add(Due::of(before.queue.next, *time));
             let frame = &release.frame[..release.frame_length];
             if release.released && SLOT_LIMITS.contains(&(frame.len() - HEADER)) {
                 self.released.add(Released::of(before, frame));
@@ -359,7 +359,7 @@ impl Seen {
         }
         self.due.assert_each(Due::EVERY, least);
         self.released.assert_each(Released::every(), least);
-        self.before.assert_each(0..DESK, least);
+        self.before.assert_each(0..QUEUE, least);
         self.records.assert_each(Kind::EVERY.into_iter().flat_map(Record::every), least);
     }
 }

@@ -70,7 +70,7 @@ pub const PLAIN: Side = Side {
     release: |gateway, time, out| release_by(plain_gateway::release, gateway, time, out),
 };
 
-/// A request as it is handed to the desk.
+/// A request as it is handed to a gateway.
 #[derive(Clone, PartialEq, Eq, Debug)]
 pub struct Request {
     pub frame: Vec<u8>,

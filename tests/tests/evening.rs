@@ -1,9 +1,9 @@
 //! One simulated evening, all through the C interface: a gateway and three nodes
 //! (02, change 6/12). Scenes of a small book are compiled for one node, for all
-//! nodes and for chosen ones. Their requests wait at the desk; each is released
-//! as soon as it may be, framed for the serial line, received by every node in
-//! parts of odd sizes and handled; a response travels back in the same way. A
-//! clock of milliseconds drives it all, with a tick of the nodes each second.
+//! nodes and for chosen ones. Their requests wait in the send queue; each is
+//! released as soon as it may be, framed for the serial line, received by every
+//! node in parts of odd sizes and handled; a response travels back in the same
+//! way. A clock of milliseconds drives it all, with a tick of the nodes each second.
 //!
 //! Ticks fall between the requests of a scene, so a scene is not compared as a
 //! whole. Each request keeps the steps that are in it; when it is released, the
@@ -25,7 +25,7 @@ const NODES: [(u16, u8, (u8, u8, u16)); 3] = [(3, 32, (1, 1, 0)), (17, 8, (4, 5,
 const TO_ALL: (u8, u8, u16) = (5, 5, 10);
 
 /// The scenes of the book: light with times, more light for a while, notes in EEPROM, and one that takes more requests
-/// than the desk has places. Times of 80 hex plus a number are seconds.
+/// than the queue has places. Times of 80 hex plus a number are seconds.
 const EVENING: usize = 0;
 const WORK: usize = 1;
 const NOTES: usize = 2;
@@ -121,9 +121,9 @@ struct House {
     gateway: Gateway,
     receiver: Receiver,
     bays: Vec<Bay>,
-    /// Not yet accepted by the desk.
+    /// Not yet accepted by the gateway.
     outbox: VecDeque<Request>,
-    at_desk: VecDeque<Request>,
+    waiting: VecDeque<Request>,
     /// The earliest next release, by the papers' formula.
     earliest: u64,
     released: usize,
@@ -144,7 +144,7 @@ impl House {
             receiver: raw::uart_receiver(true),
             bays: NODES.map(|(address, lamps, _)| Bay::new(address, lamps)).into(),
             outbox: VecDeque::new(),
-            at_desk: VecDeque::new(),
+            waiting: VecDeque::new(),
             earliest: 0,
             released: 0,
         }
@@ -177,22 +177,22 @@ impl House {
             if self.now.is_multiple_of(1000) {
                 self.bays.iter_mut().for_each(Bay::tick);
             }
-            self.fill_desk();
+            self.fill_queue();
             self.release();
             self.now += 1;
         }
     }
 
-    /// A full desk has room again after a release. A node without a bond is bonded again.
-    fn fill_desk(&mut self) {
+    /// A full queue has room again after a release. A node without a bond is bonded again.
+    fn fill_queue(&mut self) {
         while let Some(request) = self.outbox.front() {
             let (hops, response_hops, delay) = request.way();
             let answer = raw::send(self.gateway, &request.frame, hops, response_hops, delay, self.now);
             self.gateway = answer.gateway;
             match answer.refusal {
-                0 => self.at_desk.extend(self.outbox.pop_front()),
+                0 => self.waiting.extend(self.outbox.pop_front()),
                 12 => self.gateway = raw::bond(self.gateway, nadr(&request.frame)).gateway,
-                refusal => return assert_eq!((refusal, self.at_desk.len()), (13, 8)),
+                refusal => return assert_eq!((refusal, self.waiting.len()), (13, 8)),
             }
         }
     }
@@ -202,12 +202,12 @@ impl House {
         let mut out = [0; 64];
         let answer = raw::release(self.gateway, self.now, &mut out);
         self.gateway = answer.gateway;
-        let due = self.now >= self.earliest && !self.at_desk.is_empty();
+        let due = self.now >= self.earliest && !self.waiting.is_empty();
         assert_eq!((answer.refusal, answer.released), (0, due), "at {} ms", self.now);
         if !due {
             return;
         }
-        let request = self.at_desk.pop_front().expect("one is waiting");
+        let request = self.waiting.pop_front().expect("one is waiting");
         self.released += 1;
         assert_eq!(answer.frame[..answer.frame_length], request.frame);
 
@@ -276,7 +276,7 @@ fn evening() {
             house.order(LONG, Some(17), &[17]);
             house.run(700);
             // eight requests for node 17 wait and stay; for the others it is bonded again
-            assert!(house.at_desk.len() == 8 && house.at_desk.iter().all(|request| request.nodes == [17]));
+            assert!(house.waiting.len() == 8 && house.waiting.iter().all(|request| request.nodes == [17]));
             house.gateway = raw::unbond(house.gateway, 17).gateway;
             house.order(EVENING, None, &[3, 100]);
             house.run(20_000);
@@ -286,7 +286,7 @@ fn evening() {
             house.order(NOTES, Some(100), &[100]);
             house.order(WORK, Some(3), &[3]);
             house.run(1);
-            assert_eq!(house.at_desk.len(), 2);
+            assert_eq!(house.waiting.len(), 2);
             house.gateway = raw::clear_bonds(house.gateway).gateway;
             house.run(5000);
             assert_eq!(raw::bond_count(house.gateway).count, 0);
@@ -301,7 +301,7 @@ fn evening() {
                 house.gateway = raw::bond(house.gateway, address).gateway;
             }
         }
-        assert!(house.outbox.is_empty() && house.at_desk.is_empty());
+        assert!(house.outbox.is_empty() && house.waiting.is_empty());
         println!("evening, lp {lp}: {} requests in {} simulated ms", house.released, house.now);
     }
 }

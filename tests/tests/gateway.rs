@@ -1,4 +1,4 @@
-//! The gateway (02, change 6/12): its bonds (000, 3.2) and its desk (003). First
+//! The gateway (02, change 6/12): its bonds (000, 3.2) and its send queue (003). First
 //! examples, on the library through its C interface and through the methods of
 //! its bindings, on the reference and on the plain implementation, one or more for
 //! each point of the rules. Then random histories of the library, of the bindings
@@ -9,7 +9,7 @@
 //! and the number of bonds.
 //! Each test prints its seed; `GRELFINT_SEED` sets another. A failure prints all
 //! inputs.
-use grelfint::raw::{BitmapAnswer, CountAnswer, Desk, Gateway, ReleaseAnswer, Waiting};
+use grelfint::raw::{BitmapAnswer, CountAnswer, Gateway, ReleaseAnswer, SendQueue, Waiting};
 use grelfint_tests::board::frame_of;
 use grelfint_tests::buffers::{difference, hex};
 use grelfint_tests::on_every_side;
@@ -28,7 +28,7 @@ on_every_side! { [on_library: LIBRARY, on_bindings: BINDINGS, on_reference: REFE
     bit_of_each_address,
     all_bonds,
     clearing_bonds,
-    bonds_and_desk_are_apart,
+    bonds_and_queue_are_apart,
     first_release_at_any_time,
     guide_example,
     wait_for_each_slot,
@@ -177,8 +177,8 @@ fn every_call(time: u64) -> [Call; 7] {
 fn new_gateways(side: Side) {
     for (lp, network) in [(false, 0), (true, 1)] {
         for dpa_value in [0, 1, 255] {
-            let desk = Desk { last: 0, next: 0, network, dpa_value, count: 0, places: [Waiting::ZERO; 8] };
-            assert_eq!((side.start)(lp, dpa_value), Gateway { bonds: [0; 32], desk });
+            let queue = SendQueue { last: 0, next: 0, network, dpa_value, count: 0, places: [Waiting::ZERO; 8] };
+            assert_eq!((side.start)(lp, dpa_value), Gateway { bonds: [0; 32], queue });
         }
     }
 }
@@ -270,8 +270,8 @@ fn clearing_bonds(side: Side) {
     }
 }
 
-/// The bonds stay when requests come and go, and the desk when bonds do.
-fn bonds_and_desk_are_apart(side: Side) {
+/// The bonds stay when requests come and go, and the queue when bonds do.
+fn bonds_and_queue_are_apart(side: Side) {
     let mut station = Station::with_node_5(side);
     for address in [1, 239] {
         station.accept(Call::Bond(address));
@@ -283,11 +283,11 @@ fn bonds_and_desk_are_apart(side: Side) {
     station.release(50).expect("the first request is due");
     assert_eq!(station.release(60), None);
     assert_eq!(station.gateway.bonds, bonds);
-    let desk = station.gateway.desk;
-    assert_eq!((desk.last, desk.count), (60, 7));
+    let queue = station.gateway.queue;
+    assert_eq!((queue.last, queue.count), (60, 7));
     for call in [Call::Bond(6), Call::Unbond(5), Call::BondCount, Call::BondBitmap, Call::ClearBonds, Call::Bond(5)] {
         station.accept(call);
-        assert_eq!(station.gateway.desk, desk);
+        assert_eq!(station.gateway.queue, queue);
     }
 }
 
@@ -311,7 +311,7 @@ fn guide_example(side: Side) {
     let (frame, confirmation) = station.release(1000).expect("the first request");
     assert_eq!(frame, [0x05, 0x00, 0x71, 0x00, 0x71, 0x24, 1, 2, 3, 4, 5]);
     assert_eq!(confirmation, [0x05, 0x00, 0x71, 0x00, 0x71, 0x24, 0xFF, DPA_VALUE, 2, 4, 3]);
-    assert_eq!(station.gateway.desk.next, 1380);
+    assert_eq!(station.gateway.queue.next, 1380);
     station.release_not_before(&second, 1380);
 }
 
@@ -334,7 +334,7 @@ fn wait_for_each_slot(side: Side) {
             station.send(&next, 0);
             let (_, confirmation) = station.release(5000).expect("the first request");
             assert_eq!(confirmation[8..], [1, slot, 2]);
-            assert_eq!(station.gateway.desk.next, 5000 + wait, "{lp} {pdata}");
+            assert_eq!(station.gateway.queue.next, 5000 + wait, "{lp} {pdata}");
             station.release_not_before(&next, 5000 + wait);
         }
     }
@@ -365,7 +365,7 @@ fn wait_for_hops_and_delay(side: Side) {
     station.send(&request(5, 56, 255, 255, 65_535), 0);
     station.send(&to_node_5(0), 0);
     station.release(77).expect("the first request");
-    assert_eq!(station.gateway.desk.next, 77 + LONGEST_WAIT);
+    assert_eq!(station.gateway.queue.next, 77 + LONGEST_WAIT);
     station.release_not_before(&to_node_5(0), 77 + LONGEST_WAIT);
 }
 
@@ -386,14 +386,14 @@ fn broadcasts(side: Side) {
         let (frame, confirmation) = station.release(300).expect("the first request");
         assert_eq!(frame, request(BROADCAST, pdata, 0, 0, 0).frame);
         assert_eq!(confirmation, [0xFF, 0, 0x71, 0, 0x71, 0x24, 0xFF, DPA_VALUE, 1, slot, 0]);
-        assert_eq!(station.gateway.desk.next, 300 + wait);
+        assert_eq!(station.gateway.queue.next, 300 + wait);
         station.release_not_before(&request(BROADCAST, pdata, 0, 0, 0), 300 + wait);
     }
     // (255 + 1) × 100 + 65,535
     let mut station = Station::new(side, true);
     station.send(&request(BROADCAST, 56, 255, 255, 65_535), 0);
     station.release(0).expect("the request");
-    assert_eq!(station.gateway.desk.next, 91_135);
+    assert_eq!(station.gateway.queue.next, 91_135);
 }
 
 /// The wait is over at its last millisecond, however often it was too early; later is no fault.
@@ -420,8 +420,8 @@ fn wait_runs_from_the_release(side: Side) {
     station.send(&to_node_5(1), 550);
     station.send(&to_node_5(2), 900);
     station.release_it(&to_node_5(1), 1000);
-    assert_eq!(station.gateway.desk.next, 1100);
-    // an empty desk does not forget
+    assert_eq!(station.gateway.queue.next, 1100);
+    // an empty queue does not forget
     station.release_not_before(&to_node_5(2), 1100);
     assert_eq!(station.release(1150), None);
     station.send(&to_node_5(3), 1160);
@@ -442,12 +442,12 @@ fn order_of_arrival(side: Side) {
         station.send(sent, 1);
     }
     for (i, sent) in requests.iter().enumerate() {
-        let time = station.gateway.desk.next.max(1);
+        let time = station.gateway.queue.next.max(1);
         let (frame, confirmation) = station.release(time).expect("one is due");
         assert_eq!(frame, sent.frame);
         let response_hops = if nadr(&frame) == BROADCAST { 0 } else { 10 + i as u8 };
         assert_eq!((confirmation[8], confirmation[10]), (i as u8, response_hops));
-        assert_eq!(station.gateway.desk.count as usize, 7 - i);
+        assert_eq!(station.gateway.queue.count as usize, 7 - i);
     }
     assert_eq!(station.release(1_000_000), None);
 }
@@ -483,36 +483,36 @@ fn places_of_a_record(side: Side) {
         .map(|(address, pdata)| request(address, pdata, 1 + pdata as u8, 2 * pdata as u8, 3000 + pdata as u16));
     for (i, request) in requests.iter().enumerate() {
         station.send(request, 70 + i as u64);
-        want.desk.places[i] = place(request);
-        (want.desk.count, want.desk.last) = (i as u8 + 1, 70 + i as u64);
+        want.queue.places[i] = place(request);
+        (want.queue.count, want.queue.last) = (i as u8 + 1, 70 + i as u64);
         assert_eq!(station.gateway, want);
     }
     // (57 + 1) × 60 + 3056 + (112 + 1) × 60, and (1 + 1) × 40 + 3000 + (0 + 1) × 60
     for (i, wait) in [13_316, 3_140].into_iter().enumerate() {
         let time = 20_000 * (i as u64 + 1);
         station.release_it(&requests[i], time);
-        want.desk.places.copy_within(1.., 0);
-        want.desk.count -= 1;
-        (want.desk.last, want.desk.next) = (time, time + wait);
+        want.queue.places.copy_within(1.., 0);
+        want.queue.count -= 1;
+        (want.queue.last, want.queue.next) = (time, time + wait);
         assert_eq!(station.gateway, want);
     }
 }
 
-/// Forty requests pass through the desk, long and short ones by turns, with one to eight waiting.
+/// Forty requests pass through the queue, long and short ones by turns, with one to eight waiting.
 fn places_used_again(side: Side) {
     for most in 1..=8 {
         let mut station = Station::with_node_5(side);
         let requests: Vec<Request> = (0..40).map(|i| request(5, (i * 37) % 57, i as u8, 0, 9)).collect();
         let mut sent = 0;
         for i in 0..requests.len() {
-            let time = station.gateway.desk.next;
+            let time = station.gateway.queue.next;
             while sent < requests.len() && sent < i + most {
                 station.send(&requests[sent], time);
                 sent += 1;
             }
             station.release_it(&requests[i], time);
         }
-        assert_eq!(station.gateway.desk.places, [Waiting::ZERO; 8]);
+        assert_eq!(station.gateway.queue.places, [Waiting::ZERO; 8]);
     }
 }
 
@@ -531,7 +531,7 @@ fn lengths_of_a_request(side: Side) {
         station.send(&of_length(length), 0);
     }
     for length in [6, 7, 61, 62] {
-        let time = station.gateway.desk.next;
+        let time = station.gateway.queue.next;
         station.release_it(&of_length(length), time);
     }
 }
@@ -552,7 +552,7 @@ fn addresses_of_a_request(side: Side) {
         station.send(&request(address, 4, 0, 0, 0), 0);
     }
     for address in [1, 5, 239, BROADCAST] {
-        let time = station.gateway.desk.next;
+        let time = station.gateway.queue.next;
         station.release_it(&request(address, 4, 0, 0, 0), time);
     }
 }
@@ -564,9 +564,9 @@ fn removed_bonds_withdraw_nothing(side: Side) {
         for address in [6, 5, 5] {
             station.send(&request(address, 1, 0, 0, 0), 0);
         }
-        let desk = station.gateway.desk;
+        let queue = station.gateway.queue;
         station.accept(remove);
-        assert_eq!(station.gateway.desk, desk);
+        assert_eq!(station.gateway.queue, queue);
         station.refuse(Call::Send { request: to_node_5(1), time: 0 }, 12);
         for (i, address) in [6, 5, 5].into_iter().enumerate() {
             let (frame, confirmation) = station.release(100 * i as u64).expect("it is still there");
@@ -589,7 +589,7 @@ fn times_that_are_accepted(side: Side) {
             } else {
                 Call::Release { time: last }
             });
-            assert_eq!(station.gateway.desk.last, last);
+            assert_eq!(station.gateway.queue.last, last);
             for time in [0, last - 1, last / 2, LATEST + 1, LATEST + 2, 1 << 41, 1 << 63, u64::MAX] {
                 for call in calls(time) {
                     station.refuse(call, 14);
@@ -609,7 +609,7 @@ fn times_that_are_accepted(side: Side) {
 fn every_release_takes_the_time(side: Side) {
     let mut station = Station::with_node_5(side);
     assert_eq!(station.release(30), None); // none waiting
-    assert_eq!(station.gateway.desk, Desk { last: 30, ..(side.start)(false, DPA_VALUE).desk });
+    assert_eq!(station.gateway.queue, SendQueue { last: 30, ..(side.start)(false, DPA_VALUE).queue });
     station.refuse(Call::Send { request: to_node_5(0), time: 29 }, 14);
     station.send(&to_node_5(0), 30);
     station.send(&to_node_5(1), 30);
@@ -617,7 +617,7 @@ fn every_release_takes_the_time(side: Side) {
     station.refuse(Call::Release { time: 39 }, 14);
     let before = station.gateway;
     assert_eq!(station.release(130), None); // too early
-    assert_eq!(station.gateway, Gateway { desk: Desk { last: 130, ..before.desk }, ..before });
+    assert_eq!(station.gateway, Gateway { queue: SendQueue { last: 130, ..before.queue }, ..before });
     station.refuse(Call::Send { request: to_node_5(2), time: 129 }, 14);
     station.refuse(Call::Release { time: 129 }, 14);
     station.release_it(&to_node_5(1), 140);
@@ -649,14 +649,14 @@ fn last_time_of_all(side: Side) {
         station.send(&to_node_5(pdata), LATEST);
     }
     station.release_it(&to_node_5(0), LATEST);
-    let desk = station.gateway.desk;
-    assert_eq!((desk.last, desk.next, desk.count), (LATEST, LATEST + 100, 2));
+    let queue = station.gateway.queue;
+    assert_eq!((queue.last, queue.next, queue.count), (LATEST, LATEST + 100, 2));
     assert_eq!(station.release(LATEST), None);
     for time in [LATEST + 1, LATEST + 100, LATEST + 101] {
         station.refuse(Call::Release { time }, 14);
     }
-    assert_eq!(station.gateway.desk, desk);
-    // a bond can still be added, and requests until the desk is full
+    assert_eq!(station.gateway.queue, queue);
+    // a bond can still be added, and requests until the queue is full
     station.accept(Call::Bond(6));
     for pdata in 3..9 {
         station.send(&to_node_5(pdata), LATEST);
@@ -698,7 +698,7 @@ fn order_of_refusals(side: Side) {
             station.send(&to_node_5(1), 100);
         }
         if has(faults, 0) {
-            station.gateway.desk.network = 2;
+            station.gateway.queue.network = 2;
         }
         let mut sent = to_node_5(0);
         if has(faults, 1) {
@@ -721,7 +721,7 @@ fn order_of_refusals(side: Side) {
                 station.send(&to_node_5(1), 100);
             }
             if has(faults, 0) {
-                station.gateway.desk.network = 2;
+                station.gateway.queue.network = 2;
             }
             let mut out = vec![0xEE; if has(faults, 1) { 63 } else { 64 }];
             let answer = (side.release)(station.gateway, if has(faults, 2) { 99 } else { 100 }, &mut out);
@@ -735,7 +735,7 @@ fn order_of_refusals(side: Side) {
         }
     }
     let mut broken = Station::with_node_5(side);
-    broken.gateway.desk.network = 2;
+    broken.gateway.queue.network = 2;
     for call in [Call::Bond(5), Call::Bond(240), Call::Unbond(6), Call::Unbond(0)] {
         broken.refuse(call, 1);
     }
@@ -757,9 +757,9 @@ fn usual_record(side: Side) -> Gateway {
 /// The record with eight requests.
 fn full_record(side: Side) -> Gateway {
     let mut gateway = usual_record(side);
-    let [oldest, ..] = gateway.desk.places;
-    gateway.desk.places[3..].fill(oldest);
-    gateway.desk.count = 8;
+    let [oldest, ..] = gateway.queue.places;
+    gateway.queue.places[3..].fill(oldest);
+    gateway.queue.count = 8;
     gateway
 }
 
@@ -777,55 +777,55 @@ fn broken_records(side: Side) {
         add(Clause::BondFrom240, usual, &|r| r.bonds[address / 8] |= 1 << (address % 8));
     }
     for number in [2, 3, 128, 255] {
-        add(Clause::Network, usual, &|r| r.desk.network = number);
+        add(Clause::Network, usual, &|r| r.queue.network = number);
     }
     for number in [9, 10, 16, 128, 255] {
-        add(Clause::Count, full, &|r| r.desk.count = number);
+        add(Clause::Count, full, &|r| r.queue.count = number);
     }
     for (record, waiting) in [(usual, 3), (full, 8)] {
         for i in 0..waiting {
             let shorten = |r: &mut Gateway, length: u8| {
-                r.desk.places[i].length = length;
-                r.desk.places[i].frame[length as usize..].fill(0);
+                r.queue.places[i].length = length;
+                r.queue.places[i].frame[length as usize..].fill(0);
             };
             for length in 1..6 {
                 add(Clause::ShortFrame, record, &|r| shorten(r, length));
             }
             for length in [63, 64, 127, 128, 255] {
-                add(Clause::LongFrame, record, &|r| r.desk.places[i].length = length);
+                add(Clause::LongFrame, record, &|r| r.queue.places[i].length = length);
             }
             for address in [0u16, 240, 241, 254, 0x0100, 0x0101, 0x01EF, 0x01FF, 0x8005, 0xFF00, 0xFFFF] {
-                add(Clause::Nadr, record, &|r| r.desk.places[i].frame[..2].copy_from_slice(&address.to_le_bytes()));
+                add(Clause::Nadr, record, &|r| r.queue.places[i].frame[..2].copy_from_slice(&address.to_le_bytes()));
             }
             for length in [6, 40, 61] {
                 for byte in length..62 {
                     add(Clause::AfterFrame, record, &|r| {
                         shorten(r, length);
-                        r.desk.places[i].frame[byte as usize] = if byte % 2 == 0 { 1 } else { 0x80 };
+                        r.queue.places[i].frame[byte as usize] = if byte % 2 == 0 { 1 } else { 0x80 };
                     });
                 }
             }
         }
     }
     for i in 3..8 {
-        add(Clause::FreePlace, usual, &|r| r.desk.places[i].delay = 1);
-        add(Clause::FreePlace, usual, &|r| r.desk.places[i].delay = 0x0100);
-        add(Clause::FreePlace, usual, &|r| r.desk.places[i].length = 6);
-        add(Clause::FreePlace, usual, &|r| r.desk.places[i].hops = 1);
-        add(Clause::FreePlace, usual, &|r| r.desk.places[i].response_hops = 1);
-        add(Clause::FreePlace, usual, &|r| r.desk.places[i] = r.desk.places[0]);
+        add(Clause::FreePlace, usual, &|r| r.queue.places[i].delay = 1);
+        add(Clause::FreePlace, usual, &|r| r.queue.places[i].delay = 0x0100);
+        add(Clause::FreePlace, usual, &|r| r.queue.places[i].length = 6);
+        add(Clause::FreePlace, usual, &|r| r.queue.places[i].hops = 1);
+        add(Clause::FreePlace, usual, &|r| r.queue.places[i].response_hops = 1);
+        add(Clause::FreePlace, usual, &|r| r.queue.places[i] = r.queue.places[0]);
         for byte in 0..62 {
-            add(Clause::FreePlace, usual, &|r| r.desk.places[i].frame[byte] = if byte % 2 == 0 { 1 } else { 0x80 });
+            add(Clause::FreePlace, usual, &|r| r.queue.places[i].frame[byte] = if byte % 2 == 0 { 1 } else { 0x80 });
         }
     }
     for last in [LATEST + 1, LATEST + 2, 1 << 41, 1 << 63, u64::MAX - LONGEST_WAIT, u64::MAX] {
         for next in [0, LATEST, last] {
-            add(Clause::Last, usual, &|r| (r.desk.last, r.desk.next) = (last, next));
+            add(Clause::Last, usual, &|r| (r.queue.last, r.queue.next) = (last, next));
         }
     }
     for last in [0, 1, 1000, LATEST] {
         for next in [last + LONGEST_WAIT + 1, last + LONGEST_WAIT + 2, 1 << 63, u64::MAX] {
-            add(Clause::Next, usual, &|r| (r.desk.last, r.desk.next) = (last, next));
+            add(Clause::Next, usual, &|r| (r.queue.last, r.queue.next) = (last, next));
         }
     }
     for (clause, gateway) in &records {
@@ -833,9 +833,10 @@ fn broken_records(side: Side) {
     }
     // and everything that a record can break
     let place = Waiting { delay: 0xFFFF, length: 255, hops: 255, response_hops: 255, frame: [0xFF; 62] };
-    let desk = Desk { last: u64::MAX, next: u64::MAX, network: 255, dpa_value: 255, count: 255, places: [place; 8] };
-    let all_ones = Gateway { bonds: [0xFF; 32], desk };
-    let no_frames = Gateway { desk: Desk { count: 8, ..(side.start)(false, 0).desk }, ..usual };
+    let places = [place; 8];
+    let queue = SendQueue { last: u64::MAX, next: u64::MAX, network: 255, dpa_value: 255, count: 255, places };
+    let all_ones = Gateway { bonds: [0xFF; 32], queue };
+    let no_frames = Gateway { queue: SendQueue { count: 8, ..(side.start)(false, 0).queue }, ..usual };
     for gateway in records.into_iter().map(|(_, gateway)| gateway).chain([all_ones, no_frames]) {
         let station = Station { side, gateway };
         for time in [0, 5000, LATEST] {
@@ -858,7 +859,7 @@ fn sound_records(side: Side) {
             (LATEST, LATEST - 1),
             (LATEST, LATEST + LONGEST_WAIT),
         ] {
-            records.push(Gateway { desk: Desk { last, next, ..record.desk }, ..record });
+            records.push(Gateway { queue: SendQueue { last, next, ..record.queue }, ..record });
         }
         for bonds in [ALL_BONDS, [0; 32]] {
             // requests need no bond once they wait
@@ -872,7 +873,7 @@ fn sound_records(side: Side) {
                     frame[..length as usize].fill(byte);
                     frame[..2].copy_from_slice(&u16::to_le_bytes(address));
                     let mut changed = record;
-                    changed.desk.places[record.desk.count as usize - 1] =
+                    changed.queue.places[record.queue.count as usize - 1] =
                         Waiting { delay: 65_535, length, hops: 255, response_hops: 255, frame };
                     records.push(changed);
                 }
@@ -973,7 +974,7 @@ impl Session {
         }
         let waiting = account.waiting.len();
         for released in 1..=waiting {
-            let time = gateway.desk.next.max(gateway.desk.last);
+            let time = gateway.queue.next.max(gateway.queue.last);
             if time > LATEST {
                 break;
             }
@@ -990,7 +991,7 @@ impl Session {
         if self.g.chance(1, 8) {
             let mut both = broken;
             both.bonds[31] |= 1;
-            both.desk.network |= 2;
+            both.queue.network |= 2;
             return both;
         }
         broken
@@ -1039,21 +1040,21 @@ struct Sent {
 
 impl Account {
     fn of(gateway: &Gateway) -> Account {
-        let Gateway { bonds, desk } = gateway;
+        let Gateway { bonds, queue } = gateway;
         let sent = |(before, place): (usize, &Waiting)| {
             let Waiting { delay, length, hops, response_hops, ref frame } = *place;
             let request = Request { frame: frame[..length as usize].to_vec(), hops, response_hops, delay };
             Sent { request, before, releases: 0 }
         };
         Account {
-            lp: desk.network == 1,
-            dpa_value: desk.dpa_value,
+            lp: queue.network == 1,
+            dpa_value: queue.dpa_value,
             bonded: addresses_in(bonds),
-            waiting: desk.places[..desk.count as usize].iter().enumerate().map(sent).collect(),
+            waiting: queue.places[..queue.count as usize].iter().enumerate().map(sent).collect(),
             releases: 0,
             last_before: 0,
-            last: desk.last,
-            earliest: desk.next,
+            last: queue.last,
+            earliest: queue.next,
         }
     }
 
@@ -1085,7 +1086,7 @@ impl Account {
         fault
             .or(miscounted.then_some("number of bonds after the call"))
             .or((addresses_in(&after.bonds) != self.bonded).then_some("bonds of the record"))
-            .or((!self.has_desk(&after.desk)).then_some("desk of the record"))
+            .or((!self.has_queue(&after.queue)).then_some("queue of the record"))
     }
 
     /// Released exactly if one waits and the time has come: the oldest, after exactly those that were waiting before it.
@@ -1120,16 +1121,16 @@ impl Account {
         }
     }
 
-    fn has_desk(&self, desk: &Desk) -> bool {
+    fn has_queue(&self, queue: &SendQueue) -> bool {
         let is_in = |(sent, place): (&Sent, &Waiting)| {
             let Request { frame, hops, response_hops, delay } = &sent.request;
             place.frame[..frame.len()] == frame[..]
                 && (place.length as usize, place.hops, place.response_hops, place.delay)
                     == (frame.len(), *hops, *response_hops, *delay)
         };
-        (desk.count as usize, desk.last, desk.next) == (self.waiting.len(), self.last, self.earliest)
-            && (desk.network, desk.dpa_value) == (self.lp as u8, self.dpa_value)
-            && self.waiting.iter().zip(&desk.places).all(is_in)
+        (queue.count as usize, queue.last, queue.next) == (self.waiting.len(), self.last, self.earliest)
+            && (queue.network, queue.dpa_value) == (self.lp as u8, self.dpa_value)
+            && self.waiting.iter().zip(&queue.places).all(is_in)
     }
 }
 

@@ -9,7 +9,7 @@ pub const SCENES: usize = 16;
 /// The most steps of a scene.
 pub const STEPS: usize = 64;
 /// Requests that a gateway can hold.
-pub const DESK: usize = 8;
+pub const QUEUE: usize = 8;
 
 // ---- sizes in bytes ----
 /// A node's RAM.

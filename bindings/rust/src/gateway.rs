@@ -79,7 +79,7 @@ impl Gateway {
     }
 
     /// Releases the oldest request that waits, if `time`, the present in ms, is not
-    /// before `desk.next`: the time of the last release, plus the earliest send time
+    /// before `queue.next`: the time of the last release, plus the earliest send time
     /// after that request with the longest response. The first may be released at
     /// any time. If it is too early, or if no request waits, there is none, and only
     /// the time is recorded.

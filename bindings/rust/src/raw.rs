@@ -4,7 +4,7 @@
 //! what it writes. `refusal` in an answer is 0, or the number of the refusal.
 //!
 //! All unsafe code of the crate is in this module.
-use crate::{BONDS, DESK, FRAME, LAMPS, NODE_SET, RAM, UART_FRAME};
+use crate::{BONDS, FRAME, LAMPS, NODE_SET, QUEUE, RAM, UART_FRAME};
 
 // ---- the node ----
 /// What a node is started with.
@@ -243,11 +243,11 @@ impl Waiting {
     pub const ZERO: Waiting = Waiting { delay: 0, length: 0, hops: 0, response_hops: 0, frame: [0; FRAME] };
 }
 
-/// The requests of a gateway on their way to the network. Times are in ms, from
-/// any moment that the caller chooses.
+/// The send queue of a gateway: requests on their way to the network. Times are
+/// in ms, from any moment that the caller chooses.
 #[repr(C)]
 #[derive(Clone, Copy, Debug, PartialEq, Eq)]
-pub struct Desk {
+pub struct SendQueue {
     /// The time of the last send or release, refused ones not counted.
     pub last: u64,
     /// The earliest time of the next release.
@@ -259,7 +259,7 @@ pub struct Desk {
     /// Requests that wait.
     pub count: u8,
     /// These requests, the oldest first; then zeros.
-    pub places: [Waiting; DESK],
+    pub places: [Waiting; QUEUE],
 }
 
 /// A gateway, from [`Gateway::start`]. A caller stores it between calls.
@@ -269,7 +269,7 @@ pub struct Gateway {
     /// Bit `a % 8` of byte `a / 8` is set if node `a` is bonded.
     pub bonds: [u8; BONDS],
     /// The requests that wait, and the times.
-    pub desk: Desk,
+    pub queue: SendQueue,
 }
 
 /// Of the calls that change bonds.

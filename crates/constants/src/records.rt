@@ -2,11 +2,11 @@
 use crate::print;
 use batch::fault;
 use book::kind;
-use desk::rule;
 use lights::lamp;
 use lights::power;
 use lights::request;
 use node::frc;
+use queue::rule;
 use timing::slot::SLOT_UNIT_MS;
 use timing::slot::WAIT_MAX;
 use uart::receive;

@@ -6,7 +6,6 @@ use book::locations::LONGEST_BOOK;
 use book::locations::SCENES_MAX;
 use book::step::STEP_LENGTH;
 use book::step::STEPS_MAX;
-use desk::record::DESK_SIZE;
 use dpa::frame::Frame;
 use dpa::node_set::NODE_SET_SIZE;
 use framing::frame::LONGEST;
@@ -17,6 +16,7 @@ use lights::power::BITMAP_SIZE;
 use memory::block::Memory;
 use memory::block::longest_of;
 use memory::block::size_of;
+use queue::record::QUEUE_SIZE;
 use scene::compile::MIN_OUTPUT;
 use timing::confirm::AT_HOPS;
 use timing::confirm::AT_RESPONSE_HOPS;
@@ -27,7 +27,7 @@ pub fn counts() {
     print(b"LAMPS", LAMPS as u64);
     print(b"SCENES", SCENES_MAX as u64);
     print(b"STEPS", STEPS_MAX as u64);
-    print(b"DESK", DESK_SIZE as u64);
+    print(b"QUEUE", QUEUE_SIZE as u64);
 }
 
 pub fn memories() {

@@ -17,7 +17,7 @@ use Rattle.dpa.proofs.Bool.{and-left, and-right, both, and-right-false, or-left
 use Rattle.dpa.proofs.Ranges.{node-range}
 use Rattle.dpa.proofs.Bytes.{bytes-set, bytes-tested}
 use Rattle.dpa.proofs.NodeSets.{byte-none, selects-first, selects-next, selects-outside, selects-inside, named-min, byte-clear, added-small, selects-added, selects-removed, ones-bits}
-use Rattle.gateway.specs.Bonds.{canChange, changed, bondsSize, noBonds, bonded, withBond, withoutBond, bondCount, canAdd, bondedNode, bondsOk, BondsRule}
+use Rattle.gateway.specs.Bonds.{canChange, changedBonds, bondsSize, noBonds, bonded, withBond, withoutBond, bondCount, canAdd, bondedNode, bondsOk, BondsRule}
 
 -- ---- the rule as a test and as facts
 
@@ -201,17 +201,17 @@ remove-add b a e =
     set-back b (a / 8) new _ (ap (λ (x : ℕ). x + 2 ^ (a % 8)) (getD-set-same b (a / 8) new 0 (selects-inside b a e)) ∙ omega arith)
 
 -- bonds stay sound when an address is added or removed
-pub changed-sound : (add : Bool) (b : List ℕ) (a : ℕ) → bondsOk b ≡ true → canChange add b a ≡ true → bondsOk (changed add b a) ≡ true
+pub changed-sound : (add : Bool) (b : List ℕ) (a : ℕ) → bondsOk b ≡ true → canChange add b a ≡ true → bondsOk (changedBonds add b a) ≡ true
 changed-sound true b a = add-sound b a
 changed-sound false b a = remove-sound b a
 
 -- the opposite change is then possible
-pub changed-back : (add : Bool) (b : List ℕ) (a : ℕ) → bondsOk b ≡ true → canChange add b a ≡ true → canChange (not add) (changed add b a) a ≡ true
+pub changed-back : (add : Bool) (b : List ℕ) (a : ℕ) → bondsOk b ≡ true → canChange add b a ≡ true → canChange (not add) (changedBonds add b a) a ≡ true
 changed-back true b a = added-can-remove b a
 changed-back false b a = removed-can-add b a
 
 -- and gives the bonds back
-pub changed-undone : (add : Bool) (b : List ℕ) (a : ℕ) → bondsOk b ≡ true → canChange add b a ≡ true → changed (not add) (changed add b a) a ≡ b
+pub changed-undone : (add : Bool) (b : List ℕ) (a : ℕ) → bondsOk b ≡ true → canChange add b a ≡ true → changedBonds (not add) (changedBonds add b a) a ≡ b
 changed-undone true b a ok e = add-remove b a (node-inside b a ok (add-facts b a e .0))
 changed-undone false b a ok e = remove-add b a (remove-facts b a e .1)
 

@@ -47,8 +47,8 @@ canAdd bonds a = nodeAddress a && not (bonded bonds a)
 abbrev pub canChange : Bool → List ℕ → ℕ → Bool
 canChange add bonds a = cond add (canAdd bonds a) (bondedNode bonds a)
 
-abbrev pub changed : Bool → List ℕ → ℕ → List ℕ
-changed add bonds a = cond add (withBond bonds a) (withoutBond bonds a)
+abbrev pub changedBonds : Bool → List ℕ → ℕ → List ℕ
+changedBonds add bonds a = cond add (withBond bonds a) (withoutBond bonds a)
 
 -- an address that a request can be sent to: all nodes, or a bonded one
 unfoldable pub canSend : List ℕ → ℕ → Bool

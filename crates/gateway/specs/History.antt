@@ -1,13 +1,13 @@
 -- Document 02, change 6: histories. Calls in a row, each on the record that the last one left, and what is claimed of every such list.
-use Prim.Native.Nat.{ℕ, suc, _+_, _≤_, _<_}
+use Prim.Native.Nat.{ℕ, suc, _+_, _-_, _≤_, _<_}
 use mathlib.Core.Path.{_≡_}
 use mathlib.Core.List.{List, [], _∷_, _++_}
-use mathlib.Core.Bool.{Bool, false, cond, _&&_}
+use mathlib.Core.Bool.{Bool, true, false, cond, _&&_}
 use lib.ListN.{length, getD, take, drop}
-use lib.Dec.{eqb, leb}
-use Rattle.desk.specs.declared.record.Desk.{Desk}
+use lib.Dec.{eqb, ltb, leb}
+use Rattle.queue.specs.declared.record.SendQueue.{SendQueue}
 use Rattle.gateway.specs.declared.record.Gateway.{Gateway}
-use Rattle.desk.specs.Desk.{Request, request, confirmationOf, networkIn, waitAfter, waitingIn}
+use Rattle.queue.specs.Queue.{Outgoing, outgoing, confirmationOf, networkIn, waitAfter, waitingIn}
 use Rattle.gateway.specs.Gateway.{ReleaseResult, bondOf, unbondOf, clearOf, sendRequest, releaseOf}
 
 -- ---- calls
@@ -19,7 +19,7 @@ pub data Call : Type 0 where
   clear : Call
   count : Call
   bitmap : Call
-  send : Request → ℕ → Call
+  send : Outgoing → ℕ → Call
   release : ℕ → List ℕ → Call
 
 -- the widths that the types of the arguments give
@@ -49,8 +49,8 @@ afterAll g (c ∷ cs) = afterAll (after g c) cs
 
 -- ---- what went in, and what came out
 
--- the request that a call put on the desk: a send that was not refused
-abbrev pub accepted : Gateway → Call → List Request
+-- the request that a call put into the queue: a send that was not refused
+abbrev pub accepted : Gateway → Call → List Outgoing
 accepted g (bond a) = []
 accepted g (unbond a) = []
 accepted g clear = []
@@ -60,11 +60,11 @@ accepted g (send r t) = cond (eqb (sendRequest g r t .refusal) 0) (r ∷ []) []
 accepted g (release t o) = []
 
 -- all of a history
-unfoldable pub acceptedAll : Gateway → List Call → List Request
+unfoldable pub acceptedAll : Gateway → List Call → List Outgoing
 acceptedAll g [] = []
 acceptedAll g (c ∷ cs) = accepted g c ++ acceptedAll (after g c) cs
 
--- what a release hands out: its time, the frame in the answer, the confirmation in the buffer, the desk's next time
+-- what a release hands out: its time, the frame in the answer, the confirmation in the buffer, the queue's next time
 pub record Handout : Type 0 where
   pub time : ℕ
   pub frame : List ℕ
@@ -82,7 +82,7 @@ handout t x =
       time = t;
       frame = take (x .answer .«frame_length») (x .answer .frame);
       confirmation = take (x .answer .length) (x .out);
-      next = x .answer .gateway .desk .next;
+      next = x .answer .gateway .queue .next;
     }
 
 -- what a call releases: one, if it is a release that answers `released`
@@ -103,38 +103,51 @@ releasedAll g (c ∷ cs) = released g c ++ releasedAll (after g c) cs
 -- ---- first in, first out
 
 -- a handout is that of request r: its frame byte for byte, the confirmation with its hops, the next time with its hops and its delay
-pub record HandoutOf (d : Desk) (r : Request) (h : Handout) : Type 0 where
+pub record HandoutOf (q : SendQueue) (r : Outgoing) (h : Handout) : Type 0 where
   pub same-frame : h .frame ≡ r .frame
-  pub same-confirmation : h .confirmation ≡ confirmationOf (networkIn d) (d .«dpa_value») r
-  pub same-next : h .next ≡ h .time + waitAfter (networkIn d) r
+  pub same-confirmation : h .confirmation ≡ confirmationOf (networkIn q) (q .«dpa_value») r
+  pub same-next : h .next ≡ h .time + waitAfter (networkIn q) r
 
 -- the requests that wait at the start of a history, then those that it accepts
-abbrev pub queue : Gateway → List Call → List Request
-queue g cs = waitingIn (g .desk) ++ acceptedAll g cs
+abbrev pub arrivals : Gateway → List Call → List Outgoing
+arrivals g cs = waitingIn (g .queue) ++ acceptedAll g cs
 
 -- stands for an index past the end
-abbrev pub noRequest : Request
-noRequest = request [] 0 0 0
+abbrev pub noRequest : Outgoing
+noRequest = outgoing [] 0 0 0
 
 -- the k-th handout is that of the k-th request; the requests after these still wait
 pub record FirstInFirstOut (g : Gateway) (cs : List Call) : Type 0 where
-  pub no-more : length (releasedAll g cs) ≤ length (queue g cs)
-  pub in-order : (k : ℕ) → k < length (releasedAll g cs) → HandoutOf (g .desk) (getD (queue g cs) k noRequest) (getD (releasedAll g cs) k noHandout)
-  pub rest-waits : waitingIn (afterAll g cs .desk) ≡ drop (length (releasedAll g cs)) (queue g cs)
+  pub no-more : length (releasedAll g cs) ≤ length (arrivals g cs)
+  pub in-order : (k : ℕ) → k < length (releasedAll g cs) → HandoutOf (g .queue) (getD (arrivals g cs) k noRequest) (getD (releasedAll g cs) k noHandout)
+  pub rest-waits : waitingIn (afterAll g cs .queue) ≡ drop (length (releasedAll g cs)) (arrivals g cs)
 
 -- ---- spacing
 
--- two releases in a row are at least the wait after the first apart; and the first one is not before the desk's next time
+-- two releases in a row are at least the wait after the first apart; and the first one is not before the queue's next time
 pub record Spaced (g : Gateway) (cs : List Call) : Type 0 where
-  pub first-late : 0 < length (releasedAll g cs) → g .desk .next ≤ getD (releasedAll g cs) 0 noHandout .time
+  pub first-late : 0 < length (releasedAll g cs) → g .queue .next ≤ getD (releasedAll g cs) 0 noHandout .time
   pub apart : (k : ℕ) → suc k < length (releasedAll g cs)
-      → getD (releasedAll g cs) k noHandout .time + waitAfter (networkIn (g .desk)) (getD (queue g cs) k noRequest) ≤ getD (releasedAll g cs) (suc k) noHandout .time
+      → getD (releasedAll g cs) k noHandout .time + waitAfter (networkIn (g .queue)) (getD (arrivals g cs) k noRequest) ≤ getD (releasedAll g cs) (suc k) noHandout .time
 
--- the desk's next time: as at the start until a request is released; then the time of the last release plus the wait after its request
-pub record NextTime (g : Gateway) (cs : List Call) : Type 0 where
-  pub none-yet : length (releasedAll g cs) ≡ 0 → afterAll g cs .desk .next ≡ g .desk .next
-  pub since-last : (k : ℕ) → length (releasedAll g cs) ≡ suc k
-      → afterAll g cs .desk .next ≡ getD (releasedAll g cs) k noHandout .time + waitAfter (networkIn (g .desk)) (getD (queue g cs) k noRequest)
+-- ---- releases exactly when
+
+-- the earliest time of the next release after a history: the earliest send time of the request released last, reckoned from its release,
+-- with the slot of the longest response. Before the first release it is the next time of the gateway at the start: 0 for a new one, so that
+-- the first request ever is released at any time
+unfoldable pub earliestRelease : Gateway → List Call → ℕ
+earliestRelease g cs =
+    let n = length (releasedAll g cs) in
+    cond (eqb n 0) (g .queue .next)
+    (getD (releasedAll g cs) (n - 1) noHandout .time + waitAfter (networkIn (g .queue)) (getD (arrivals g cs) (n - 1) noRequest))
+
+-- a release call after a history, at time t with buffer o. It releases exactly when it is not refused, a request waits (fewer were handed
+-- out than arrived), and t is at or after that time. What it releases is the oldest: the request after those that were handed out
+pub record ReleasesExactly (g : Gateway) (cs : List Call) (t : ℕ) (o : List ℕ) : Type 0 where
+  pub exactly : let x = releaseOf (afterAll g cs) t o .answer in
+      x .released ≡ (eqb (x .refusal) 0 && ltb (length (releasedAll g cs)) (length (arrivals g cs)) && leb (earliestRelease g cs) t)
+  pub oldest-first : let x = releaseOf (afterAll g cs) t o in
+      x .answer .released ≡ true → HandoutOf (g .queue) (getD (arrivals g cs) (length (releasedAll g cs)) noRequest) (handout t x)
 
 -- ---- no starvation
 
@@ -146,7 +159,7 @@ lateEnough g clear = false
 lateEnough g count = false
 lateEnough g bitmap = false
 lateEnough g (send r t) = false
-lateEnough g (release t o) = eqb (releaseOf g t o .answer .refusal) 0 && leb (g .desk .next) t
+lateEnough g (release t o) = eqb (releaseOf g t o .answer .refusal) 0 && leb (g .queue .next) t
 
 -- the number of such calls in a history
 unfoldable pub lateCalls : Gateway → List Call → ℕ
@@ -155,6 +168,6 @@ lateCalls g (c ∷ cs) = cond (lateEnough g c) 1 0 + lateCalls (after g c) cs
 
 -- the request at place k waits for k others, at most seven, and is handed out by the (k + 1)-th of these calls at the latest
 pub record NoStarvation (g : Gateway) (cs : List Call) : Type 0 where
-  pub at-most-seven : (k : ℕ) → k < g .desk .count → k ≤ 7
-  pub handed-out : (k : ℕ) → k < g .desk .count → k < lateCalls g cs
-      → (k < length (releasedAll g cs)) × HandoutOf (g .desk) (getD (waitingIn (g .desk)) k noRequest) (getD (releasedAll g cs) k noHandout)
+  pub at-most-seven : (k : ℕ) → k < g .queue .count → k ≤ 7
+  pub handed-out : (k : ℕ) → k < g .queue .count → k < lateCalls g cs
+      → (k < length (releasedAll g cs)) × HandoutOf (g .queue) (getD (waitingIn (g .queue)) k noRequest) (getD (releasedAll g cs) k noHandout)

@@ -1,3 +1,4 @@
 pub mod Bonds
 pub mod Gateway
 pub mod History
+pub mod Examples

@@ -8,7 +8,7 @@ ghost use mathlib.Core.Path.{_≡_};
 ghost use mathlib.Core.Bool.{true};
 ghost use Prim.Native.Nat.{_%_, _^_, _≤_};
 ghost use lib.Count.{ones};
-ghost use Rattle.gateway.specs.Bonds.{bondCount, canChange, changed, bondsOk};
+ghost use Rattle.gateway.specs.Bonds.{bondCount, canChange, changedBonds, bondsOk};
 
 // Returns whether only addresses that a node can have are bonded. The bytes after those of a node set have the addresses from 240 on.
 pub fn bonds_ok(bonds: [u8; BONDS_SIZE]) -> bool
@@ -47,7 +47,7 @@ fn bit_of(address: u16) -> u8
 // The bonds with one more (`add`), or with one less.
 pub fn change(add: bool, bonds: [u8; BONDS_SIZE], address: u16) -> [u8; BONDS_SIZE]
     requires { ⌜ (bondsOk bonds ≡ true) × (canChange add bonds address ≡ true) ⌝ }
-    ensures { λ r. ⌜ r ≡ changed add bonds address ⌝ }
+    ensures { λ r. ⌜ r ≡ changedBonds add bonds address ⌝ }
 {
     let mut changed = bonds;
     let index = wide_word(address / 8);

@@ -8,13 +8,13 @@ use crate::record::BitmapAnswer;
 use crate::record::BondAnswer;
 use crate::record::CountAnswer;
 use crate::record::Gateway;
-use desk::queue::new_desk;
-use desk::rule::desk_ok;
 use dpa::refusal;
+use queue::rule::queue_ok;
+use queue::updates::new_queue;
 ghost use mathlib.Core.Path.{_≡_};
 ghost use mathlib.Core.Bool.{true};
 ghost use Rattle.gateway.specs.Bonds.{bondsOk};
-ghost use Rattle.gateway.specs.Gateway.{gatewayOk, newGateway, bondsAnswer, bondRefused, changeOf, bondOf, unbondOf, clearOf, countOf, bitmapOf};
+ghost use Rattle.gateway.specs.Gateway.{gatewayOk, newGateway, bondsAnswer, bondRefused, changeOf, bondOf, unbondOf, clearOf, bondCountOf, bondBitmapOf};
 
 // Returns whether a record follows the gateway rule.
 pub fn gateway_ok(gateway: Gateway) -> bool
@@ -24,18 +24,18 @@ pub fn gateway_ok(gateway: Gateway) -> bool
     if !bonds_ok(bonds) {
         return false;
     }
-    let desk = gateway.desk;
-    desk_ok(desk)
+    let queue = gateway.queue;
+    queue_ok(queue)
 }
 
 // A gateway without bonds or requests.
 pub fn gateway_start(lp: bool, dpa_value: u8) -> Gateway
     ensures { λ r. ⌜ r ≡ newGateway lp «dpa_value» ⌝ }
 {
-    let desk = new_desk(lp, dpa_value);
+    let queue = new_queue(lp, dpa_value);
     Gateway {
         bonds: [0; BONDS_SIZE],
-        desk,
+        queue,
     }
 }
 
@@ -55,11 +55,11 @@ fn bonds_answer(gateway: Gateway, bonds: [u8; BONDS_SIZE]) -> BondAnswer
     ensures { λ r. ⌜ r ≡ bondsAnswer gateway bonds ⌝ }
 {
     let count = count_bonds(bonds);
-    let kept = gateway.desk;
+    let kept = gateway.queue;
     BondAnswer {
         refusal: refusal::NONE,
         count,
-        gateway: Gateway { bonds, desk: kept },
+        gateway: Gateway { bonds, queue: kept },
     }
 }
 
@@ -85,14 +85,14 @@ pub fn bond(gateway: Gateway, address: u16) -> BondAnswer
     change_bond(true, gateway, address)
 }
 
-// Removes a bond. Requests that wait stay on the desk.
+// Removes a bond. Requests that wait stay in the queue.
 pub fn unbond(gateway: Gateway, address: u16) -> BondAnswer
     ensures { λ r. ⌜ r ≡ unbondOf gateway address ⌝ }
 {
     change_bond(false, gateway, address)
 }
 
-// Removes all bonds. Requests that wait stay on the desk.
+// Removes all bonds. Requests that wait stay in the queue.
 pub fn clear_bonds(gateway: Gateway) -> BondAnswer
     ensures { λ r. ⌜ r ≡ clearOf gateway ⌝ }
 {
@@ -105,7 +105,7 @@ pub fn clear_bonds(gateway: Gateway) -> BondAnswer
 
 // Returns the number of bonds.
 pub fn bond_count(gateway: Gateway) -> CountAnswer
-    ensures { λ r. ⌜ r ≡ countOf gateway ⌝ }
+    ensures { λ r. ⌜ r ≡ bondCountOf gateway ⌝ }
 {
     if !gateway_ok(gateway) {
         return CountAnswer {
@@ -122,7 +122,7 @@ pub fn bond_count(gateway: Gateway) -> CountAnswer
 
 // Returns a bit for each address.
 pub fn bond_bitmap(gateway: Gateway) -> BitmapAnswer
-    ensures { λ r. ⌜ r ≡ bitmapOf gateway ⌝ }
+    ensures { λ r. ⌜ r ≡ bondBitmapOf gateway ⌝ }
 {
     if !gateway_ok(gateway) {
         return BitmapAnswer {

@@ -1,6 +1,6 @@
 // The record of a gateway.
-use desk::record::Desk;
 use dpa::frame::Frame;
+use queue::record::SendQueue;
 
 // Bytes of the bonds: a bit for each address from 0 to 255.
 pub const BONDS_SIZE: usize = 32;
@@ -9,7 +9,7 @@ pub const BONDS_SIZE: usize = 32;
 #[repr(C)]
 pub struct Gateway {
     pub bonds: [u8; BONDS_SIZE],
-    pub desk: Desk,
+    pub queue: SendQueue,
 }
 
 // A refusal number, the number of bonds, and the gateway.

@@ -1,23 +1,23 @@
-// The calls on the desk: a request is sent to it, and released when the air is free.
+// The calls on the send queue: a request is put into it, and released when the air is free.
 use crate::addresses::can_change;
 use crate::bonding::gateway_ok;
 use crate::record::Gateway;
 use crate::record::GatewayAnswer;
 use crate::record::ReleaseAnswer;
-use desk::places::place_of;
-use desk::queue::confirm_waiting;
-use desk::queue::oldest;
-use desk::queue::with_request;
-use desk::queue::with_time;
-use desk::queue::without_oldest;
-use desk::record::Desk;
-use desk::rule::STD_LP;
-use desk::rule::due;
-use desk::rule::is_full;
-use desk::rule::time_ok;
 use dpa::frame::Frame;
 use dpa::number::wide;
 use dpa::refusal;
+use queue::places::placed;
+use queue::record::SendQueue;
+use queue::rule::STD_LP;
+use queue::rule::clock_ok;
+use queue::rule::due;
+use queue::rule::is_full;
+use queue::updates::confirm_waiting;
+use queue::updates::oldest;
+use queue::updates::with_request;
+use queue::updates::with_time;
+use queue::updates::without_oldest;
 ghost use mathlib.Core.Path.{_≡_};
 ghost use mathlib.Core.Bool.{true};
 ghost use mathlib.Core.List.{List};
@@ -25,7 +25,7 @@ ghost use Prim.Native.Nat.{ℕ, _≤_};
 ghost use lib.ListN.{length};
 ghost use Rattle.dpa.specs.Frame.{headerSize, longestResponse};
 ghost use Rattle.gateway.specs.Bonds.{canSend};
-ghost use Rattle.desk.specs.Desk.{request, nadrOf, timeMax, due};
+ghost use Rattle.queue.specs.Queue.{outgoing, nadrOf, timeMax, due};
 ghost use Rattle.gateway.specs.Gateway.{gatewayFrom, gatewayOk, sendRefusal, gatewayAnswer, sendRequest, releaseRefusal, releaseResult, notReleased, releaseEffect, releaseOf};
 
 fn gateway_answer(refusal: u8, gateway: Gateway) -> GatewayAnswer
@@ -34,12 +34,12 @@ fn gateway_answer(refusal: u8, gateway: Gateway) -> GatewayAnswer
     GatewayAnswer { refusal, gateway }
 }
 
-// The gateway with another desk.
-fn with_desk(gateway: Gateway, desk: Desk) -> Gateway
-    ensures { λ r. ⌜ r ≡ gatewayFrom (gateway .bonds) desk ⌝ }
+// The gateway with another queue.
+fn with_queue(gateway: Gateway, queue: SendQueue) -> Gateway
+    ensures { λ r. ⌜ r ≡ gatewayFrom (gateway .bonds) queue ⌝ }
 {
     let bonds = gateway.bonds;
-    Gateway { bonds, desk }
+    Gateway { bonds, queue }
 }
 
 // Returns whether a frame can be sent: to all nodes, or to a bonded one.
@@ -66,20 +66,20 @@ fn send_refusal(gateway: Gateway, frame: &[u8], time: u64) -> u8
         return refusal::FRAME;
     }
     let bonds = gateway.bonds;
-    let desk = gateway.desk;
+    let queue = gateway.queue;
     if !can_send(&bonds, frame) {
         return refusal::ADDRESS;
     }
-    if is_full(desk.count) {
+    if is_full(queue.count) {
         return refusal::FULL;
     }
-    if !time_ok(desk.last, time) {
+    if !clock_ok(queue.last, time) {
         return refusal::TIME;
     }
     refusal::NONE
 }
 
-// Puts a request on the desk.
+// Puts a request into the queue.
 pub fn send(
     gateway: Gateway,
     frame: &[u8],
@@ -88,16 +88,16 @@ pub fn send(
     delay: u16,
     time: u64,
 ) -> GatewayAnswer
-    ensures { λ r. ⌜ r ≡ sendRequest gateway (request (now (frame .entry)) hops «response_hops» delay) time ⌝ }
+    ensures { λ r. ⌜ r ≡ sendRequest gateway (outgoing (now (frame .entry)) hops «response_hops» delay) time ⌝ }
 {
     let refusal = send_refusal(gateway, frame, time);
     if refusal != refusal::NONE {
         return gateway_answer(refusal, gateway);
     }
-    let place = place_of(frame, hops, response_hops, delay);
-    let desk = gateway.desk;
-    let sent = with_request(desk, place, time);
-    gateway_answer(refusal::NONE, with_desk(gateway, sent))
+    let place = placed(frame, hops, response_hops, delay);
+    let queue = gateway.queue;
+    let sent = with_request(queue, place, time);
+    gateway_answer(refusal::NONE, with_queue(gateway, sent))
 }
 
 // Why a release is refused.
@@ -110,8 +110,8 @@ fn release_refusal(gateway: Gateway, time: u64, size: usize) -> u8
     if size < Frame::RESPONSE_LONGEST {
         return refusal::RESPONSE;
     }
-    let desk = gateway.desk;
-    if !time_ok(desk.last, time) {
+    let queue = gateway.queue;
+    if !clock_ok(queue.last, time) {
         return refusal::TIME;
     }
     refusal::NONE
@@ -133,13 +133,13 @@ fn not_released(refusal: u8, gateway: Gateway) -> ReleaseAnswer
 
 // Releases the oldest request and writes its confirmation.
 fn release_oldest(gateway: Gateway, time: u64, out: &mut [u8]) -> ReleaseAnswer
-    requires { ⌜ (gatewayOk gateway ≡ true) × (due (gateway .desk .count) (gateway .desk .next) time ≡ true) × (time ≤ timeMax) × (longestResponse ≤ length (now out)) ⌝ }
+    requires { ⌜ (gatewayOk gateway ≡ true) × (due (gateway .queue .count) (gateway .queue .next) time ≡ true) × (time ≤ timeMax) × (longestResponse ≤ length (now out)) ⌝ }
     ensures { λ r. ⌜ releaseResult r (now (out .exit)) ≡ releaseEffect gateway time (now (out .entry)) ⌝ }
 {
-    let desk = gateway.desk;
-    let waiting = oldest(desk);
-    let length = confirm_waiting(desk.network == STD_LP, desk.dpa_value, waiting, out);
-    let after = without_oldest(desk, time);
+    let queue = gateway.queue;
+    let waiting = oldest(queue);
+    let length = confirm_waiting(queue.network == STD_LP, queue.dpa_value, waiting, out);
+    let after = without_oldest(queue, time);
     let frame = waiting.frame;
     ReleaseAnswer {
         refusal: refusal::NONE,
@@ -147,7 +147,7 @@ fn release_oldest(gateway: Gateway, time: u64, out: &mut [u8]) -> ReleaseAnswer
         length,
         frame_length: wide(waiting.length),
         frame,
-        gateway: with_desk(gateway, after),
+        gateway: with_queue(gateway, after),
     }
 }
 
@@ -159,10 +159,10 @@ pub fn release(gateway: Gateway, time: u64, out: &mut [u8]) -> ReleaseAnswer
     if refusal != refusal::NONE {
         return not_released(refusal, gateway);
     }
-    let desk = gateway.desk;
-    if !due(desk.count, desk.next, time) {
-        let waits = with_time(desk, time);
-        return not_released(refusal::NONE, with_desk(gateway, waits));
+    let queue = gateway.queue;
+    if !due(queue.count, queue.next, time) {
+        let waits = with_time(queue, time);
+        return not_released(refusal::NONE, with_queue(gateway, waits));
     }
     release_oldest(gateway, time, out)
 }

@@ -1,4 +1,4 @@
-// The gateway's bookkeeping: bonds and the desk.
+// The gateway's bookkeeping: bonds and the send queue.
 use gateway::bonding::bond;
 use gateway::bonding::bond_bitmap;
 use gateway::bonding::bond_count;
@@ -14,8 +14,8 @@ use gateway::record::ReleaseAnswer;
 use gateway::sending::release;
 use gateway::sending::send;
 ghost use mathlib.Core.Path.{_≡_};
-ghost use Rattle.desk.specs.Desk.{request};
-ghost use Rattle.gateway.specs.Gateway.{newGateway, bondOf, unbondOf, clearOf, countOf, bitmapOf, sendRequest, releaseResult, releaseOf};
+ghost use Rattle.queue.specs.Queue.{outgoing};
+ghost use Rattle.gateway.specs.Gateway.{newGateway, bondOf, unbondOf, clearOf, bondCountOf, bondBitmapOf, sendRequest, releaseResult, releaseOf};
 
 #[no_mangle]
 pub extern "C" fn grelfint_gateway_start(lp: bool, dpa_value: u8) -> Gateway
@@ -47,14 +47,14 @@ pub extern "C" fn grelfint_clear_bonds(gateway: Gateway) -> BondAnswer
 
 #[no_mangle]
 pub extern "C" fn grelfint_bond_count(gateway: Gateway) -> CountAnswer
-    ensures { λ r. ⌜ r ≡ countOf gateway ⌝ }
+    ensures { λ r. ⌜ r ≡ bondCountOf gateway ⌝ }
 {
     bond_count(gateway)
 }
 
 #[no_mangle]
 pub extern "C" fn grelfint_bond_bitmap(gateway: Gateway) -> BitmapAnswer
-    ensures { λ r. ⌜ r ≡ bitmapOf gateway ⌝ }
+    ensures { λ r. ⌜ r ≡ bondBitmapOf gateway ⌝ }
 {
     bond_bitmap(gateway)
 }
@@ -68,7 +68,7 @@ pub extern "C" fn grelfint_send(
     delay: u16,
     time: u64,
 ) -> GatewayAnswer
-    ensures { λ r. ⌜ r ≡ sendRequest gateway (request (now (frame .entry)) hops «response_hops» delay) time ⌝ }
+    ensures { λ r. ⌜ r ≡ sendRequest gateway (outgoing (now (frame .entry)) hops «response_hops» delay) time ⌝ }
 {
     send(gateway, frame, hops, response_hops, delay, time)
 }

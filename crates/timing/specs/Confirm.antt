@@ -22,17 +22,17 @@ unfoldable pub responseHopsSent : List ℕ → ℕ → ℕ
 responseHopsSent frame responseHops = cond (eqb (headerOf frame .nadr) broadcastNadr) 0 responseHops
 
 -- the request's first six bytes, FF hex, DpaValue, hops, timeslot, response hops
-abbrev pub confirmBytes : List ℕ → ℕ → ℕ → ℕ → ℕ → List ℕ
+abbrev pub confirmBytes : (frame : List ℕ) (dpaValue hops slot responseHops : ℕ) → List ℕ
 confirmBytes frame dpaValue hops slot responseHops =
     take headerSize frame ++ (statusConfirmation ∷ dpaValue ∷ hops ∷ slot ∷ responseHopsSent frame responseHops ∷ [])
 
 -- the confirmation of a frame; the slot is that of its PData
-abbrev pub confirmation : List ℕ → ℕ → ℕ → ℕ → Network → List ℕ
+abbrev pub confirmation : (frame : List ℕ) (dpaValue hops responseHops : ℕ) (net : Network) → List ℕ
 confirmation frame dpaValue hops responseHops net =
     confirmBytes frame dpaValue hops (slotOf (length (pdataOf frame)) net) responseHops
 
 -- `confirm`: not a frame of 6 to 62 bytes: 2; a buffer under 64 bytes: 3; NADR is not tested
-unfoldable pub confirmOf : List ℕ → ℕ → ℕ → ℕ → Network → List ℕ → LengthResult
+unfoldable pub confirmOf : (frame : List ℕ) (dpaValue hops responseHops : ℕ) (net : Network) (o : List ℕ) → LengthResult
 confirmOf frame dpaValue hops responseHops net o =
     cond (frameFits (length frame))
     (cond (ltb (length o) longestResponse)

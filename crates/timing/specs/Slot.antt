@@ -41,7 +41,7 @@ timeslotOf n net =
     (record { refusal = 0; slot = slotOf n net })
 
 -- time for the request, the node's delay and, unless it is a broadcast, the response
-unfoldable pub earliestOf : ℕ → ℕ → ℕ → ℕ → ℕ → Network → Bool → ℕ
+unfoldable pub earliestOf : (hops requestLength delay responseHops responseLength : ℕ) (net : Network) (broadcast : Bool) → ℕ
 earliestOf hops requestLength delay responseHops responseLength net broadcast =
     directionTime hops (slotOf requestLength net) + delay + cond broadcast 0 (directionTime responseHops (slotOf responseLength net))
 
@@ -53,7 +53,7 @@ abbrev pub sendAnswer : ℕ → ℕ → SendAnswer
 sendAnswer refusal ms = record { refusal = refusal; milliseconds = ms }
 
 -- `earliest_send`: both lengths are tested, for a broadcast too
-unfoldable pub sendOf : ℕ → ℕ → ℕ → ℕ → ℕ → Network → Bool → SendAnswer
+unfoldable pub sendOf : (hops requestLength delay responseHops responseLength : ℕ) (net : Network) (broadcast : Bool) → SendAnswer
 sendOf hops requestLength delay responseHops responseLength net broadcast =
     cond (ltb pdataMax requestLength) (sendAnswer 5 0)
     (cond (ltb pdataMax responseLength) (sendAnswer 5 0)

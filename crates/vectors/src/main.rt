@@ -1,5 +1,7 @@
 // Runs worked examples of the buyer's documents and of the DPA guide, and some of our own, through the public calls and
 // prints the results.
+mod gateways;
+
 use dpa::frame::Frame;
 use dpa::number::wide;
 use dpa::pnum;
@@ -256,8 +258,8 @@ fn release_and_print(gateway: Gateway, time: u64) -> Gateway {
     released.gateway
 }
 
-// The request of the confirmation above, twice on a gateway's desk: the second is released 720 ms after the first.
-fn desk() {
+// The request of the confirmation above, twice in a gateway's send queue: the second is released 720 ms after the first.
+fn send_queue() {
     let bonded = bond(gateway_start(false, 7), 10);
     print_text(b"bonds");
     print_number(bonded.count as u64);
@@ -295,5 +297,6 @@ fn main() {
     broadcast(read, &mut eeprom, &mut external);
     confirmation();
     serial_line();
-    desk();
+    send_queue();
+    gateways::histories();
 }

@@ -334,7 +334,7 @@ fn busy_gateway() -> Gateway {
     for address in [1, 4, 7, 10] {
         gateway = reference_gateway::send(gateway, &request_to(address), 2, 3, 20, 1000).gateway;
     }
-    assert_eq!(gateway.desk.count, 4);
+    assert_eq!(gateway.queue.count, 4);
     gateway
 }
 
@@ -384,7 +384,7 @@ fn compare_gateway(bursts: usize) {
     print_columns("", ["library", "Rust", "", "to Rust", ""]);
     let due = busy_gateway();
     let mut early = due;
-    early.desk.next = 2001;
+    early.queue.next = 2001;
     compare_bonds(bursts, &due);
     compare_send("sending a request of 30 bytes", bursts, &due, 13, 0);
     compare_send("the same to a node without a bond", bursts, &due, 14, 12);

@@ -6,7 +6,7 @@ use native.Mathlib.Omega.{arith}
 use lib.ListN.{getD, set}
 use borrow.Author.Needs.{needs}
 use Rattle.dpa.proofs.NodeSets.{added-small, named-min}
-use Rattle.gateway.specs.Bonds.{bondsSize, canChange, changed}
+use Rattle.gateway.specs.Bonds.{bondsSize, canChange, changedBonds}
 use Rattle.gateway.proofs.Bonds.{bonds-facts, add-facts, remove-facts, node-inside, changed-inside}
 use Rattle.gateway.proofs.addresses.change.Statement.{statement}
 use Rattle.gateway.proofs.addresses.change.Tie as tie
@@ -39,13 +39,13 @@ returns : tie.Need-returns
 returns c =
     let a = c .before .before .before .args in
     ap₂ (λ (i b : ℕ). set (a .bonds) i (getD (a .bonds) i 0 + b)) (c .before .before .wide-word .ensures .0) (c .bit-of .ensures)
-    ∙ sym (ap (λ (x : Bool). changed x (a .bonds) (a .address)) (c .before .if1 .taken))
+    ∙ sym (ap (λ (x : Bool). changedBonds x (a .bonds) (a .address)) (c .before .if1 .taken))
 
 returns-2 : tie.Need-returns-2
 returns-2 c =
     let a = c .before .before .before .args in
     ap₂ (λ (i b : ℕ). set (a .bonds) i (getD (a .bonds) i 0 - b)) (c .before .before .wide-word .ensures .0) (c .bit-of2 .ensures)
-    ∙ sym (ap (λ (x : Bool). changed x (a .bonds) (a .address)) (c .before .if1 .left))
+    ∙ sym (ap (λ (x : Bool). changedBonds x (a .bonds) (a .address)) (c .before .if1 .left))
 
 pub change-spec : {M : Type 1} → statement M
 change-spec =

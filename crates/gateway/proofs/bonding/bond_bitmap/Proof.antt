@@ -2,16 +2,16 @@
 use mathlib.Core.Path.{sym, _∙_}
 use borrow.Author.Needs.{needs}
 use borrow.Author.Tests.{not-true, not-false}
-use Rattle.gateway.specs.Gateway.{bitmapOf}
+use Rattle.gateway.specs.Gateway.{bondBitmapOf}
 use Rattle.gateway.proofs.bonding.bond_bitmap.Statement.{statement}
 use Rattle.gateway.proofs.bonding.bond_bitmap.Tie as tie
 
 returns : tie.Need-returns
-unfolding bitmapOf
+unfolding bondBitmapOf
 returns c = rw (sym (c .before .gateway-ok .ensures) ∙ not-true _ (c .if1 .taken))
 
 returns-2 : tie.Need-returns-2
-unfolding bitmapOf
+unfolding bondBitmapOf
 returns-2 c = rw (sym (c .before .before .gateway-ok .ensures) ∙ not-false _ (c .before .if1 .left))
 
 pub bond-bitmap-spec : {M : Type 1} → statement M

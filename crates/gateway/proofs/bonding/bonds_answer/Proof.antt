@@ -9,7 +9,7 @@ use Rattle.gateway.proofs.bonding.bonds_answer.Tie as tie
 returns : tie.Need-returns
 returns c =
     let a = c .before .before .args in
-    ap (λ (n : ℕ). record { refusal = 0; count = n; gateway = gatewayFrom (a .bonds) (a .gateway .desk) }) (c .before .count-bonds .ensures)
+    ap (λ (n : ℕ). record { refusal = 0; count = n; gateway = gatewayFrom (a .bonds) (a .gateway .queue) }) (c .before .count-bonds .ensures)
 
 pub bonds-answer-spec : {M : Type 1} → statement M
 bonds-answer-spec =

@@ -1,4 +1,4 @@
--- `bonding::gateway_ok`: the bonds, then the desk.
+-- `bonding::gateway_ok`: the bonds, then the queue.
 use mathlib.Core.Path.{sym, _∙_}
 use borrow.Author.Needs.{needs}
 use borrow.Author.Tests.{not-true, not-false}
@@ -14,7 +14,7 @@ returns-2 : tie.Need-returns-2
 unfolding gatewayOk
 returns-2 c =
     let tested = c .before .before in
-    rw (sym (tested .before .bonds-ok .ensures) ∙ not-false _ (tested .if1 .left)) (c .desk-ok .ensures)
+    rw (sym (tested .before .bonds-ok .ensures) ∙ not-false _ (tested .if1 .left)) (c .queue-ok .ensures)
 
 pub gateway-ok-spec : {M : Type 1} → statement M
 gateway-ok-spec =

@@ -2,7 +2,7 @@
 use mathlib.Core.Path.{_≡_, sym, ap, _∙_}
 use borrow.Author.Needs.{needs}
 use Rattle.dpa.specs.declared.frame.Frame.{Frame}
-use Rattle.desk.specs.Desk.{nadrOf}
+use Rattle.queue.specs.Queue.{nadrOf}
 use Rattle.gateway.proofs.Calls.{sent-to-all, sent-to-one}
 use Rattle.gateway.proofs.sending.can_send.Statement.{statement}
 use Rattle.gateway.proofs.sending.can_send.Tie as tie

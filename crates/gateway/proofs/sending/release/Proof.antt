@@ -4,10 +4,10 @@ use lib.ListN.{length}
 use borrow.Author.Needs.{needs}
 use borrow.Author.Tests.{not-true, not-false}
 use Rattle.gateway.specs.declared.record.Gateway.{Gateway}
-use Rattle.desk.specs.Desk.{due}
+use Rattle.queue.specs.Queue.{due}
 use Rattle.gateway.specs.Gateway.{gatewayFrom, notReleased, releaseRefusal}
 use Rattle.gateway.proofs.Calls.{release-facts, release-refusal-answer, release-answer, effect-early}
-use Rattle.desk.proofs.Queues.{time-facts}
+use Rattle.queue.proofs.Changes.{time-facts}
 use Rattle.gateway.proofs.sending.release.Statement.{statement}
 use Rattle.gateway.proofs.sending.release.Tie as tie
 
@@ -27,7 +27,7 @@ returns-2 c =
     let tested = early .before .before .before in
     let a = tested .before .before .before .args in
     c .not-released2 .ensures (a .out .now)
-    ∙ ap (λ (g : Gateway). notReleased 0 g (a .out .now)) (c .before .with-desk .ensures ∙ ap (gatewayFrom (a .gateway .bonds)) (c .before .before .with-time .ensures))
+    ∙ ap (λ (g : Gateway). notReleased 0 g (a .out .now)) (c .before .with-queue .ensures ∙ ap (gatewayFrom (a .gateway .bonds)) (c .before .before .with-time .ensures))
     ∙ sym (release-answer (a .gateway) (a .time) (a .out .now) (accepted tested)
     ∙ effect-early (a .gateway) (a .time) (a .out .now) (sym (early .before .due .ensures) ∙ not-true _ (early .if2 .taken)))
 
@@ -37,7 +37,7 @@ release-oldest-requires c κs =
     let tested = timed .before .before .before in
     let a = tested .before .before .before .args in
     let f = release-facts (a .gateway) (a .time) (length (a .out .now)) (accepted tested) in
-    (f .0, sym (timed .before .due .ensures) ∙ not-false _ (timed .if2 .left), time-facts (a .gateway .desk) (a .time) (f .2) .1, f .1)
+    (f .0, sym (timed .before .due .ensures) ∙ not-false _ (timed .if2 .left), time-facts (a .gateway .queue) (a .time) (f .2) .1, f .1)
 
 returns-3 : tie.Need-returns-3
 returns-3 c =

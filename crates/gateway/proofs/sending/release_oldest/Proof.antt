@@ -1,10 +1,10 @@
 -- `sending::release_oldest`: the first place, confirmationOf.
 use mathlib.Core.Path.{sym, ap, subst, _∙_}
 use borrow.Author.Needs.{needs}
-use Rattle.desk.specs.Desk.{WaitingRule}
-use Rattle.desk.proofs.Queues.{due-facts}
+use Rattle.queue.specs.Queue.{WaitingRule}
+use Rattle.queue.proofs.Changes.{due-facts}
 use Rattle.gateway.specs.Gateway.{gatewayFrom}
-use Rattle.gateway.proofs.Calls.{gateway-desk}
+use Rattle.gateway.proofs.Calls.{gateway-queue}
 use Rattle.gateway.proofs.Releases.{first-rule, oldest-answered}
 use Rattle.gateway.proofs.sending.release_oldest.Statement.{statement}
 use Rattle.gateway.proofs.sending.release_oldest.Tie as tie
@@ -20,7 +20,7 @@ without-oldest-requires : tie.Need-without-oldest-requires
 without-oldest-requires c κs =
     let start = c .before .before .before .before .before .before .before .before in
     let p = start .pre in
-    (gateway-desk _ (p .0), due-facts (start .args .gateway .desk) (start .args .time) (p .1) .0, p .2)
+    (gateway-queue _ (p .0), due-facts (start .args .gateway .queue) (start .args .time) (p .1) .0, p .2)
 
 returns : tie.Need-returns
 returns c =
@@ -31,7 +31,7 @@ returns c =
     let p = start .pre in
     oldest-answered (a .gateway) (a .time) (a .out .now) (p .0) (p .1) _ (written .confirm-waiting .result) _ _ _ (found .oldest .ensures)
     (written .confirm-waiting .ensures) (c .before .wide .ensures .0)
-    (c .with-desk .ensures ∙ ap (gatewayFrom (a .gateway .bonds)) (c .before .before .before .without-oldest .ensures))
+    (c .with-queue .ensures ∙ ap (gatewayFrom (a .gateway .bonds)) (c .before .before .before .without-oldest .ensures))
 
 pub release-oldest-spec : {M : Type 1} → statement M
 release-oldest-spec =

@@ -23,13 +23,13 @@ returns-3 : tie.Need-returns-3
 unfolding releaseRefusal
 returns-3 c =
     let room = c .before .before .before in
-    rw (sound (room .before), le-ltb (room .before .before .before .args .size) longestResponse (room .if2 .left), sym (c .before .time-ok .ensures) ∙ not-true _ (c .if3 .taken))
+    rw (sound (room .before), le-ltb (room .before .before .before .args .size) longestResponse (room .if2 .left), sym (c .before .clock-ok .ensures) ∙ not-true _ (c .if3 .taken))
 
 returns-4 : tie.Need-returns-4
 unfolding releaseRefusal
 returns-4 c =
     let room = c .before .before .before in
-    rw (sound (room .before), le-ltb (room .before .before .before .args .size) longestResponse (room .if2 .left), sym (c .before .time-ok .ensures) ∙ not-false _ (c .if3 .left))
+    rw (sound (room .before), le-ltb (room .before .before .before .args .size) longestResponse (room .if2 .left), sym (c .before .clock-ok .ensures) ∙ not-false _ (c .if3 .left))
 
 pub release-refusal-spec : {M : Type 1} → statement M
 release-refusal-spec =

@@ -7,7 +7,7 @@ use borrow.Author.Tests.{not-true, not-false}
 use Rattle.dpa.specs.Frame.{frameFits}
 use Rattle.dpa.proofs.Headers.{fits-sizes}
 use Rattle.gateway.specs.Bonds.{canSend}
-use Rattle.desk.specs.Desk.{nadrOf, timeOk}
+use Rattle.queue.specs.Queue.{nadrOf, clockOk}
 use Rattle.gateway.specs.Gateway.{gatewayOk, sendRefusal}
 use Rattle.gateway.proofs.sending.send_refusal.Statement.{statement}
 use Rattle.gateway.proofs.sending.send_refusal.Tie as tie
@@ -44,7 +44,7 @@ returns-4 c =
 
 -- only the time is left to be tested
 timed : (c : tie.Else4) → let a = c .before .before .before .before .before .before .before .before .before .before .before .before .args in
-    sendRefusal (a .gateway) (a .frame .now) (a .time) ≡ cond (not (timeOk (a .gateway .desk .last) (a .time))) 14 0
+    sendRefusal (a .gateway) (a .frame .now) (a .time) ≡ cond (not (clockOk (a .gateway .queue .last) (a .time))) 14 0
 unfolding sendRefusal
 timed c =
     let sendable = c .before .before in
@@ -52,10 +52,10 @@ timed c =
     rw (sound (sized .before .before), fits sized, bond sendable, sym (c .before .is-full .ensures) ∙ c .if4 .left)
 
 returns-5 : tie.Need-returns-5
-returns-5 c = sym (timed (c .before .before) ∙ ap (λ (b : Bool). cond (not b) 14 0) (sym (c .before .time-ok .ensures) ∙ not-true _ (c .if5 .taken)))
+returns-5 c = sym (timed (c .before .before) ∙ ap (λ (b : Bool). cond (not b) 14 0) (sym (c .before .clock-ok .ensures) ∙ not-true _ (c .if5 .taken)))
 
 returns-6 : tie.Need-returns-6
-returns-6 c = sym (timed (c .before .before) ∙ ap (λ (b : Bool). cond (not b) 14 0) (sym (c .before .time-ok .ensures) ∙ not-false _ (c .if5 .left)))
+returns-6 c = sym (timed (c .before .before) ∙ ap (λ (b : Bool). cond (not b) 14 0) (sym (c .before .clock-ok .ensures) ∙ not-false _ (c .if5 .left)))
 
 pub send-refusal-spec : {M : Type 1} → statement M
 send-refusal-spec =

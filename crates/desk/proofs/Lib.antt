@@ -1,4 +1,0 @@
-pub mod Desks
-pub mod PlaceTests
-pub mod Queues
-pub mod Shifts
