@@ -22,10 +22,10 @@ use Rattle.node.specs.Node.{shapeOk, lampsOk, nodeOk}
 use Rattle.node.specs.State.{State, state, SoundState}
 use Rattle.batch.specs.Selective.{selectivePcmd}
 use Rattle.book.specs.Book.{chained, bookOk, sceneOf}
-use Rattle.book.specs.Step.{stepTimeOk, lampFault, byteFault, stepFault}
-use Rattle.book.specs.Machine.{timeFormed, stepFormed, machineLevel, machineSeconds, machineLamps, machineEffect, machineStep, machine}
-use Rattle.book.specs.Entry.{powerBytes, entryData, pnumOf, pcmdOf}
-use Rattle.book.specs.Join.{follows}
+use Rattle.steps.specs.Step.{stepTimeOk, lampFault, byteFault, stepFault}
+use Rattle.steps.specs.Machine.{timeFormed, stepFormed, machineLevel, machineSeconds, machineLamps, machineEffect, machineStep, machine}
+use Rattle.entries.specs.Entry.{powerBytes, entryData, pnumOf, pcmdOf}
+use Rattle.entries.specs.Join.{follows}
 use Rattle.scene.specs.Compile.{batchesOf, entryLimit, listLimit, sceneRequests, selectedRequests}
 use Rattle.scene.specs.Call.{minOutput, requestsIn, outputOf, compileFor, compileSelected}
 use Rattle.acceptance.specs.SceneTheorem.{Addressable, SceneRule, Given, MatchesMachine, afterCalls, StaysUnchanged}

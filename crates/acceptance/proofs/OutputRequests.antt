@@ -9,7 +9,7 @@ use Rattle.dpa.proofs.Lists.{slice-to-end}
 use Rattle.node.specs.State.{State}
 use Rattle.outcome.specs.Request.{handleRequest}
 use Rattle.scene.specs.Call.{splitBy, requestsIn, lengths, output}
-use Rattle.book.specs.Group.{concat}
+use Rattle.entries.specs.Group.{concat}
 use Rattle.scene.proofs.Outputs.{lengths-length}
 use Rattle.acceptance.specs.SceneTheorem.{afterCalls}
 use Rattle.acceptance.specs.RunScene.{zeroBuffer, totalLength, CompleteOutput}

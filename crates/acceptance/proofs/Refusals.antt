@@ -16,12 +16,12 @@ use Rattle.dpa.proofs.NodeSets.{set-ok-exact}
 use Rattle.dpa.proofs.Bool.{and-left, and-right, by-cond, by-test}
 use Rattle.dpa.specs.Lists.{All}
 use Rattle.book.specs.declared.step.Step.{Step}
-use Rattle.book.specs.declared.step.StepsCheck.{StepsCheck}
-use Rattle.book.specs.declared.step.StepsCheck.the-variants.{AllGood, Bad}
+use Rattle.steps.specs.declared.fault.StepsCheck.{StepsCheck}
+use Rattle.steps.specs.declared.fault.StepsCheck.the-variants.{AllGood, Bad}
 use Rattle.book.specs.Book.{sceneCount, bookOk, sceneOf}
-use Rattle.book.specs.Step.{stepFault, goodStep, firstBadFrom}
+use Rattle.steps.specs.Step.{stepFault, goodStep, firstBadFrom}
 use Rattle.dpa.proofs.All.{all-weaken}
-use Rattle.book.proofs.Faults.{Good, no-bad, fault-range}
+use Rattle.steps.proofs.Faults.{Good, no-bad, fault-range}
 use Rattle.scene.specs.Compile.{sceneRequests, selectedRequests}
 use Rattle.scene.specs.Call.{CompileResult, output, minOutput, refusedWith, outputInBuffer, compileSteps, compileScene, compileTo, compileFor, compileSelected}
 use Rattle.scene.proofs.Outputs.{Faultless, target-refused, target-valid, compile-written, compile-refused}

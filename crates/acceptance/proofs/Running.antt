@@ -18,7 +18,7 @@ use Rattle.node.specs.State.{State, SoundState}
 use Rattle.outcome.specs.Request.{handleRequest}
 use Rattle.outcome.proofs.Soundness.{request-sound}
 use Rattle.book.specs.Book.{sceneOf}
-use Rattle.book.specs.Machine.{machine}
+use Rattle.steps.specs.Machine.{machine}
 use Rattle.scene.specs.Compile.{sceneRequests}
 use Rattle.scene.specs.Call.{CompileResult, output, requestsIn, outputOf, outputInBuffer, compileFor}
 use Rattle.acceptance.specs.SceneTheorem.{Addressable, Given, afterCalls}

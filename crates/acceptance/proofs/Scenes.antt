@@ -22,9 +22,9 @@ use Rattle.outcome.proofs.Outcomes.{execute-os, os-batch}
 use Rattle.outcome.proofs.SelectiveBatches.{selected-as-batch}
 use Rattle.book.specs.declared.step.Step.{Step}
 use Rattle.book.specs.Book.{sceneOf}
-use Rattle.book.specs.Step.{noFault, stepFault}
-use Rattle.book.specs.Machine.{stepFormed}
-use Rattle.book.proofs.Faults.{fault-meaning, good-formed}
+use Rattle.steps.specs.Step.{noFault, stepFault}
+use Rattle.steps.specs.Machine.{stepFormed}
+use Rattle.steps.proofs.Faults.{fault-meaning, good-formed}
 use Rattle.scene.specs.Compile.{sceneRequests, selectedRequests}
 use Rattle.scene.specs.Call.{compileTo}
 use Rattle.scene.proofs.Batches.{batch-limits, selected-limits}

@@ -10,7 +10,7 @@ use Rattle.memory.specs.Block.{sizeOf}
 use Rattle.node.specs.Node.{nodeOk}
 use Rattle.node.specs.State.{State, state}
 use Rattle.book.specs.Book.{sceneOf}
-use Rattle.book.specs.Machine.{machine}
+use Rattle.steps.specs.Machine.{machine}
 use Rattle.scene.specs.Call.{CompileResult, compileFor}
 use Rattle.acceptance.specs.declared.run.SceneAnswer.{SceneAnswer}
 

@@ -36,8 +36,8 @@ use Rattle.batch.specs.Selective.{selectivePcmd}
 use Rattle.outcome.specs.Request.{frameRequest, noReport, execute, handleRequest}
 use Rattle.book.specs.declared.step.Step.{Step}
 use Rattle.book.specs.Book.{sceneCount, bookOk, sceneOf}
-use Rattle.book.specs.Step.{noFault, stepFault, FaultMeaning}
-use Rattle.book.specs.Machine.{stepFormed, machine}
+use Rattle.steps.specs.Step.{noFault, stepFault, FaultMeaning}
+use Rattle.steps.specs.Machine.{stepFormed, machine}
 use Rattle.scene.specs.Compile.{sceneRequests, selectedRequests}
 use Rattle.scene.specs.Call.{CompileResult, minOutput, requestsIn, outputOf, compileFor, compileSelected}
 

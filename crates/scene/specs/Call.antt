@@ -8,11 +8,11 @@ use Rattle.dpa.specs.Lists.{overwriteFront}
 use Rattle.dpa.specs.NodeSet.{nodeSetOk}
 use Rattle.dpa.specs.Settings.{addressOk}
 use Rattle.book.specs.declared.step.Step.{Step}
-use Rattle.book.specs.declared.step.StepsCheck.{StepsCheck}
-use Rattle.book.specs.declared.step.StepsCheck.the-variants.{AllGood, Bad}
+use Rattle.steps.specs.declared.fault.StepsCheck.{StepsCheck}
+use Rattle.steps.specs.declared.fault.StepsCheck.the-variants.{AllGood, Bad}
 use Rattle.book.specs.Book.{sceneCount, bookOk, sceneOf}
-use Rattle.book.specs.Step.{firstBadFrom}
-use Rattle.book.specs.Group.{concat}
+use Rattle.steps.specs.Step.{firstBadFrom}
+use Rattle.entries.specs.Group.{concat}
 use Rattle.scene.specs.declared.compile.CompileAnswer.{CompileAnswer}
 use Rattle.scene.specs.Compile.{sceneRequests, selectedRequests}
 
