@@ -20,11 +20,11 @@ use Rattle.outcome.specs.Request.{hwpidMatches, batchRequest, execute, handleRe
 use Rattle.outcome.proofs.SelectiveBatches.{not-selected-stays}
 use Rattle.book.specs.declared.step.Step.{Step}
 use Rattle.entries.specs.Group.{concat}
-use Rattle.steps.specs.Machine.{machine}
+use Rattle.step.specs.Machine.{machine}
 use Rattle.scene.specs.Compile.{Limits, joinedEntries, batchesOf, requestBytes, requestsOf, selectedEntryLimit, selectedListLimit, selectedRequests}
 use Rattle.entries.proofs.Groups.{concat-append}
-use Rattle.steps.proofs.MachineLaws.{machine-append, machine-stays}
-use Rattle.steps.proofs.Faults.{Good}
+use Rattle.step.proofs.MachineLaws.{machine-append, machine-stays}
+use Rattle.step.proofs.Faults.{Good}
 use Rattle.entries.proofs.EntryGroups.{EntryGroup, joining-keeps}
 use Rattle.scene.proofs.Batches.{BatchRule, batches-rule, selected-limits, filling-keeps}
 use Rattle.scene.proofs.Sizes.{batch-fits}

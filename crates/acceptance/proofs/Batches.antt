@@ -15,10 +15,10 @@ use Rattle.outcome.proofs.Soundness.{entry-sound}
 use Rattle.outcome.proofs.Outcomes.{batch-runs}
 use Rattle.book.specs.declared.step.Step.{Step}
 use Rattle.entries.specs.Group.{concat}
-use Rattle.steps.specs.Machine.{machine}
+use Rattle.step.specs.Machine.{machine}
 use Rattle.entries.specs.Entry.{joinedEntry}
 use Rattle.scene.specs.Compile.{joinedEntries}
-use Rattle.steps.proofs.MachineLaws.{machine-append, machine-stays}
+use Rattle.step.proofs.MachineLaws.{machine-append, machine-stays}
 
 -- an outcome without an error, data or a report
 abbrev pub noErrorOutcome : State → List ℕ → Outcome

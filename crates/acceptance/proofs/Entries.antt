@@ -18,11 +18,11 @@ use Rattle.outcome.specs.Request.{hwpidMatches, peripheralRequest, executeEntry
 use Rattle.node.proofs.Nodes.{node-lamps, node-ram}
 use Rattle.outcome.proofs.BatchEntries.{entry-match}
 use Rattle.book.specs.declared.step.Step.{Step}
-use Rattle.steps.specs.Step.{ramKind, eepromKind}
-use Rattle.steps.specs.Machine.{machine}
+use Rattle.step.specs.Step.{ramKind, eepromKind}
+use Rattle.step.specs.Machine.{machine}
 use Rattle.entries.specs.Entry.{entryData, pnumOf, pcmdOf, joinedEntry}
 use Rattle.entries.specs.Join.{follows}
-use Rattle.steps.proofs.Faults.{eeprom-good}
+use Rattle.step.proofs.Faults.{eeprom-good}
 use Rattle.entries.proofs.EntryGroups.{Linked, EntryGroup}
 use Rattle.scene.specs.Compile.{Limits}
 use Rattle.acceptance.proofs.Lamps.{LampGroup, entry-lamp-group}

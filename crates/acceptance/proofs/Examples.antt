@@ -16,7 +16,7 @@ use Rattle.timing.specs.Slot.{baseSlot, networkExtra, slotOf, directionTime, ea
 use Rattle.node.specs.Node.{shapeOk, lampsOk, nodeOk}
 use Rattle.outcome.specs.Request.{peripheralRequest, hwpidMatches, executeEntry, listRequest, batchRequest, selectiveRequest, osRequest, execute, handleFrame, requestRefusal, handleRequest}
 use Rattle.book.specs.Book.{chained, bookOk, sceneOf}
-use Rattle.steps.specs.Step.{stepTimeOk, lampFault, byteFault, stepFault}
+use Rattle.step.specs.Step.{stepTimeOk, lampFault, byteFault, stepFault}
 use Rattle.entries.specs.Entry.{powerBytes, entryData, pnumOf, pcmdOf}
 use Rattle.entries.specs.Join.{follows}
 use Rattle.scene.specs.Call.{minOutput, compileScene, compileTo}

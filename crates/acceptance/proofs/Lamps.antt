@@ -29,10 +29,10 @@ use Rattle.node.specs.State.{State, withNode}
 use Rattle.outcome.specs.Request.{peripheralRequest}
 use Rattle.outcome.proofs.Peripherals.{peripheral-lights}
 use Rattle.book.specs.declared.step.Step.{Step}
-use Rattle.steps.specs.Step.{ramKind, stepTimeOk}
-use Rattle.steps.specs.Machine.{machineLevel, machineSeconds, machineLamp, machineLamps, machineEffect, machineStep, machine}
+use Rattle.step.specs.Step.{ramKind, stepTimeOk}
+use Rattle.step.specs.Machine.{machineLevel, machineSeconds, machineLamp, machineLamps, machineEffect, machineStep, machine}
 use Rattle.entries.specs.Entry.{bitmapOf, bitmapBytes, powerBytes, powersBytes, pnumOf, pcmdOf}
-use Rattle.steps.proofs.Faults.{Good, LampGood, lamp-good, good-formed}
+use Rattle.step.proofs.Faults.{Good, LampGood, lamp-good, good-formed}
 
 -- ---- binary digits
 

@@ -6,7 +6,7 @@ use lights::lamp;
 use lights::power;
 use lights::request;
 use node::frc;
-use steps::kind;
+use step::kind;
 use timing::slot::SLOT_UNIT_MS;
 use timing::slot::WAIT_MAX;
 use uart::receive;

@@ -7,7 +7,7 @@ use lib.Dec.{eqb}
 use lib.ListN.{length, length-append}
 use Rattle.dpa.proofs.Bool.{by-test}
 use Rattle.book.specs.declared.step.Step.{Step}
-use Rattle.steps.specs.Step.{isLamp}
+use Rattle.step.specs.Step.{isLamp}
 use Rattle.entries.specs.Entry.{powerBytes, powersBytes, values, entryData, groupData}
 use Rattle.entries.specs.EntrySize.{powerSize, stepSize}
 

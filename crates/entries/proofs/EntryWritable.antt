@@ -11,16 +11,16 @@ use Rattle.dpa.proofs.Bool.{and-left}
 use Rattle.dpa.specs.Lists.{All}
 use Rattle.book.specs.declared.step.Step.{Step}
 use Rattle.book.specs.Book.{stepLength, stepsIn}
-use Rattle.steps.specs.Step.{ramKind}
+use Rattle.step.specs.Step.{ramKind}
 use Rattle.entries.specs.Join.{follows, entriesOf}
 use Rattle.entries.specs.EntrySize.{oneStepMax, FirstEntry}
-use Rattle.steps.specs.Step.{AllStepsGood}
+use Rattle.step.specs.Step.{AllStepsGood}
 use Rattle.entries.specs.Writing.{EntryWritable}
-use Rattle.steps.proofs.Faults.{Good, lamp-good}
+use Rattle.step.proofs.Faults.{Good, lamp-good}
 use Rattle.dpa.proofs.All.{all-drop}
 use Rattle.entries.proofs.EntryGroups.{Linked, EntryGroup, entry-groups}
 use Rattle.book.proofs.Positions.{steps-length, zeroStep, steps-at, steps-slice}
-use Rattle.steps.proofs.GoodSteps.{good-steps}
+use Rattle.step.proofs.GoodSteps.{good-steps}
 
 -- lamp steps that follow a lamp step are in range
 linked-lamps : (p : Step) (ss : List Step) → Linked p ss → p .kind < ramKind

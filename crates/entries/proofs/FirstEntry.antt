@@ -14,7 +14,7 @@ use Rattle.dpa.proofs.Bool.{by-test, by-cond, and-right}
 use Rattle.dpa.proofs.Lists.{slice-to-end}
 use Rattle.book.specs.declared.step.Step.{Step}
 use Rattle.book.specs.Book.{stepLength, stepOf, stepsIn}
-use Rattle.steps.specs.Step.{isLamp}
+use Rattle.step.specs.Step.{isLamp}
 use Rattle.entries.specs.Group.{grow}
 use Rattle.entries.specs.Entry.{groupData, entryData, powerBytes}
 use Rattle.entries.specs.Join.{joins, entriesOf, follows, lastOf}

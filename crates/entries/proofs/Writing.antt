@@ -11,7 +11,7 @@ use Rattle.dpa.proofs.Lists.{sets-append}
 use Rattle.batch.specs.Batch.{entryBytes}
 use Rattle.book.specs.declared.step.Step.{Step}
 use Rattle.book.specs.Book.{stepLength, stepOf, stepsIn}
-use Rattle.steps.specs.Step.{isLamp}
+use Rattle.step.specs.Step.{isLamp}
 use Rattle.lights.specs.Lights.{bit7}
 use Rattle.entries.specs.Entry.{bytesOf, powerBytes, powersBytes, values, bitmapOf, bitmapBytes, joinedEntry, entryData, groupData}
 use Rattle.book.specs.Positions.{stepAt}

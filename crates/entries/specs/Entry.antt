@@ -10,7 +10,7 @@ use Rattle.memory.specs.declared.block.Memory.the-variants.{Eeprom, Ram}
 use Rattle.memory.specs.Block.{memoryPnum, writeCommand}
 use Rattle.batch.specs.Batch.{Request, requestOf}
 use Rattle.book.specs.declared.step.Step.{Step}
-use Rattle.steps.specs.Step.{ramKind, isLamp}
+use Rattle.step.specs.Step.{ramKind, isLamp}
 
 -- the bitmap of lamp steps: the bit of each target
 abbrev pub bitmapOf : List Step → ℕ

@@ -8,7 +8,7 @@ use lib.ListN.{length, take, drop}
 use Rattle.lights.specs.Bits.{bitmapSize}
 use Rattle.dpa.specs.Frame.{pdataMax}
 use Rattle.book.specs.declared.step.Step.{Step}
-use Rattle.steps.specs.Step.{isLamp}
+use Rattle.step.specs.Step.{isLamp}
 use Rattle.entries.specs.Entry.{groupData}
 use Rattle.entries.specs.Join.{follows, entriesOf}
 

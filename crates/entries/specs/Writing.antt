@@ -6,7 +6,7 @@ use Prim.Native.Nat.{ℕ, _^_, _≤_, _<_}
 use Rattle.batch.specs.Batch.{headBytes}
 use Rattle.lights.specs.Lamp.{maxLevel}
 use Rattle.dpa.specs.Settings.{maxLamps}
-use Rattle.steps.specs.Step.{isLamp}
+use Rattle.step.specs.Step.{isLamp}
 use Rattle.entries.specs.Entry.{pnumOf, pcmdOf}
 use Rattle.book.specs.Positions.{stepAt}
 

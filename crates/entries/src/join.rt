@@ -4,7 +4,7 @@ use book::step::Step;
 use book::step::step_at;
 use dpa::number::wide;
 use lights::power::BITMAP_SIZE;
-use steps::kind::is_lamp;
+use step::kind::is_lamp;
 ghost use mathlib.Core.Path.{_≡_};
 ghost use Prim.Native.Nat.{_+_, _*_, _-_, _≤_, _<_};
 ghost use lib.ListN.{length, drop};

@@ -15,7 +15,7 @@ use Rattle.entries.specs.EntrySize.{EntryLimit}
 use Rattle.entries.specs.Group.{concat}
 use Rattle.entries.proofs.Groups.{all-group, concat-group}
 use Rattle.dpa.proofs.All.{all-snoc}
-use Rattle.steps.proofs.Faults.{Good}
+use Rattle.step.proofs.Faults.{Good}
 use Rattle.entries.proofs.EntryGroups.{EntryGroup, entry-groups}
 use Rattle.scene.specs.Compile.{Limits, fitsBatch, listOf, batchesOf, entryLimit, listLimit, selectedEntryLimit, selectedListLimit}
 

@@ -14,13 +14,13 @@ use Rattle.dpa.proofs.Bool.{by-cond}
 use Rattle.dpa.proofs.Lists.{sets-front}
 use Rattle.dpa.specs.Lists.{All}
 use Rattle.book.specs.declared.step.Step.{Step}
-use Rattle.steps.specs.declared.fault.StepsCheck.{StepsCheck}
-use Rattle.steps.specs.declared.fault.StepsCheck.the-variants.{AllGood, Bad}
+use Rattle.step.specs.declared.fault.StepsCheck.{StepsCheck}
+use Rattle.step.specs.declared.fault.StepsCheck.the-variants.{AllGood, Bad}
 use Rattle.entries.specs.Group.{concat}
 use Rattle.entries.specs.Join.{joins, entriesOf}
 use Rattle.book.specs.Book.{stepsMax, sceneCount, bookOk, sceneOf}
-use Rattle.steps.specs.Step.{firstBadFrom}
-use Rattle.steps.proofs.Faults.{Good}
+use Rattle.step.specs.Step.{firstBadFrom}
+use Rattle.step.proofs.Faults.{Good}
 use Rattle.entries.proofs.Groups.{length-group}
 use Rattle.scene.specs.declared.fill.SizeLimits.{SizeLimits}
 use Rattle.scene.specs.Compile.{Limits, fitsBatch, batchesOf, requestWith}

@@ -14,11 +14,11 @@ use Rattle.entries.specs.Group.{concat}
 use Rattle.entries.specs.Entry.{joinedEntry}
 use Rattle.entries.specs.Join.{entriesOf}
 use Rattle.entries.specs.EntrySize.{FirstEntry}
-use Rattle.steps.specs.Step.{AllStepsGood}
+use Rattle.step.specs.Step.{AllStepsGood}
 use Rattle.dpa.proofs.Lists.{sets-append}
 use Rattle.entries.proofs.Writing.{two-writes}
 use Rattle.book.proofs.Positions.{steps-length}
-use Rattle.steps.proofs.GoodSteps.{good-steps}
+use Rattle.step.proofs.GoodSteps.{good-steps}
 use Rattle.scene.specs.declared.fill.SizeLimits.{SizeLimits}
 use Rattle.scene.specs.Compile.{Limits, emptyListSize}
 use Rattle.scene.specs.Call.{lengths, output, minOutput}

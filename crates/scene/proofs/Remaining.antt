@@ -16,7 +16,7 @@ use Rattle.entries.specs.Group.{concat, grow, group}
 use Rattle.entries.specs.Entry.{groupData, joinedEntry}
 use Rattle.entries.specs.Join.{entriesOf}
 use Rattle.entries.specs.EntrySize.{FirstEntry}
-use Rattle.steps.proofs.Faults.{Good}
+use Rattle.step.proofs.Faults.{Good}
 use Rattle.entries.proofs.Groups.{grow-fits, grow-not-fits}
 use Rattle.entries.proofs.EntryGroups.{EntryGroup, entry-groups, joining-keeps}
 use Rattle.scene.specs.Compile.{Limits, joinedEntries, listOf, entrySize, emptyListSize, fitsBatch, batchesOf}

@@ -15,7 +15,7 @@ use Rattle.entries.specs.Group.{concat, grow, group}
 use Rattle.entries.specs.Entry.{groupData}
 use Rattle.entries.specs.Join.{joins, entriesOf}
 use Rattle.entries.specs.EntrySize.{oneStepMax, FirstEntry}
-use Rattle.steps.proofs.Faults.{Good}
+use Rattle.step.proofs.Faults.{Good}
 use Rattle.entries.proofs.Groups.{length-group}
 use Rattle.entries.proofs.EntryGroups.{EntryGroup, entry-groups, joining-keeps}
 use Rattle.scene.specs.Fill.{spanLength, spanBytes, StartsWithSpans}

@@ -10,7 +10,7 @@ ghost use lib.Seq.{sets};
 ghost use Rattle.dpa.specs.declared.frame.Frame.{Frame};
 ghost use Rattle.dpa.specs.Frame.{pdataMax, longestFrame};
 ghost use Rattle.book.specs.Book.{stepsMax, stepLength, stepsIn};
-ghost use Rattle.steps.specs.Step.{AllStepsGood};
+ghost use Rattle.step.specs.Step.{AllStepsGood};
 ghost use Rattle.scene.specs.Compile.{Limits};
 ghost use Rattle.scene.specs.Call.{lengths};
 ghost use Rattle.scene.specs.Fill.{requestsWith, nextSize, lengthByteIfFull, maxSpanBytes, StartsWithSpans};

@@ -19,7 +19,7 @@ ghost use lib.Seq.{sets};
 ghost use Rattle.dpa.specs.Frame.{pdataMax, headerBytes};
 ghost use Rattle.book.specs.Book.{stepsMax, stepLength, stepsIn};
 ghost use Rattle.entries.specs.Group.{concat};
-ghost use Rattle.steps.specs.Step.{AllStepsGood};
+ghost use Rattle.step.specs.Step.{AllStepsGood};
 ghost use Rattle.scene.specs.Compile.{Limits};
 ghost use Rattle.scene.specs.Call.{output, minOutput};
 ghost use Rattle.scene.specs.Fill.{requestsWith, nextSize, separatorBytes, StartsWithSpans};

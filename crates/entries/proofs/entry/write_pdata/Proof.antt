@@ -9,7 +9,7 @@ use lib.Seq.{sets}
 use borrow.Author.Needs.{needs}
 use Rattle.book.specs.declared.step.Step.{Step}
 use Rattle.book.specs.Book.{stepsIn}
-use Rattle.steps.specs.Step.{isLamp}
+use Rattle.step.specs.Step.{isLamp}
 use Rattle.entries.specs.Entry.{bitmapOf, powersBytes, values, bitmapBytes}
 use Rattle.book.specs.Positions.{stepAt}
 use Rattle.entries.proofs.Writing.{two-writes, sets-length, data-lamp, data-memory, values-count}

@@ -10,7 +10,7 @@ use Rattle.book.specs.declared.step.Step.{Step}
 use Rattle.book.specs.Book.{stepsIn}
 use Rattle.entries.specs.Join.{entriesOf}
 use Rattle.book.proofs.Positions.{steps-length}
-use Rattle.steps.proofs.GoodSteps.{good-steps}
+use Rattle.step.proofs.GoodSteps.{good-steps}
 use Rattle.scene.specs.Compile.{emptyListSize}
 use Rattle.scene.specs.Call.{lengths}
 use Rattle.scene.specs.Fill.{requestsWith, spanLength, maxSpanBytes}

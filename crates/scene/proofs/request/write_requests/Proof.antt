@@ -16,10 +16,10 @@ use Rattle.entries.specs.Join.{entriesOf}
 use Rattle.entries.specs.EntrySize.{FirstEntry}
 use Rattle.book.proofs.Positions.{steps-length, steps-slice}
 use Rattle.entries.proofs.Writing.{two-writes}
-use Rattle.steps.proofs.Faults.{Good}
+use Rattle.step.proofs.Faults.{Good}
 use Rattle.dpa.specs.Lists.{All}
 use Rattle.dpa.proofs.All.{all-drop}
-use Rattle.steps.proofs.GoodSteps.{good-steps}
+use Rattle.step.proofs.GoodSteps.{good-steps}
 use Rattle.entries.proofs.EntryWritable.{entry-writable}
 use Rattle.scene.specs.Compile.{emptyListSize}
 use Rattle.scene.specs.Fill.{requestsWith, StartsWithSpans}

@@ -1,6 +1,6 @@
 // Step kinds. Those below WRITE_RAM set, raise or lower a lamp; they have the numbers of the lights commands.
 ghost use mathlib.Core.Path.{_≡_};
-ghost use Rattle.steps.specs.Step.{isLamp};
+ghost use Rattle.step.specs.Step.{isLamp};
 
 pub const WRITE_RAM: u8 = 3;
 

@@ -14,7 +14,7 @@ use Rattle.lights.specs.declared.lamp.Lamp.{Lamp}
 use Rattle.node.specs.Node.{withLamps, withRam}
 use Rattle.node.specs.State.{State, withNode, withEeprom}
 use Rattle.book.specs.declared.step.Step.{Step}
-use Rattle.steps.specs.Step.{setKind, raiseKind, ramKind, eepromKind, isLamp}
+use Rattle.step.specs.Step.{setKind, raiseKind, ramKind, eepromKind, isLamp}
 
 -- ---- which steps are not bad. The machine has its own rule, independent of the compiler's (`stepFault`).
 

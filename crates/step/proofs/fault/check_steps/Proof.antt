@@ -5,12 +5,12 @@ use native.Mathlib.Omega.{arith}
 use lib.ListN.{drop}
 use borrow.Author.Needs.{needs}
 use borrow.Author.Tests.{eq-eqb, ne-eqb}
-use Rattle.steps.specs.declared.fault.StepsCheck.the-variants.{Bad}
+use Rattle.step.specs.declared.fault.StepsCheck.the-variants.{Bad}
 use Rattle.book.specs.Book.{stepsIn}
-use Rattle.steps.specs.Step.{firstBadFrom}
-use Rattle.steps.proofs.GoodSteps.{first-bad-next, first-bad-found, first-bad-none}
-use Rattle.steps.proofs.fault.check_steps.Statement.{statement}
-use Rattle.steps.proofs.fault.check_steps.Tie as tie
+use Rattle.step.specs.Step.{firstBadFrom}
+use Rattle.step.proofs.GoodSteps.{first-bad-next, first-bad-found, first-bad-none}
+use Rattle.step.proofs.fault.check_steps.Statement.{statement}
+use Rattle.step.proofs.fault.check_steps.Tie as tie
 
 abbrev Inv-loop : tie.InvT-loop
 Inv-loop body count i₀ i = (i ≤ count) × (firstBadFrom 0 (stepsIn count body) ≡ firstBadFrom i (drop i (stepsIn count body)))

@@ -13,9 +13,9 @@ use Rattle.lights.specs.Lamp.{off}
 use Rattle.lights.specs.declared.lamp.Lamp.{Lamp}
 use Rattle.node.specs.State.{State}
 use Rattle.book.specs.declared.step.Step.{Step}
-use Rattle.steps.specs.Step.{ramKind, eepromKind, isLamp}
-use Rattle.steps.specs.Machine.{stepFormed, machineLamp, machineLamps, machineEffect, machineStep, machine}
-use Rattle.steps.proofs.Faults.{formed-eeprom}
+use Rattle.step.specs.Step.{ramKind, eepromKind, isLamp}
+use Rattle.step.specs.Machine.{stepFormed, machineLamp, machineLamps, machineEffect, machineStep, machine}
+use Rattle.step.proofs.Faults.{formed-eeprom}
 
 -- lamp k of a node with `count` lamps after a step, from lamp k before it
 unfoldable pub lampAfterStep : Step → ℕ → ℕ → Lamp → Lamp

@@ -6,8 +6,8 @@ use mathlib.Core.List.{List, [], _∷_, _++_}
 use Prim.Native.Nat.{ℕ, suc, _+_, _-_, _≤_, _<_}
 use native.Mathlib.Omega.{arith}
 use lib.Dec.{ltb, leb, eqb}
-use lib.ListN.{length, drop}
-use lib.Seq.{drop-append-seam}
+use lib.ListN.{length, drop, length-append}
+use lib.Seq.{take-append-seam, drop-append-seam}
 use borrow.Author.Tests.{eq-eqb, ne-eqb, eqb-true, eqb-false, le-leb, lt-leb, leb-true, leb-false, lt-ltb, ltb-true, ltb-false, not-true, not-false}
 use Rattle.dpa.specs.Frame.{broadcastNadr}
 use Rattle.dpa.specs.NodeSet.{nodeSetOk, Selectable}
@@ -16,16 +16,17 @@ use Rattle.dpa.proofs.NodeSets.{set-ok-exact}
 use Rattle.dpa.proofs.Bool.{and-left, and-right, by-cond, by-test}
 use Rattle.dpa.specs.Lists.{All}
 use Rattle.book.specs.declared.step.Step.{Step}
-use Rattle.steps.specs.declared.fault.StepsCheck.{StepsCheck}
-use Rattle.steps.specs.declared.fault.StepsCheck.the-variants.{AllGood, Bad}
+use Rattle.step.specs.declared.fault.StepsCheck.{StepsCheck}
+use Rattle.step.specs.declared.fault.StepsCheck.the-variants.{AllGood, Bad}
 use Rattle.book.specs.Book.{sceneCount, bookOk, sceneOf}
-use Rattle.steps.specs.Step.{stepFault, goodStep, firstBadFrom}
+use Rattle.step.specs.Step.{stepFault, goodStep, firstBadFrom}
 use Rattle.dpa.proofs.All.{all-weaken}
-use Rattle.steps.proofs.Faults.{Good, no-bad, fault-range}
+use Rattle.step.proofs.Faults.{Good, no-bad, fault-range}
 use Rattle.scene.specs.Compile.{sceneRequests, selectedRequests}
-use Rattle.scene.specs.Call.{CompileResult, output, minOutput, refusedWith, outputInBuffer, compileSteps, compileScene, compileTo, compileFor, compileSelected}
+use Rattle.scene.specs.Call.{CompileResult, output, CompleteOutput, minOutput, outputOf, refusedWith, outputInBuffer, compileSteps, compileScene, compileTo, compileFor, compileSelected}
 use Rattle.scene.proofs.Outputs.{Faultless, target-refused, target-valid, compile-written, compile-refused}
-use Rattle.acceptance.specs.SceneTheorem.{Addressable, NoFault, SceneRule, StepRefusal, FirstBad, Refusals}
+use Rattle.scene.proofs.CompleteOutputs.{output-complete}
+use Rattle.scene.specs.Refusals.{Addressable, NoFault, SceneRule, StepRefusal, FirstBad, Refusals}
 
 -- ---- the faults, and the tests of the call
 
@@ -246,3 +247,29 @@ compile-refusals b k a h out = target-refusals (Addressable a) (addressOk a) (ad
 -- and for a set of nodes
 pub selected-refusals : (b : List ℕ) (k : ℕ) (nodes : List ℕ) (h : ℕ) (out : List ℕ) → Refusals (Selectable nodes) b k out (compileSelected b k nodes h out)
 selected-refusals b k nodes h out = target-refusals (Selectable nodes) (nodeSetOk nodes) (set-ok-exact nodes) b k (selectedRequests nodes h) out
+
+-- ---- a call for an address that is not refused: c is its result
+module _ (b : List ℕ) (k a h : ℕ) (out : List ℕ) (c : CompileResult) (e : c ≡ compileFor b k a h out) (z : c .refusal ≡ 0) where
+  -- there was no fault
+  pub accepted : Addressable a × SceneRule b k × (minOutput ≤ length out)
+  accepted = compile-refusals b k a h out .none .0 (sym (ap (λ (d : CompileResult). d .refusal) e) ∙ z)
+
+  -- the output was written
+  pub written : c ≡ outputInBuffer (output (sceneRequests a h (sceneOf b k))) out
+  written = e ∙ accepted-answer (Addressable a) (addressOk a) (addressable a) b k (sceneRequests a h) out accepted
+
+  -- it is inside the buffer
+  pub output-inside : c .length ≤ length (c .buffer)
+  output-inside =
+      let o = output (sceneRequests a h (sceneOf b k)) in
+      rw written (omega (arith, length-append o (drop (length o) out)))
+
+  -- and is that of the scene's requests
+  pub output-is : outputOf c ≡ output (sceneRequests a h (sceneOf b k))
+  output-is =
+      let o = output (sceneRequests a h (sceneOf b k)) in
+      ap outputOf written ∙ take-append-seam o (drop (length o) out)
+
+  -- so it has all the requests that it announces
+  pub output-whole : CompleteOutput (outputOf c)
+  output-whole = subst CompleteOutput (sym output-is) (output-complete (sceneRequests a h (sceneOf b k)))

@@ -12,8 +12,8 @@ use Rattle.memory.specs.Block.{sizeOf}
 use Rattle.memory.specs.declared.block.Memory.the-variants.{Eeprom, Ram}
 use Rattle.book.specs.declared.step.Step.{Step}
 use Rattle.book.specs.Positions.{stepAt}
-use Rattle.steps.specs.declared.fault.StepsCheck.{StepsCheck}
-use Rattle.steps.specs.declared.fault.StepsCheck.the-variants.{AllGood, Bad}
+use Rattle.step.specs.declared.fault.StepsCheck.{StepsCheck}
+use Rattle.step.specs.declared.fault.StepsCheck.the-variants.{AllGood, Bad}
 
 -- ---- kinds of steps
 

@@ -4,9 +4,9 @@ use native.Mathlib.Omega.{arith}
 use borrow.Author.Needs.{needs}
 use borrow.Author.Tests.{le-leb, lt-leb, eq-eqb, ne-eqb}
 use Rattle.memory.specs.Block.{sizeOf}
-use Rattle.steps.specs.Step.{byteFault}
-use Rattle.steps.proofs.fault.byte_fault.Statement.{statement}
-use Rattle.steps.proofs.fault.byte_fault.Tie as tie
+use Rattle.step.specs.Step.{byteFault}
+use Rattle.step.proofs.fault.byte_fault.Statement.{statement}
+use Rattle.step.proofs.fault.byte_fault.Tie as tie
 
 returns : tie.Need-returns
 unfolding byteFault

@@ -1,10 +1,10 @@
 -- Each return decides one test of `lampFault`.
 use borrow.Author.Tests.{lt-ltb, le-ltb, le-leb, lt-leb, eq-eqb, ne-eqb}
 use mathlib.Core.Path.{sym, _∙_}
-use Rattle.steps.specs.Step.{lampFault, stepTimeOk}
+use Rattle.step.specs.Step.{lampFault, stepTimeOk}
 use borrow.Author.Needs.{needs}
-use Rattle.steps.proofs.fault.lamp_fault.Statement.{statement}
-use Rattle.steps.proofs.fault.lamp_fault.Tie as tie
+use Rattle.step.proofs.fault.lamp_fault.Statement.{statement}
+use Rattle.step.proofs.fault.lamp_fault.Tie as tie
 
 returns : tie.Need-returns
 unfolding lampFault stepTimeOk

@@ -16,7 +16,7 @@ ghost use Prim.Native.Nat.{_*_, _≤_};
 ghost use lib.ListN.{length};
 ghost use Rattle.memory.specs.Block.{sizeOf};
 ghost use Rattle.book.specs.Book.{stepsMax, stepLength, stepsIn};
-ghost use Rattle.steps.specs.Step.{lampFault, byteFault, stepFault, firstBadFrom};
+ghost use Rattle.step.specs.Step.{lampFault, byteFault, stepFault, firstBadFrom};
 
 // The fault of a lamp step.
 fn lamp_fault(step: Step) -> u8

@@ -8,13 +8,13 @@ use native.Mathlib.Omega.{arith}
 use lib.ListN.{drop}
 use Rattle.dpa.specs.Lists.{All}
 use Rattle.book.specs.declared.step.Step.{Step}
-use Rattle.steps.specs.declared.fault.StepsCheck.the-variants.{AllGood, Bad}
+use Rattle.step.specs.declared.fault.StepsCheck.the-variants.{AllGood, Bad}
 use Rattle.book.specs.Book.{stepLength, stepOf, stepsIn}
-use Rattle.steps.specs.Step.{stepFault, goodStep, firstBadFrom}
+use Rattle.step.specs.Step.{stepFault, goodStep, firstBadFrom}
 use Rattle.book.specs.Positions.{stepAt}
-use Rattle.steps.specs.Step.{AllStepsGood}
+use Rattle.step.specs.Step.{AllStepsGood}
 use Rattle.book.proofs.Records.{drop-record, records-next, records-end}
-use Rattle.steps.proofs.Faults.{Good, no-bad}
+use Rattle.step.proofs.Faults.{Good, no-bad}
 
 -- ---- the loop of check_steps: x is step i
 module _ (n : ℕ) (body : List ℕ) (i : ℕ) (x : Step) (h : i < n) (e : x ≡ stepAt body i) where

@@ -2,9 +2,9 @@
 use mathlib.Core.Path.{sym, _∙_}
 use borrow.Author.Needs.{needs}
 use borrow.Author.Tests.{eq-eqb, ne-eqb}
-use Rattle.steps.specs.Step.{stepFault}
-use Rattle.steps.proofs.fault.step_fault.Statement.{statement}
-use Rattle.steps.proofs.fault.step_fault.Tie as tie
+use Rattle.step.specs.Step.{stepFault}
+use Rattle.step.proofs.fault.step_fault.Statement.{statement}
+use Rattle.step.proofs.fault.step_fault.Tie as tie
 
 returns : tie.Need-returns
 unfolding stepFault

@@ -7,8 +7,8 @@ use Rattle.lights.specs.Lamp.{lamp, off}
 use Rattle.node.specs.State.{State}
 use Rattle.book.specs.declared.step.Step.{Step}
 use Rattle.book.specs.Book.{sceneOf}
-use Rattle.steps.specs.Step.{setKind, raiseKind, lowerKind}
-use Rattle.steps.specs.Machine.{timeFormed, stepFormed, machineLevel, machineSeconds, machineLamps, machineEffect, machineStep, machine}
+use Rattle.step.specs.Step.{setKind, raiseKind, lowerKind}
+use Rattle.step.specs.Machine.{timeFormed, stepFormed, machineLevel, machineSeconds, machineLamps, machineEffect, machineStep, machine}
 use Rattle.node.specs.Examples.{freshState}
 use Rattle.book.specs.Examples.{book}
 

@@ -15,9 +15,9 @@ use Rattle.memory.specs.Block.{sizeOf}
 use Rattle.memory.specs.declared.block.Memory.the-variants.{Eeprom, Ram}
 use Rattle.dpa.specs.Lists.{All}
 use Rattle.book.specs.declared.step.Step.{Step}
-use Rattle.steps.specs.declared.fault.StepsCheck.the-variants.{AllGood, Bad}
-use Rattle.steps.specs.Step.{ramKind, eepromKind, isLamp, noFault, kindFault, targetFault, valueFault, timeFault, stepTimeOk, lampFault, byteFault, stepFault, goodStep, firstBadFrom, targetLimit, BadKind, BadTarget, BadValue, BadTime, FaultMeaning}
-use Rattle.steps.specs.Machine.{secondsBit, timeFormed, lampFormed, byteFormed, stepFormed}
+use Rattle.step.specs.declared.fault.StepsCheck.the-variants.{AllGood, Bad}
+use Rattle.step.specs.Step.{ramKind, eepromKind, isLamp, noFault, kindFault, targetFault, valueFault, timeFault, stepTimeOk, lampFault, byteFault, stepFault, goodStep, firstBadFrom, targetLimit, BadKind, BadTarget, BadValue, BadTime, FaultMeaning}
+use Rattle.step.specs.Machine.{secondsBit, timeFormed, lampFormed, byteFormed, stepFormed}
 
 -- a step that the compiler accepts
 abbrev pub Good : Step → Type 0
