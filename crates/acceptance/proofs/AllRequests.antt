@@ -19,13 +19,13 @@ use Rattle.batch.specs.Selective.{selectivePcmd}
 use Rattle.outcome.specs.Request.{hwpidMatches, batchRequest, execute, handleRequest}
 use Rattle.outcome.proofs.SelectiveBatches.{not-selected-stays}
 use Rattle.book.specs.declared.step.Step.{Step}
-use Rattle.book.specs.Group.{concat}
-use Rattle.book.specs.Machine.{machine}
+use Rattle.entries.specs.Group.{concat}
+use Rattle.step.specs.Machine.{machine}
 use Rattle.scene.specs.Compile.{Limits, joinedEntries, batchesOf, requestBytes, requestsOf, selectedEntryLimit, selectedListLimit, selectedRequests}
-use Rattle.book.proofs.Groups.{concat-append}
-use Rattle.book.proofs.MachineLaws.{machine-append, machine-stays}
-use Rattle.book.proofs.Faults.{Good}
-use Rattle.book.proofs.EntryGroups.{EntryGroup, joining-keeps}
+use Rattle.entries.proofs.Groups.{concat-append}
+use Rattle.step.proofs.MachineLaws.{machine-append, machine-stays}
+use Rattle.step.proofs.Faults.{Good}
+use Rattle.entries.proofs.EntryGroups.{EntryGroup, joining-keeps}
 use Rattle.scene.proofs.Batches.{BatchRule, batches-rule, selected-limits, filling-keeps}
 use Rattle.scene.proofs.Sizes.{batch-fits}
 use Rattle.acceptance.specs.SceneTheorem.{Success, AllSucceed, afterCalls, MatchesMachine, Ignored, AllIgnored, StaysUnchanged}

@@ -14,11 +14,11 @@ use Rattle.outcome.specs.Request.{hwpidMatches, executeEntry, entryAfter, entry
 use Rattle.outcome.proofs.Soundness.{entry-sound}
 use Rattle.outcome.proofs.Outcomes.{batch-runs}
 use Rattle.book.specs.declared.step.Step.{Step}
-use Rattle.book.specs.Group.{concat}
-use Rattle.book.specs.Machine.{machine}
-use Rattle.book.specs.Entry.{joinedEntry}
+use Rattle.entries.specs.Group.{concat}
+use Rattle.step.specs.Machine.{machine}
+use Rattle.entries.specs.Entry.{joinedEntry}
 use Rattle.scene.specs.Compile.{joinedEntries}
-use Rattle.book.proofs.MachineLaws.{machine-append, machine-stays}
+use Rattle.step.proofs.MachineLaws.{machine-append, machine-stays}
 
 -- an outcome without an error, data or a report
 abbrev pub noErrorOutcome : State → List ℕ → Outcome

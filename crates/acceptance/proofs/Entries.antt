@@ -18,12 +18,12 @@ use Rattle.outcome.specs.Request.{hwpidMatches, peripheralRequest, executeEntry
 use Rattle.node.proofs.Nodes.{node-lamps, node-ram}
 use Rattle.outcome.proofs.BatchEntries.{entry-match}
 use Rattle.book.specs.declared.step.Step.{Step}
-use Rattle.book.specs.Step.{ramKind, eepromKind}
-use Rattle.book.specs.Machine.{machine}
-use Rattle.book.specs.Entry.{entryData, pnumOf, pcmdOf, joinedEntry}
-use Rattle.book.specs.Join.{follows}
-use Rattle.book.proofs.Faults.{eeprom-good}
-use Rattle.book.proofs.EntryGroups.{Linked, EntryGroup}
+use Rattle.step.specs.Step.{ramKind, eepromKind}
+use Rattle.step.specs.Machine.{machine}
+use Rattle.entries.specs.Entry.{entryData, pnumOf, pcmdOf, joinedEntry}
+use Rattle.entries.specs.Join.{follows}
+use Rattle.step.proofs.Faults.{eeprom-good}
+use Rattle.entries.proofs.EntryGroups.{Linked, EntryGroup}
 use Rattle.scene.specs.Compile.{Limits}
 use Rattle.acceptance.proofs.Lamps.{LampGroup, entry-lamp-group}
 use Rattle.acceptance.proofs.Memories.{Writes, writes-ram, writes-eeprom, ByteGroup, entry-byte-group}

@@ -16,9 +16,9 @@ use Rattle.timing.specs.Slot.{baseSlot, networkExtra, slotOf, directionTime, ea
 use Rattle.node.specs.Node.{shapeOk, lampsOk, nodeOk}
 use Rattle.outcome.specs.Request.{peripheralRequest, hwpidMatches, executeEntry, listRequest, batchRequest, selectiveRequest, osRequest, execute, handleFrame, requestRefusal, handleRequest}
 use Rattle.book.specs.Book.{chained, bookOk, sceneOf}
-use Rattle.book.specs.Step.{stepTimeOk, lampFault, byteFault, stepFault}
-use Rattle.book.specs.Entry.{powerBytes, entryData, pnumOf, pcmdOf}
-use Rattle.book.specs.Join.{follows}
+use Rattle.step.specs.Step.{stepTimeOk, lampFault, byteFault, stepFault}
+use Rattle.entries.specs.Entry.{powerBytes, entryData, pnumOf, pcmdOf}
+use Rattle.entries.specs.Join.{follows}
 use Rattle.scene.specs.Call.{minOutput, compileScene, compileTo}
 use Rattle.acceptance.specs.Examples.{WorkedExamples, OwnExamples}
 

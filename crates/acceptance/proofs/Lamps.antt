@@ -29,10 +29,10 @@ use Rattle.node.specs.State.{State, withNode}
 use Rattle.outcome.specs.Request.{peripheralRequest}
 use Rattle.outcome.proofs.Peripherals.{peripheral-lights}
 use Rattle.book.specs.declared.step.Step.{Step}
-use Rattle.book.specs.Step.{ramKind, stepTimeOk}
-use Rattle.book.specs.Machine.{machineLevel, machineSeconds, machineLamp, machineLamps, machineEffect, machineStep, machine}
-use Rattle.book.specs.Entry.{bitmapOf, bitmapBytes, powerBytes, powersBytes, pnumOf, pcmdOf}
-use Rattle.book.proofs.Faults.{Good, LampGood, lamp-good, good-formed}
+use Rattle.step.specs.Step.{ramKind, stepTimeOk}
+use Rattle.step.specs.Machine.{machineLevel, machineSeconds, machineLamp, machineLamps, machineEffect, machineStep, machine}
+use Rattle.entries.specs.Entry.{bitmapOf, bitmapBytes, powerBytes, powersBytes, pnumOf, pcmdOf}
+use Rattle.step.proofs.Faults.{Good, LampGood, lamp-good, good-formed}
 
 -- ---- binary digits
 

@@ -4,7 +4,6 @@ pub mod Entries
 pub mod Batches
 pub mod OneRequest
 pub mod AllRequests
-pub mod Refusals
 pub mod Scenes
 pub mod Instance
 pub mod Examples

@@ -16,11 +16,11 @@ use Rattle.node.specs.State.{State, memoryOf, withMemory}
 use Rattle.outcome.specs.Request.{memoryRequestOnState, peripheralRequest}
 use Rattle.outcome.proofs.Peripherals.{memory-same, peripheral-memory}
 use Rattle.book.specs.declared.step.Step.{Step}
-use Rattle.book.specs.Step.{ramKind, eepromKind}
-use Rattle.book.specs.Machine.{machineEffect, machineStep, machine}
-use Rattle.book.specs.Entry.{values, pnumOf, pcmdOf}
-use Rattle.book.specs.EntrySize.{addressLength}
-use Rattle.book.proofs.Faults.{Good, ram-good, eeprom-good, good-formed}
+use Rattle.step.specs.Step.{ramKind, eepromKind}
+use Rattle.step.specs.Machine.{machineEffect, machineStep, machine}
+use Rattle.entries.specs.Entry.{values, pnumOf, pcmdOf}
+use Rattle.entries.specs.EntrySize.{addressLength}
+use Rattle.step.proofs.Faults.{Good, ram-good, eeprom-good, good-formed}
 
 -- the bytes that were put into a memory
 bytes-with : (m : Memory) (st : State) (bytes : List ℕ) → memoryOf m (withMemory m st bytes) ≡ bytes

@@ -6,10 +6,8 @@ use mathlib.Core.List.{List, [], _∷_}
 use Prim.Native.Nat.{ℕ, suc, _≤_}
 use native.Mathlib.Omega.{arith}
 use lib.Dec.{eqb}
-use lib.ListN.{length, drop, length-append}
-use lib.Seq.{take-append-seam}
+use lib.ListN.{length}
 use borrow.Author.Tests.{eq-eqb, ne-eqb, eqb-true, eqb-false}
-use Rattle.dpa.specs.Settings.{addressOk}
 use Rattle.dpa.proofs.Bool.{by-cond}
 use Rattle.memory.specs.declared.block.Memory.the-variants.{Eeprom, External}
 use Rattle.memory.specs.Block.{sizeOf}
@@ -18,14 +16,12 @@ use Rattle.node.specs.State.{State, SoundState}
 use Rattle.outcome.specs.Request.{handleRequest}
 use Rattle.outcome.proofs.Soundness.{request-sound}
 use Rattle.book.specs.Book.{sceneOf}
-use Rattle.book.specs.Machine.{machine}
-use Rattle.scene.specs.Compile.{sceneRequests}
-use Rattle.scene.specs.Call.{CompileResult, output, requestsIn, outputOf, outputInBuffer, compileFor}
-use Rattle.acceptance.specs.SceneTheorem.{Addressable, Given, afterCalls}
-use Rattle.acceptance.specs.RunScene.{zeroBuffer, CompleteOutput, SceneResult, result, afterCompile, runScene}
-use Rattle.acceptance.proofs.Refusals.{addressable, accepted-answer, compile-refusals}
+use Rattle.step.specs.Machine.{machine}
+use Rattle.scene.specs.Call.{CompileResult, output, requestsIn, outputOf, compileFor, CompleteOutput}
+use Rattle.acceptance.specs.SceneTheorem.{Given, afterCalls}
+use Rattle.acceptance.specs.RunScene.{zeroBuffer, SceneResult, result, afterCompile, runScene}
+use Rattle.scene.proofs.Refusals.{compile-refusals, output-inside, output-whole}
 use Rattle.acceptance.proofs.Scenes.{addressed-theorem}
-use Rattle.acceptance.proofs.OutputRequests.{output-complete}
 
 -- the assumptions of the theorem hold for a sound state, its own address and its own profile
 own-given : (st : State) → SoundState st → Given st (λ _. zeroBuffer) (st .node .settings .address) (st .node .settings .hwpid)
@@ -75,24 +71,13 @@ module _ {book : List ℕ} {k : ℕ} {st : State} {out : List ℕ} {c : CompileR
     accepted : compileOwn book k st out .refusal ≡ 0
     accepted = sym (ap (λ (d : CompileResult). d .refusal) (p .result-is)) ∙ z
 
-    -- the compiler wrote the output
-    written : let o = output (sceneRequests (st .node .settings .address) (st .node .settings .hwpid) (sceneOf book k)) in c ≡ outputInBuffer o out
-    written =
-        let a = st .node .settings .address in
-        let h = st .node .settings .hwpid in
-        p .result-is ∙ accepted-answer (Addressable a) (addressOk a) (addressable a) book k (sceneRequests a h) out (compile-refusals book k a h out .none .0 accepted)
-
-    -- it is inside the buffer
+    -- the output is inside the buffer
     pub run-inside : c .length ≤ length (c .buffer)
-    run-inside =
-        let o = output (sceneRequests (st .node .settings .address) (st .node .settings .hwpid) (sceneOf book k)) in
-        rw written (omega (arith, length-append o (drop (length o) out)))
+    run-inside = output-inside book k (st .node .settings .address) (st .node .settings .hwpid) out c (p .result-is) z
 
     -- and holds all requests
     pub run-complete : CompleteOutput (outputOf c)
-    run-complete =
-        let rs = sceneRequests (st .node .settings .address) (st .node .settings .hwpid) (sceneOf book k) in
-        rw (written, take-append-seam (output rs) (drop (length (output rs)) out)) (output-complete rs)
+    run-complete = output-whole book k (st .node .settings .address) (st .node .settings .hwpid) out c (p .result-is) z
 
     -- the state after the requests is the one that the step machine reaches
     pub run-done : (done : State) → done ≡ afterCalls (λ _. zeroBuffer) (requestsIn (outputOf c)) st

@@ -22,17 +22,18 @@ use Rattle.outcome.proofs.Outcomes.{execute-os, os-batch}
 use Rattle.outcome.proofs.SelectiveBatches.{selected-as-batch}
 use Rattle.book.specs.declared.step.Step.{Step}
 use Rattle.book.specs.Book.{sceneOf}
-use Rattle.book.specs.Step.{noFault, stepFault}
-use Rattle.book.specs.Machine.{stepFormed}
-use Rattle.book.proofs.Faults.{fault-meaning, good-formed}
+use Rattle.step.specs.Step.{noFault, stepFault}
+use Rattle.step.specs.Machine.{stepFormed}
+use Rattle.step.proofs.Faults.{fault-meaning, good-formed}
 use Rattle.scene.specs.Compile.{sceneRequests, selectedRequests}
 use Rattle.scene.specs.Call.{compileTo}
 use Rattle.scene.proofs.Batches.{batch-limits, selected-limits}
 use Rattle.scene.proofs.Outputs.{buffer-back}
-use Rattle.acceptance.specs.SceneTheorem.{Addressable, NoFault, SceneRule, MatchesMachine, StaysUnchanged, ClaimOfScene, AddressedTheorem, SelectedTheorem, NotSelectedTheorem, Condition3}
+use Rattle.scene.specs.Refusals.{Addressable, NoFault, SceneRule}
+use Rattle.acceptance.specs.SceneTheorem.{MatchesMachine, StaysUnchanged, ClaimOfScene, AddressedTheorem, SelectedTheorem, NotSelectedTheorem, Condition3}
 use Rattle.acceptance.proofs.Entries.{group-performs}
 use Rattle.acceptance.proofs.AllRequests.{steps-done, steps-ignored}
-use Rattle.acceptance.proofs.Refusals.{addressable, no-fault-good, rule-faultless, target-refusals, compile-refusals, selected-refusals}
+use Rattle.scene.proofs.Refusals.{addressable, no-fault-good, rule-faultless, target-refusals, compile-refusals, selected-refusals}
 
 -- a node accepts its own profile and the one for all nodes
 own-profile : (s : Settings) (h : ℕ) → (h ≡ s .hwpid) ⊎ (h ≡ anyHwpid) → hwpidMatches s h ≡ true

@@ -18,8 +18,9 @@ use Rattle.node.specs.State.{State}
 use Rattle.batch.specs.Selective.{selectivePcmd}
 use Rattle.outcome.specs.Request.{faultReport, Outcome, unansweredOutcome, execute, CallResult, unansweredResult, handleRequest}
 use Rattle.book.specs.declared.step.Step.{Step}
-use Rattle.book.specs.Join.{entriesOf}
-use Rattle.book.specs.Examples.{settings, freshState, book}
+use Rattle.entries.specs.Join.{entriesOf}
+use Rattle.node.specs.Examples.{settings, freshState}
+use Rattle.book.specs.Examples.{book}
 use Rattle.scene.specs.Compile.{selectedEntryLimit}
 use Rattle.scene.specs.Call.{minOutput, outputInBuffer, compileFor, compileSelected}
 

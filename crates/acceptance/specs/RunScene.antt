@@ -1,8 +1,8 @@
 -- `run_scene`: compiles a scene for the node's own address and profile, then handles its requests in order.
-use Prim.Native.Nat.{ℕ, suc, _+_, _≤_}
-use mathlib.Core.List.{List, [], _∷_}
+use Prim.Native.Nat.{ℕ}
+use mathlib.Core.List.{List}
 use mathlib.Core.Bool.{cond}
-use lib.ListN.{length, getD, take, drop, replicate}
+use lib.ListN.{length, replicate}
 use lib.Dec.{eqb}
 use Rattle.dpa.specs.Frame.{longestResponse}
 use Rattle.memory.specs.declared.block.Memory.the-variants.{Eeprom, External}
@@ -10,23 +10,13 @@ use Rattle.memory.specs.Block.{sizeOf}
 use Rattle.node.specs.Node.{nodeOk}
 use Rattle.node.specs.State.{State, state}
 use Rattle.book.specs.Book.{sceneOf}
-use Rattle.book.specs.Machine.{machine}
+use Rattle.step.specs.Machine.{machine}
 use Rattle.scene.specs.Call.{CompileResult, compileFor}
 use Rattle.acceptance.specs.declared.run.SceneAnswer.{SceneAnswer}
 
 -- the response buffer of each call: a scratch buffer of zeros
 abbrev pub zeroBuffer : List ℕ
 zeroBuffer = replicate longestResponse 0
-
--- the sum of length bytes
-abbrev pub totalLength : List ℕ → ℕ
-totalLength [] = 0
-totalLength (n ∷ ns) = n + totalLength ns
-
--- an output that has all the bytes that its count and its length bytes announce
-pub record CompleteOutput (o : List ℕ) : Type 0 where
-  pub counted : suc (getD o 0 0) ≤ length o
-  pub whole : totalLength (take (getD o 0 0) (drop 1 o)) ≤ length (drop (suc (getD o 0 0)) o)
 
 -- the result: the refusal, the number of a bad step, the state, and the output buffer
 pub record SceneResult : Type 0 where

@@ -14,87 +14,33 @@
 --
 -- Sources: document 01, "Frames", "Scenes" and "Strength of the contracts"; document 02, changes 1 and 3. The statement is about what
 -- the contracts say that the calls compute: `compileFor`, `compileSelected`, `outputOf` and `requestsIn` (scene/specs/Call),
--- `handleRequest` and `execute` (handler/specs/Request); and about the rules of a node set (`selects`, dpa/specs/NodeSet), of the book
--- (`bookOk`, book/specs/Book), of a step (`stepFault`, book/specs/Step), of compiling (`sceneRequests`, `selectedRequests`,
--- scene/specs/Compile) and of the step machine (`stepFormed`, `machine`, book/specs/Machine).
-use Prim.Native.Nat.{ℕ, suc, _≤_, _<_}
+-- `handleRequest` and `execute` (outcome/specs/Request); about the refusals of compiling (`Refusals`, `SceneRule`, scene/specs/Refusals);
+-- and about the rules of a node set (`selects`, dpa/specs/NodeSet), of the book (`bookOk`, book/specs/Book), of a step (`stepFault`,
+-- step/specs/Step), of compiling (`sceneRequests`, `selectedRequests`, scene/specs/Compile) and of the step machine (`stepFormed`,
+-- `machine`, step/specs/Machine).
+use Prim.Native.Nat.{ℕ, suc, _≤_}
 use mathlib.Core.Path.{_≡_}
 use mathlib.Core.Logic.{_⊎_, _↔_}
 use mathlib.Core.Bool.{true, false, cond}
-use mathlib.Core.List.{List, [], _∷_, _++_}
-use lib.ListN.{length, drop}
+use mathlib.Core.List.{List, [], _∷_}
+use lib.ListN.{length}
 use lib.Dec.{eqb}
 use Rattle.dpa.specs.declared.settings.Settings.{Settings}
 use Rattle.dpa.specs.Lists.{overwriteFront, All}
 use Rattle.dpa.specs.Frame.{responseHeaderSize, longestResponse, broadcastNadr, anyHwpid, responseHeader}
 use Rattle.dpa.specs.NodeSet.{nodeSetSize, selects, Selectable}
 use Rattle.dpa.specs.Pnum.{osPnum}
-use Rattle.dpa.specs.Settings.{lastAddress}
 use Rattle.node.specs.State.{State, SoundState}
 use Rattle.batch.specs.Batch.{batchPcmd}
 use Rattle.batch.specs.Selective.{selectivePcmd}
 use Rattle.outcome.specs.Request.{frameRequest, noReport, execute, handleRequest}
 use Rattle.book.specs.declared.step.Step.{Step}
-use Rattle.book.specs.Book.{sceneCount, bookOk, sceneOf}
-use Rattle.book.specs.Step.{noFault, stepFault, FaultMeaning}
-use Rattle.book.specs.Machine.{stepFormed, machine}
+use Rattle.book.specs.Book.{sceneOf}
+use Rattle.step.specs.Step.{FaultMeaning}
+use Rattle.step.specs.Machine.{stepFormed, machine}
 use Rattle.scene.specs.Compile.{sceneRequests, selectedRequests}
-use Rattle.scene.specs.Call.{CompileResult, minOutput, requestsIn, outputOf, compileFor, compileSelected}
-
--- ---- refusals
-
--- An address that a scene can be compiled for: a node's, 1 to 239, or the broadcast address, 255.
-abbrev pub Addressable : ℕ → Type 0
-Addressable a = ((1 ≤ a) × (a ≤ lastAddress)) ⊎ (a ≡ broadcastNadr)
-
--- A step without a fault.
-abbrev pub NoFault : Step → Type 0
-NoFault s = stepFault s ≡ noFault
-
--- A scene without a fault: the book is well-formed and has the scene, and no step of the scene is bad.
-pub record SceneRule (book : List ℕ) (scene : ℕ) : Type 0 where
-  pub well-formed : bookOk book ≡ true
-  pub known : scene < sceneCount book
-  pub no-fault : All NoFault (sceneOf book scene)
-
--- A refusal for a bad step: 81 for its kind, 82 for its target, 83 for its value, 84 for its time. Part `faults` says when each is given.
-abbrev pub StepRefusal : ℕ → Type 0
-StepRefusal n = (81 ≤ n) × (n ≤ 84)
-
--- Step k, counted from 0, is the first bad step, and n is its fault.
-pub record FirstBad (steps : List Step) (n k : ℕ) : Type 0 where
-  pub earlier : List Step
-  pub bad : Step
-  pub later : List Step
-  pub order : steps ≡ earlier ++ (bad ∷ later)
-  pub number : length earlier ≡ k
-  pub no-fault : All NoFault earlier
-  pub not-good : ¬ NoFault bad
-  pub fault : stepFault bad ≡ n
-
--- The result r of a compile call, where `Target` says that the address (`Addressable`) or the set of nodes (`Selectable`,
--- dpa/specs/NodeSet) is one to compile for. Each refusal number is given exactly for its fault, if no fault earlier in this list
--- applies; 0 is given exactly if there is no fault.
-pub record Refusals (Target : Type 0) (book : List ℕ) (scene : ℕ) (out : List ℕ) (r : CompileResult) : Type 0 where
-  -- 1: the address or the set of nodes
-  pub target : (r .refusal ≡ 1) ↔ (¬ Target)
-  -- 6: the bytes are no scene book
-  pub ill-formed : (r .refusal ≡ 6) ↔ (Target × (bookOk book ≡ false))
-  -- 7: the book has no scene of that number
-  pub unknown : (r .refusal ≡ 7) ↔ (Target × (bookOk book ≡ true) × (sceneCount book ≤ scene))
-  -- 81 to 84: the fault of the first bad step, with its number
-  pub bad-step : (n k : ℕ) → (StepRefusal n × (r .refusal ≡ n) × (r .step ≡ k))
-      ↔ (Target × (bookOk book ≡ true) × (scene < sceneCount book) × FirstBad (sceneOf book scene) n k)
-  -- 9: the output buffer is too small
-  pub no-room : (r .refusal ≡ 9) ↔ (Target × SceneRule book scene × (length out < minOutput))
-  -- 0: compiled
-  pub none : (r .refusal ≡ 0) ↔ (Target × SceneRule book scene × (minOutput ≤ length out))
-  -- the number of a step is given with refusals 81 to 84 only
-  pub other-step : ¬ StepRefusal (r .refusal) → r .step ≡ 0
-  -- a refused call has no output and leaves the buffer unchanged
-  pub unwritten : ¬ (r .refusal ≡ 0) → (r .length ≡ 0) × (r .buffer ≡ out)
-  -- the bytes of the buffer after the output are unchanged
-  pub later : drop (r .length) (r .buffer) ≡ drop (r .length) out
+use Rattle.scene.specs.Refusals.{Addressable, NoFault, SceneRule, Refusals}
+use Rattle.scene.specs.Call.{CompileResult, requestsIn, outputOf, compileFor, compileSelected}
 
 -- ---- the requests of a scene, handled by a node
 

@@ -11,11 +11,11 @@ use scene::compile::compile;
 ghost use mathlib.Core.Path.{_≡_};
 ghost use Prim.Native.Nat.{_≤_};
 ghost use lib.ListN.{length};
-ghost use Rattle.scene.specs.Call.{splitBy, requestsIn};
+ghost use Rattle.scene.specs.Call.{splitBy, requestsIn, totalLength, CompleteOutput};
 ghost use Rattle.node.specs.State.{state};
 ghost use Rattle.outcome.specs.Request.{handleRequest};
 ghost use Rattle.acceptance.specs.SceneTheorem.{afterCalls};
-ghost use Rattle.acceptance.specs.RunScene.{zeroBuffer, totalLength, CompleteOutput, runScene, sceneResult};
+ghost use Rattle.acceptance.specs.RunScene.{zeroBuffer, runScene, sceneResult};
 
 // `step` is the number of the bad step with refusals 81 to 84, and 0 otherwise. `node` is the node afterwards.
 #[repr(C)]

@@ -1,13 +1,3 @@
 pub mod Records
 pub mod Positions
-pub mod Groups
-pub mod Faults
-pub mod MachineLaws
-pub mod EntrySize
-pub mod EntryGroups
-pub mod FirstEntry
-pub mod GoodSteps
 pub mod Books
-pub mod Examples
-pub mod EntryWritable
-pub mod Writing

@@ -1,11 +1,4 @@
 pub mod Records
 pub mod Book
-pub mod Step
-pub mod Machine
-pub mod Group
-pub mod Entry
-pub mod Join
 pub mod Positions
-pub mod EntrySize
-pub mod Writing
 pub mod Examples

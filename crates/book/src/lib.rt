@@ -1,8 +1,3 @@
-// Scene books: scene locations, steps and their faults, and the entries of joined steps.
-pub mod entry;
-pub mod join;
-pub mod kind;
+// Scene books: where the scenes are, and the bytes of their steps.
 pub mod locations;
-pub mod power;
 pub mod step;
-pub mod write;

@@ -1,12 +1,12 @@
 // Numbers in the answers and records of the calls.
 use crate::print;
 use batch::fault;
-use book::kind;
 use lights::lamp;
 use lights::power;
 use lights::request;
 use node::frc;
 use queue::rule;
+use step::kind;
 use timing::slot::SLOT_UNIT_MS;
 use timing::slot::WAIT_MAX;
 use uart::receive;

@@ -1,3 +1,4 @@
 pub mod Node
 pub mod Frc
 pub mod State
+pub mod Examples

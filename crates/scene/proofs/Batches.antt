@@ -10,13 +10,13 @@ use Rattle.batch.specs.Batch.{entriesBytes, entryBytes}
 use Rattle.dpa.specs.Lists.{All}
 use Rattle.dpa.specs.NodeSet.{nodeSetSize}
 use Rattle.book.specs.declared.step.Step.{Step}
-use Rattle.book.specs.Join.{entriesOf}
-use Rattle.book.specs.EntrySize.{EntryLimit}
-use Rattle.book.specs.Group.{concat}
-use Rattle.book.proofs.Groups.{all-group, concat-group}
+use Rattle.entries.specs.Join.{entriesOf}
+use Rattle.entries.specs.EntrySize.{EntryLimit}
+use Rattle.entries.specs.Group.{concat}
+use Rattle.entries.proofs.Groups.{all-group, concat-group}
 use Rattle.dpa.proofs.All.{all-snoc}
-use Rattle.book.proofs.Faults.{Good}
-use Rattle.book.proofs.EntryGroups.{EntryGroup, entry-groups}
+use Rattle.step.proofs.Faults.{Good}
+use Rattle.entries.proofs.EntryGroups.{EntryGroup, entry-groups}
 use Rattle.scene.specs.Compile.{Limits, fitsBatch, listOf, batchesOf, entryLimit, listLimit, selectedEntryLimit, selectedListLimit}
 
 -- groups that joining makes, in a list of at most `listMax` bytes

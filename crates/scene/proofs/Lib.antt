@@ -4,3 +4,5 @@ pub mod Outputs
 pub mod Remaining
 pub mod Progress
 pub mod Spans
+pub mod CompleteOutputs
+pub mod Refusals

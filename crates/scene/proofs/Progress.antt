@@ -10,15 +10,15 @@ use Rattle.batch.proofs.RoundTrip.{entry-length}
 use Rattle.dpa.specs.declared.frame.Frame.{Frame}
 use Rattle.book.specs.declared.step.Step.{Step}
 use Rattle.book.specs.Book.{stepsMax, stepsIn}
-use Rattle.book.specs.Group.{concat}
-use Rattle.book.specs.Entry.{joinedEntry}
-use Rattle.book.specs.Join.{entriesOf}
-use Rattle.book.specs.EntrySize.{FirstEntry}
-use Rattle.book.specs.Writing.{AllStepsGood}
+use Rattle.entries.specs.Group.{concat}
+use Rattle.entries.specs.Entry.{joinedEntry}
+use Rattle.entries.specs.Join.{entriesOf}
+use Rattle.entries.specs.EntrySize.{FirstEntry}
+use Rattle.step.specs.Step.{AllStepsGood}
 use Rattle.dpa.proofs.Lists.{sets-append}
-use Rattle.book.proofs.Writing.{two-writes}
+use Rattle.entries.proofs.Writing.{two-writes}
 use Rattle.book.proofs.Positions.{steps-length}
-use Rattle.book.proofs.GoodSteps.{good-steps}
+use Rattle.step.proofs.GoodSteps.{good-steps}
 use Rattle.scene.specs.declared.fill.SizeLimits.{SizeLimits}
 use Rattle.scene.specs.Compile.{Limits, emptyListSize}
 use Rattle.scene.specs.Call.{lengths, output, minOutput}

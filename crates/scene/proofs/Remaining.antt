@@ -12,13 +12,13 @@ use Rattle.dpa.proofs.Bool.{by-test, by-cond}
 use Rattle.batch.specs.Batch.{closingZero, entryBytes, entriesBytes}
 use Rattle.dpa.specs.Lists.{All}
 use Rattle.book.specs.declared.step.Step.{Step}
-use Rattle.book.specs.Group.{concat, grow, group}
-use Rattle.book.specs.Entry.{groupData, joinedEntry}
-use Rattle.book.specs.Join.{entriesOf}
-use Rattle.book.specs.EntrySize.{FirstEntry}
-use Rattle.book.proofs.Faults.{Good}
-use Rattle.book.proofs.Groups.{grow-fits, grow-not-fits}
-use Rattle.book.proofs.EntryGroups.{EntryGroup, entry-groups, joining-keeps}
+use Rattle.entries.specs.Group.{concat, grow, group}
+use Rattle.entries.specs.Entry.{groupData, joinedEntry}
+use Rattle.entries.specs.Join.{entriesOf}
+use Rattle.entries.specs.EntrySize.{FirstEntry}
+use Rattle.step.proofs.Faults.{Good}
+use Rattle.entries.proofs.Groups.{grow-fits, grow-not-fits}
+use Rattle.entries.proofs.EntryGroups.{EntryGroup, entry-groups, joining-keeps}
 use Rattle.scene.specs.Compile.{Limits, joinedEntries, listOf, entrySize, emptyListSize, fitsBatch, batchesOf}
 use Rattle.scene.specs.Call.{lengths}
 use Rattle.scene.specs.Fill.{fitsList, nextSize, separatorBytes, lengthByteIfFull}

@@ -10,8 +10,8 @@ use Rattle.batch.specs.Batch.{closingZero, entryBytes, entriesBytes}
 use Rattle.dpa.specs.Lists.{All}
 use Rattle.batch.proofs.RoundTrip.{entry-length}
 use Rattle.book.specs.declared.step.Step.{Step}
-use Rattle.book.specs.Entry.{groupData, joinedEntry}
-use Rattle.book.proofs.Faults.{Good}
+use Rattle.entries.specs.Entry.{groupData, joinedEntry}
+use Rattle.step.proofs.Faults.{Good}
 use Rattle.scene.specs.Compile.{Limits, joinedEntries, listOf, entrySize, emptyListSize, batchesOf, requestWith}
 use Rattle.scene.proofs.Batches.{BatchRule, batches-rule}
 

@@ -11,13 +11,13 @@ use lib.Seq.{sets, sets-eq, drop-drop, getD-drop, length-take-le}
 use Rattle.dpa.proofs.Bool.{by-cond}
 use Rattle.dpa.specs.Lists.{All}
 use Rattle.book.specs.declared.step.Step.{Step}
-use Rattle.book.specs.Group.{concat, grow, group}
-use Rattle.book.specs.Entry.{groupData}
-use Rattle.book.specs.Join.{joins, entriesOf}
-use Rattle.book.specs.EntrySize.{oneStepMax, FirstEntry}
-use Rattle.book.proofs.Faults.{Good}
-use Rattle.book.proofs.Groups.{length-group}
-use Rattle.book.proofs.EntryGroups.{EntryGroup, entry-groups, joining-keeps}
+use Rattle.entries.specs.Group.{concat, grow, group}
+use Rattle.entries.specs.Entry.{groupData}
+use Rattle.entries.specs.Join.{joins, entriesOf}
+use Rattle.entries.specs.EntrySize.{oneStepMax, FirstEntry}
+use Rattle.step.proofs.Faults.{Good}
+use Rattle.entries.proofs.Groups.{length-group}
+use Rattle.entries.proofs.EntryGroups.{EntryGroup, entry-groups, joining-keeps}
 use Rattle.scene.specs.Fill.{spanLength, spanBytes, StartsWithSpans}
 use Rattle.scene.proofs.Remaining.{entries-next}
 use Rattle.scene.proofs.Progress.{Remaining, remaining-more}

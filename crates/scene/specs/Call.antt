@@ -1,18 +1,18 @@
 -- Document 01, "Scenes" and "Frames", with document 02, changes 1 and 3: the compile calls, their refusals and their output.
 use mathlib.Core.Bool.{Bool, cond, not}
 use mathlib.Core.List.{List, [], _∷_, _++_}
-use Prim.Native.Nat.{ℕ, suc}
+use Prim.Native.Nat.{ℕ, suc, _+_, _≤_}
 use lib.Dec.{ltb, leb}
 use lib.ListN.{length, getD, take, drop}
 use Rattle.dpa.specs.Lists.{overwriteFront}
 use Rattle.dpa.specs.NodeSet.{nodeSetOk}
 use Rattle.dpa.specs.Settings.{addressOk}
 use Rattle.book.specs.declared.step.Step.{Step}
-use Rattle.book.specs.declared.step.StepsCheck.{StepsCheck}
-use Rattle.book.specs.declared.step.StepsCheck.the-variants.{AllGood, Bad}
+use Rattle.step.specs.declared.fault.StepsCheck.{StepsCheck}
+use Rattle.step.specs.declared.fault.StepsCheck.the-variants.{AllGood, Bad}
 use Rattle.book.specs.Book.{sceneCount, bookOk, sceneOf}
-use Rattle.book.specs.Step.{firstBadFrom}
-use Rattle.book.specs.Group.{concat}
+use Rattle.step.specs.Step.{firstBadFrom}
+use Rattle.entries.specs.Group.{concat}
 use Rattle.scene.specs.declared.compile.CompileAnswer.{CompileAnswer}
 use Rattle.scene.specs.Compile.{sceneRequests, selectedRequests}
 
@@ -35,6 +35,16 @@ splitBy (n ∷ ns) bs = take n bs ∷ splitBy ns (drop n bs)
 -- the requests that an output holds; `requests-back` in proofs/Outputs: they are those that it was made of
 unfoldable pub requestsIn : List ℕ → List (List ℕ)
 requestsIn o = splitBy (take (getD o 0 0) (drop 1 o)) (drop (suc (getD o 0 0)) o)
+
+-- the sum of length bytes
+abbrev pub totalLength : List ℕ → ℕ
+totalLength [] = 0
+totalLength (n ∷ ns) = n + totalLength ns
+
+-- an output that has all the bytes that its count and its length bytes announce
+pub record CompleteOutput (o : List ℕ) : Type 0 where
+  pub counted : suc (getD o 0 0) ≤ length o
+  pub whole : totalLength (take (getD o 0 0) (drop 1 o)) ≤ length (drop (suc (getD o 0 0)) o)
 
 -- minimum size of the output buffer; `output-fits` in proofs/Outputs: every output fits
 abbrev pub minOutput : ℕ

@@ -10,10 +10,10 @@ use Rattle.dpa.specs.Pnum.{osPnum}
 use Rattle.batch.specs.Batch.{Request, entryHeadSize, listBytes, batchPcmd}
 use Rattle.batch.specs.Selective.{selectivePcmd}
 use Rattle.book.specs.declared.step.Step.{Step}
-use Rattle.book.specs.Entry.{joinedEntry}
-use Rattle.book.specs.Group.{group}
-use Rattle.book.specs.Join.{entriesOf}
-use Rattle.book.specs.EntrySize.{oneStepMax}
+use Rattle.entries.specs.Entry.{joinedEntry}
+use Rattle.entries.specs.Group.{group}
+use Rattle.entries.specs.Join.{entriesOf}
+use Rattle.entries.specs.EntrySize.{oneStepMax}
 
 -- ---- entries filled into lists, for any two limits
 

@@ -9,8 +9,8 @@ use Rattle.dpa.specs.declared.frame.Frame.{Frame}
 use Rattle.batch.specs.Batch.{closingZero}
 use Rattle.book.specs.declared.step.Step.{Step}
 use Rattle.book.specs.Book.{stepsMax}
-use Rattle.book.specs.Entry.{groupData}
-use Rattle.book.specs.Join.{entriesOf}
+use Rattle.entries.specs.Entry.{groupData}
+use Rattle.entries.specs.Join.{entriesOf}
 use Rattle.scene.specs.declared.fill.SizeLimits.{SizeLimits}
 use Rattle.scene.specs.Compile.{requestWith, batchesOf, entrySize, emptyListSize}
 

@@ -1,3 +1,4 @@
 pub mod Compile
 pub mod Call
 pub mod Fill
+pub mod Refusals

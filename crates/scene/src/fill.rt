@@ -1,8 +1,8 @@
 // Fills entries into lists: the first pass, which writes the length bytes of the requests.
 use batch::entry::HEAD_SIZE;
-use book::join::entry_from;
 use book::step::STEPS_MAX;
 use dpa::frame::Frame;
+use entries::join::entry_from;
 ghost use mathlib.Core.Path.{_≡_};
 ghost use Prim.Native.Nat.{_+_, _*_, _≤_};
 ghost use lib.ListN.{length};
@@ -10,7 +10,7 @@ ghost use lib.Seq.{sets};
 ghost use Rattle.dpa.specs.declared.frame.Frame.{Frame};
 ghost use Rattle.dpa.specs.Frame.{pdataMax, longestFrame};
 ghost use Rattle.book.specs.Book.{stepsMax, stepLength, stepsIn};
-ghost use Rattle.book.specs.Writing.{AllStepsGood};
+ghost use Rattle.step.specs.Step.{AllStepsGood};
 ghost use Rattle.scene.specs.Compile.{Limits};
 ghost use Rattle.scene.specs.Call.{lengths};
 ghost use Rattle.scene.specs.Fill.{requestsWith, nextSize, lengthByteIfFull, maxSpanBytes, StartsWithSpans};

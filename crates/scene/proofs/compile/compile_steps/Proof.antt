@@ -4,11 +4,11 @@ use native.Mathlib.Omega.{arith}
 use lib.ListN.{length}
 use borrow.Author.Needs.{needs}
 use borrow.Author.Tests.{lt-ltb, le-ltb}
-use Rattle.book.specs.declared.step.StepsCheck.the-variants.{AllGood}
+use Rattle.step.specs.declared.fault.StepsCheck.the-variants.{AllGood}
 use Rattle.book.specs.Book.{stepsIn}
-use Rattle.book.specs.Step.{firstBadFrom}
-use Rattle.book.specs.Writing.{AllStepsGood}
-use Rattle.book.proofs.GoodSteps.{good-index}
+use Rattle.step.specs.Step.{firstBadFrom}
+use Rattle.step.specs.Step.{AllStepsGood}
+use Rattle.step.proofs.GoodSteps.{good-index}
 use Rattle.scene.specs.declared.compile.CompileAnswer.{CompileAnswer}
 use Rattle.scene.specs.Call.{output, minOutput, compileResult}
 use Rattle.scene.specs.Fill.{requestsWith}

@@ -8,9 +8,9 @@ use Rattle.dpa.specs.declared.frame.Frame.{Frame}
 use Rattle.dpa.specs.Frame.{frame, headerBytes, headerSize, pdataMax}
 use Rattle.book.specs.declared.step.Step.{Step}
 use Rattle.book.specs.Book.{stepsIn}
-use Rattle.book.specs.Join.{entriesOf}
+use Rattle.entries.specs.Join.{entriesOf}
 use Rattle.book.proofs.Positions.{steps-length}
-use Rattle.book.proofs.GoodSteps.{good-steps}
+use Rattle.step.proofs.GoodSteps.{good-steps}
 use Rattle.scene.specs.Compile.{emptyListSize}
 use Rattle.scene.specs.Call.{lengths}
 use Rattle.scene.specs.Fill.{requestsWith, spanLength, maxSpanBytes}

@@ -7,7 +7,7 @@ use lib.ListN.{length, length-set}
 use borrow.Author.Needs.{needs}
 use Rattle.dpa.specs.Frame.{headerBytes}
 use Rattle.batch.specs.Batch.{closingZero}
-use Rattle.book.proofs.Writing.{two-writes}
+use Rattle.entries.proofs.Writing.{two-writes}
 use Rattle.scene.proofs.Remaining.{list-open, list-full}
 use Rattle.scene.proofs.request.next_list.Statement.{statement}
 use Rattle.scene.proofs.request.next_list.Tie as tie

@@ -7,7 +7,7 @@ use lib.ListN.{length, length-set}
 use borrow.Author.Needs.{needs}
 use Rattle.dpa.specs.declared.frame.Frame.{Frame}
 use Rattle.book.specs.Book.{stepsIn}
-use Rattle.book.specs.Group.{concat}
+use Rattle.entries.specs.Group.{concat}
 use Rattle.book.proofs.Positions.{steps-length}
 use Rattle.scene.specs.Fill.{requestsWith}
 use Rattle.scene.proofs.Outputs.{output-length, request-count}

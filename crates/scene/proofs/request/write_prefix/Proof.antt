@@ -6,7 +6,7 @@ use lib.ListN.{length}
 use lib.Seq.{sets}
 use borrow.Author.Needs.{needs}
 use Rattle.dpa.specs.Frame.{headerBytes}
-use Rattle.book.proofs.Writing.{two-writes}
+use Rattle.entries.proofs.Writing.{two-writes}
 use Rattle.scene.proofs.request.write_prefix.Statement.{statement}
 use Rattle.scene.proofs.request.write_prefix.Tie as tie
 

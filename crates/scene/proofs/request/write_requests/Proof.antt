@@ -10,17 +10,17 @@ use Rattle.dpa.specs.Frame.{headerBytes, pdataMax}
 use Rattle.batch.specs.Batch.{closingZero, entryBytes}
 use Rattle.book.specs.declared.step.Step.{Step}
 use Rattle.book.specs.Book.{stepsIn}
-use Rattle.book.specs.Group.{concat}
-use Rattle.book.specs.Entry.{groupData, joinedEntry}
-use Rattle.book.specs.Join.{entriesOf}
-use Rattle.book.specs.EntrySize.{FirstEntry}
+use Rattle.entries.specs.Group.{concat}
+use Rattle.entries.specs.Entry.{groupData, joinedEntry}
+use Rattle.entries.specs.Join.{entriesOf}
+use Rattle.entries.specs.EntrySize.{FirstEntry}
 use Rattle.book.proofs.Positions.{steps-length, steps-slice}
-use Rattle.book.proofs.Writing.{two-writes}
-use Rattle.book.proofs.Faults.{Good}
+use Rattle.entries.proofs.Writing.{two-writes}
+use Rattle.step.proofs.Faults.{Good}
 use Rattle.dpa.specs.Lists.{All}
 use Rattle.dpa.proofs.All.{all-drop}
-use Rattle.book.proofs.GoodSteps.{good-steps}
-use Rattle.book.proofs.EntryWritable.{entry-writable}
+use Rattle.step.proofs.GoodSteps.{good-steps}
+use Rattle.entries.proofs.EntryWritable.{entry-writable}
 use Rattle.scene.specs.Compile.{emptyListSize}
 use Rattle.scene.specs.Fill.{requestsWith, StartsWithSpans}
 use Rattle.scene.proofs.Batches.{entry-limit}

@@ -2,7 +2,8 @@
 use borrow.Author.Needs.{needs}
 use mathlib.Core.Path.{sym}
 use lib.Seq.{length-take-le}
-use Rattle.scenedump.proofs.Outputs.{compiled-inside, compiled-printable}
+use Rattle.scene.proofs.Refusals.{output-inside}
+use Rattle.scenedump.proofs.Outputs.{compiled-printable}
 use Rattle.scenedump.proofs.requests.print_scene.Statement.{statement}
 use Rattle.scenedump.proofs.requests.print_scene.Tie as tie
 
@@ -11,7 +12,7 @@ abbrev compile-call : tie.Else2 → tie.After-compile
 compile-call c = c .before .before .before .before .before .before
 
 array-share-prefix-out : tie.Need-array-share-prefix-out
-array-share-prefix-out c = compiled-inside _ _ _ _ _ _ (compile-call c .compile .ensures) (c .if2 .left)
+array-share-prefix-out c = output-inside _ _ _ _ _ _ (compile-call c .compile .ensures) (c .if2 .left)
 
 slice-aggregate-print-output : tie.Need-slice-aggregate-print-output
 slice-aggregate-print-output c = sym (length-take-le _ _ (array-share-prefix-out (c .before)))

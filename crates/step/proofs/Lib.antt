@@ -1,0 +1,4 @@
+pub mod Faults
+pub mod MachineLaws
+pub mod GoodSteps
+pub mod Examples
