@@ -28,5 +28,5 @@ pub record Remaining (m : ℕ) (xs : List ℕ) : Type 0 where
   pub entries-valid : areValid (remainingEntries m xs) ≡ true
 
 -- the lamps after a power entry for lamp i; for an unimplemented lamp it has no effect
-unfoldable pub lampChanged : Command → ℕ → ℕ → ℕ → ℕ → List Lamp → List Lamp
+unfoldable pub lampChanged : Command → (n i power seconds : ℕ) → List Lamp → List Lamp
 lampChanged c n i power seconds ls = cond (ltb i n) (set ls i (lampAfter c (getD ls i off) power seconds)) ls
