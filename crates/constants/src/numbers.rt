@@ -1,8 +1,8 @@
 // Refusals, ErrN, PNUM, PCMD and addresses.
-use crate::print;
-use batch::list;
-use batch::selective;
-use checksum::check;
+use crate::print_all;
+use batch::list::BATCH;
+use batch::selective::SELECTIVE_BATCH;
+use checksum::check::CODE_CHECK;
 use dpa::error;
 use dpa::frame::Frame;
 use dpa::frame::RESPONSE_BIT;
@@ -14,82 +14,99 @@ use memory::block::Memory;
 use memory::block::read_command;
 use memory::block::write_command;
 
-pub fn refusals() {
-    print(b"OK", refusal::NONE as u64);
-    print(b"REFUSED_NODE", refusal::NODE as u64);
-    print(b"REFUSED_FRAME", refusal::FRAME as u64);
-    print(b"REFUSED_RESPONSE", refusal::RESPONSE as u64);
-    print(b"REFUSED_MEMORY", refusal::MEMORY as u64);
-    print(b"REFUSED_PDATA", refusal::PDATA as u64);
-    print(b"REFUSED_VIEW", refusal::VIEW as u64);
-    print(b"REFUSED_BLOCK", refusal::BLOCK as u64);
-    print(b"REFUSED_RANGE", refusal::RANGE as u64);
-}
+const REFUSALS: [u64; 20] = [
+    refusal::NONE as u64,
+    refusal::NODE as u64,
+    refusal::FRAME as u64,
+    refusal::RESPONSE as u64,
+    refusal::MEMORY as u64,
+    refusal::PDATA as u64,
+    refusal::VIEW as u64,
+    refusal::BLOCK as u64,
+    refusal::RANGE as u64,
+    refusal::BOOK as u64,
+    refusal::SCENE as u64,
+    refusal::STEP_KIND as u64,
+    refusal::STEP_TARGET as u64,
+    refusal::STEP_VALUE as u64,
+    refusal::STEP_TIME as u64,
+    refusal::OUTPUT as u64,
+    refusal::FRAMED as u64,
+    refusal::ADDRESS as u64,
+    refusal::FULL as u64,
+    refusal::TIME as u64,
+];
 
-pub fn scene_refusals() {
-    print(b"REFUSED_BOOK", refusal::BOOK as u64);
-    print(b"REFUSED_SCENE", refusal::SCENE as u64);
-    print(b"REFUSED_STEP_KIND", refusal::STEP_KIND as u64);
-    print(b"REFUSED_STEP_TARGET", refusal::STEP_TARGET as u64);
-    print(b"REFUSED_STEP_VALUE", refusal::STEP_VALUE as u64);
-    print(b"REFUSED_STEP_TIME", refusal::STEP_TIME as u64);
-    print(b"REFUSED_OUTPUT", refusal::OUTPUT as u64);
-}
+const ERRORS: [u64; 8] = [
+    error::NONE as u64,
+    error::FAIL as u64,
+    error::PCMD as u64,
+    error::PNUM as u64,
+    error::ADDR as u64,
+    error::DATA_LEN as u64,
+    error::DATA as u64,
+    error::HWPID as u64,
+];
 
-pub fn gateway_refusals() {
-    print(b"REFUSED_FRAMED", refusal::FRAMED as u64);
-    print(b"REFUSED_ADDRESS", refusal::ADDRESS as u64);
-    print(b"REFUSED_FULL", refusal::FULL as u64);
-    print(b"REFUSED_TIME", refusal::TIME as u64);
-}
+const PERIPHERALS: [u64; 5] = [
+    pnum::OS as u64,
+    pnum::EEPROM as u64,
+    pnum::EXTERNAL as u64,
+    pnum::RAM as u64,
+    pnum::LIGHTS as u64,
+];
 
-pub fn errors() {
-    print(b"ERRN_NONE", error::NONE as u64);
-    print(b"ERRN_FAIL", error::FAIL as u64);
-    print(b"ERRN_PCMD", error::PCMD as u64);
-    print(b"ERRN_PNUM", error::PNUM as u64);
-    print(b"ERRN_ADDR", error::ADDR as u64);
-    print(b"ERRN_DATA_LEN", error::DATA_LEN as u64);
-    print(b"ERRN_DATA", error::DATA as u64);
-    print(b"ERRN_HWPID", error::HWPID as u64);
-}
+const COMMANDS: [u64; 8] = [
+    BATCH as u64,
+    CODE_CHECK as u64,
+    SELECTIVE_BATCH as u64,
+    request::SET as u64,
+    request::RAISE as u64,
+    request::LOWER as u64,
+    request::ENUMERATE as u64,
+    RESPONSE_BIT as u64,
+];
 
-pub fn peripherals() {
-    print(b"PNUM_OS", pnum::OS as u64);
-    print(b"PNUM_EEPROM", pnum::EEPROM as u64);
-    print(b"PNUM_EXTERNAL", pnum::EXTERNAL as u64);
-    print(b"PNUM_RAM", pnum::RAM as u64);
-    print(b"PNUM_LIGHTS", pnum::LIGHTS as u64);
-}
+const ADDRESSES: [u64; 3] = [
+    Frame::BROADCAST as u64,
+    LAST_ADDRESS as u64,
+    Frame::ANY_HWPID as u64,
+];
 
-pub fn memory_commands() {
-    print(b"PCMD_EEPROM_READ", read_command(Memory::Eeprom) as u64);
-    print(b"PCMD_EEPROM_WRITE", write_command(Memory::Eeprom) as u64);
-    print(b"PCMD_EXTERNAL_READ", read_command(Memory::External) as u64);
-    print(
-        b"PCMD_EXTERNAL_WRITE",
+fn print_memory_commands() {
+    let commands = [
+        read_command(Memory::Eeprom) as u64,
+        write_command(Memory::Eeprom) as u64,
+        read_command(Memory::External) as u64,
         write_command(Memory::External) as u64,
+        read_command(Memory::Ram) as u64,
+        write_command(Memory::Ram) as u64,
+    ];
+    print_all(
+        b"PCMD_EEPROM_READ PCMD_EEPROM_WRITE PCMD_EXTERNAL_READ PCMD_EXTERNAL_WRITE PCMD_RAM_READ PCMD_RAM_WRITE",
+        &commands,
     );
-    print(b"PCMD_RAM_READ", read_command(Memory::Ram) as u64);
-    print(b"PCMD_RAM_WRITE", write_command(Memory::Ram) as u64);
 }
 
-pub fn commands() {
-    print(b"PCMD_OS_BATCH", list::BATCH as u64);
-    print(b"PCMD_OS_CODE_CHECK", check::CODE_CHECK as u64);
-    print(
-        b"PCMD_OS_SELECTIVE_BATCH",
-        selective::SELECTIVE_BATCH as u64,
+pub fn print_numbers() {
+    print_all(
+        b"OK REFUSED_NODE REFUSED_FRAME REFUSED_RESPONSE REFUSED_MEMORY REFUSED_PDATA REFUSED_VIEW REFUSED_BLOCK REFUSED_RANGE
+REFUSED_BOOK REFUSED_SCENE REFUSED_STEP_KIND REFUSED_STEP_TARGET REFUSED_STEP_VALUE REFUSED_STEP_TIME REFUSED_OUTPUT
+REFUSED_FRAMED REFUSED_ADDRESS REFUSED_FULL REFUSED_TIME",
+        &REFUSALS,
     );
-    print(b"PCMD_LIGHTS_SET", request::SET as u64);
-    print(b"PCMD_LIGHTS_RAISE", request::RAISE as u64);
-    print(b"PCMD_LIGHTS_LOWER", request::LOWER as u64);
-    print(b"PCMD_LIGHTS_ENUMERATE", request::ENUMERATE as u64);
-    print(b"PCMD_RESPONSE", RESPONSE_BIT as u64);
-}
-
-pub fn addresses() {
-    print(b"NADR_BROADCAST", Frame::BROADCAST as u64);
-    print(b"ADDRESS_MAX", LAST_ADDRESS as u64);
-    print(b"HWPID_ANY", Frame::ANY_HWPID as u64);
+    print_all(
+        b"ERRN_NONE ERRN_FAIL ERRN_PCMD ERRN_PNUM ERRN_ADDR ERRN_DATA_LEN ERRN_DATA ERRN_HWPID",
+        &ERRORS,
+    );
+    print_all(
+        b"PNUM_OS PNUM_EEPROM PNUM_EXTERNAL PNUM_RAM PNUM_LIGHTS",
+        &PERIPHERALS,
+    );
+    print_memory_commands();
+    print_all(
+        b"PCMD_OS_BATCH PCMD_OS_CODE_CHECK PCMD_OS_SELECTIVE_BATCH PCMD_LIGHTS_SET PCMD_LIGHTS_RAISE PCMD_LIGHTS_LOWER PCMD_LIGHTS_ENUMERATE PCMD_RESPONSE",
+        &COMMANDS,
+    );
+    print_all(b"NADR_BROADCAST ADDRESS_MAX HWPID_ANY", &ADDRESSES);
 }

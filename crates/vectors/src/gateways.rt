@@ -1,77 +1,120 @@
-// Histories of a gateway: other hops for a request than for its response, a request to all nodes, and the order of the refusals.
-use crate::print_hex;
-use crate::print_number;
-use crate::print_text;
+// A gateway of a STD network with DPA value 7, its bonds and its requests.
+use crate::print::print_bytes;
+use crate::print::print_number;
+use crate::print::print_text;
+use crate::rows::MOST;
+use crate::rows::find;
+use crate::rows::read_bytes;
 use dpa::frame::Frame;
+use dpa::number::wide_word;
+use dpa::number::word_of;
 use gateway::bonding::bond;
 use gateway::bonding::gateway_start;
 use gateway::record::Gateway;
 use gateway::sending::release;
 use gateway::sending::send;
+ghost use Prim.Native.Nat.{_≤_};
+ghost use lib.ListN.{length};
 
-// Releases at this time; prints the confirmation and the next time.
-fn release_at(gateway: Gateway, time: u64) -> Gateway {
+// Adds a bond and prints how many there are.
+fn print_bonds(gateway: Gateway, text: &[u8], address: u8) -> Gateway {
+    let bonded = bond(gateway, address as u16);
+    print_number(text, bonded.count as u64);
+    print_text(b"\n");
+    bonded.gateway
+}
+
+// Releases at this time; prints the frame and its confirmation, or nothing.
+fn print_release(gateway: Gateway, text: &[u8], time: u64) -> Gateway {
     let mut out = [0u8; Frame::RESPONSE_LONGEST];
-    let answer = release(gateway, time, &mut out);
-    let after = answer.gateway;
-    print_text(b"released at");
-    print_number(time);
-    print_text(b", next");
-    print_number(after.queue.next);
-    print_text(b":");
-    print_hex(&out, answer.length);
-    after
+    let released = release(gateway, time, &mut out);
+    let frame = released.frame;
+    print_text(text);
+    print_bytes(b":", &frame, released.frame_length);
+    print_bytes(b"confirmation", &out, released.length);
+    released.gateway
 }
 
-// Two requests over 2 hops, with response hops 3 and a delay of 20 ms: to node 5 and to all nodes.
-fn mixed_hops() {
-    let bonded = bond(gateway_start(false, 7), 5);
-    let to_five = b"\x05\x00\x71\x00\xFF\xFF\x01\x00\x00\x00\x64";
-    let one = send(bonded.gateway, to_five, 2, 3, 20, 900);
-    let to_all =
-        b"\xFF\x00\x05\x01\xFF\xFF\x00\x00\x00\x00\x00\x00\x00\x00\x00\x00\x00\x00\x00\x00\x00\x00\x00";
-    let two = send(one.gateway, to_all, 2, 3, 20, 950);
-    let first = release_at(two.gateway, 1000);
-    let early = release_at(first, 1379);
-    release_at(early, 1380);
+// Sends the request of a row: hops, response hops, two bytes of delay, two of time, and the frame. With a name its refusal is printed.
+fn print_send(gateway: Gateway, text: &[u8], row: &[u8]) -> Gateway
+    requires { ⌜ 6 ≤ length (now row) ⌝ }
+{
+    let delay = word_of(row[2], row[3]);
+    let time = wide_word(word_of(row[4], row[5])) as u64;
+    let sent = send(gateway, &row[6..], row[0], row[1], delay, time);
+    if text.len() != 0 {
+        print_number(text, sent.refusal as u64);
+        print_text(b"\n");
+    }
+    sent.gateway
 }
 
-// Sends a request without PData; prints the refusal.
-fn send_at(gateway: Gateway, frame: &[u8], time: u64) -> Gateway {
-    let answer = send(gateway, frame, 0, 0, 0, time);
-    print_number(answer.refusal as u64);
-    answer.gateway
+// Runs a row and returns the gateway. One byte is a bond, two are the time of a release, any other number is a request.
+fn run_row(gateway: Gateway, row: &[u8]) -> Gateway {
+    let colon = find(row, 0, b':');
+    let text = &row[..colon];
+    let mut bytes = [0u8; MOST];
+    let n = read_bytes(&row[colon..], &mut bytes);
+    if n < 2 {
+        return print_bonds(gateway, text, bytes[0]);
+    }
+    if n < 6 {
+        let time = wide_word(word_of(bytes[0], bytes[1]));
+        return print_release(gateway, text, time as u64);
+    }
+    print_send(gateway, text, &bytes[..n])
 }
 
-// Two requests to node 1.
-fn send_two(gateway: Gateway) -> Gateway {
-    let one = send_at(gateway, b"\x01\x00\x07\x01\xFF\xFF", 1000);
-    send_at(one, b"\x01\x00\x07\x01\xFF\xFF", 1000)
+fn run_rows(rows: &[u8]) {
+    let mut gateway = gateway_start(false, 7);
+    let mut start: usize = 0;
+    while start < rows.len() {
+        let end = find(rows, start, b'\n');
+        gateway = run_row(gateway, &rows[start..end]);
+        start = end + 1;
+    }
 }
 
-// Eight of them in an STD+LP network; no other node is bonded.
-fn send_eight() -> Gateway {
-    let bonded = bond(gateway_start(true, 0), 1);
-    let two = send_two(bonded.gateway);
-    let four = send_two(two);
-    let six = send_two(four);
-    send_two(six)
-}
-
-// The order of the refusals: 12 before 13 before 14, at a time before the last one.
-fn refusals() {
-    print_text(b"sends at 1000, then 999:");
-    let eight = send_eight();
-    let unbonded = send_at(eight, b"\x02\x00\x07\x01\xFF\xFF", 999);
-    let full = send_at(unbonded, b"\x01\x00\x07\x01\xFF\xFF", 999);
-    print_text(b"\n");
-    let freed = release_at(full, 1000);
-    print_text(b"a send at 999:");
-    send_at(freed, b"\x01\x00\x07\x01\xFF\xFF", 999);
-    print_text(b"\n");
-}
-
-pub fn histories() {
-    mixed_hops();
-    refusals();
+pub fn print_gateways() {
+    // The request of the confirmation, twice, with 6 hops each way and a delay of 20 ms, at 1000 ms: the second is released 720 ms after
+    // the first.
+    run_rows(
+        b"bonds: 0A
+: 06 06 14 00 E8 03 0A 00 07 01 FF FF
+: 06 06 14 00 E8 03 0A 00 07 01 FF FF
+release at 1000: E8 03
+release at 1719: B7 06
+release at 1720: B8 06
+",
+    );
+    // 2 hops and response hops 3, to a node and to all nodes: the wait after the second one has no response.
+    run_rows(
+        b"bonds: 05
+: 02 03 14 00 84 03 05 00 71 00 FF FF 01 00 00 00 64
+: 02 03 14 00 B6 03 FF 00 05 01 FF FF 00 00 00 00 00 00 00 00 00 00 00 00 00 00 00 00 00
+: 02 03 14 00 B6 03 05 00 07 01 FF FF
+release at 1000: E8 03
+release at 1379: 63 05
+release at 1380: 64 05
+release at 1549: 0D 06
+release at 1550: 0E 06
+",
+    );
+    // Refusal 12 comes before 13, and 13 before 14.
+    run_rows(
+        b"bonds: 01
+: 00 00 00 00 E8 03 01 00 07 01 FF FF
+: 00 00 00 00 E8 03 01 00 07 01 FF FF
+: 00 00 00 00 E8 03 01 00 07 01 FF FF
+: 00 00 00 00 E8 03 01 00 07 01 FF FF
+: 00 00 00 00 E8 03 01 00 07 01 FF FF
+: 00 00 00 00 E8 03 01 00 07 01 FF FF
+: 00 00 00 00 E8 03 01 00 07 01 FF FF
+: 00 00 00 00 E8 03 01 00 07 01 FF FF
+no bond, no place, too early: 00 00 00 00 E7 03 02 00 07 01 FF FF
+no place, too early: 00 00 00 00 E7 03 01 00 07 01 FF FF
+release at 1000: E8 03
+too early: 00 00 00 00 E7 03 01 00 07 01 FF FF
+",
+    );
 }
