@@ -1,3 +1,3 @@
 pub mod Request
-pub mod Seen
 pub mod Effect
+pub mod Seen
