@@ -11,3 +11,4 @@ pub mod Parts
 pub mod Effects
 pub mod Answers
 pub mod Responses
+pub mod Examples
