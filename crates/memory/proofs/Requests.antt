@@ -10,7 +10,7 @@ use borrow.Author.Tests.{eqb-true, leb-false, eq-eqb, ne-eqb, lt-leb}
 use Rattle.dpa.specs.Frame.{pdataMax}
 use Rattle.dpa.specs.Lists.{slice}
 use Rattle.dpa.specs.Reply.{Harmless, Reply, reply, errorReply, replySeen, replyInBuffer}
-use Rattle.dpa.proofs.Bool.{by-cond, then-taken, else-taken}
+use Rattle.dpa.proofs.Bool.{by-cond, by-test, then-taken, else-taken}
 use Rattle.dpa.proofs.Lists.{slice-to-end}
 use Rattle.memory.specs.declared.block.Memory.{Memory}
 use Rattle.memory.specs.declared.block.Memory.the-variants.{Eeprom}
@@ -56,14 +56,23 @@ module _ (m : Memory) (p : List ℕ) where
 
   module _ (mem : List ℕ) where
     -- a refused read writes nothing
-    pub read-refused : (out : List ℕ) (e : ℕ) → e ≡ readError m p → (e ≡ 0 → ⊥) → replySeen mem e 0 out ≡ replyInBuffer (readRequest m p mem) out
+    pub read-refused : (out : List ℕ) (e : ℕ) → e ≡ readError m p → (e ≡ 0 → ⊥)
+        → replySeen (readRequest m p mem .after) e 0 out ≡ replyInBuffer (readRequest m p mem) out
     unfolding readRequest
     read-refused out e q h = simp (← q, ne-eqb e 0 h)
 
-    -- nor does a refused write
-    pub write-refused : (out : List ℕ) (e : ℕ) → e ≡ writeError m p → (e ≡ 0 → ⊥) → replySeen mem e 0 out ≡ replyInBuffer (writeRequest m p mem) out
+    -- a write answers its error, without data
+    pub write-answer : (out : List ℕ) {e : ℕ} → e ≡ writeError m p → replySeen (writeRequest m p mem .after) e 0 out ≡ replyInBuffer (writeRequest m p mem) out
     unfolding writeRequest
-    write-refused out e q h = simp (← q, ne-eqb e 0 h)
+    write-answer out {e} q =
+        by-test (eqb (writeError m p) 0)
+        (λ z. let none : e ≡ 0 = q ∙ eqb-true _ _ z in rw (z, none))
+        (λ z. rw (z, q))
+
+    -- a refused write leaves the memory
+    pub write-refused : (writeError m p ≡ 0 → ⊥) → writeRequest m p mem .after ≡ mem
+    unfolding writeRequest
+    write-refused h = rw (ne-eqb (writeError m p) 0 h)
 
     module _ (w a n : ℕ) (size : length mem ≡ sizeOf m) (z : readError m p ≡ 0) (ew : w ≡ addressBytes m) (ea : a ≡ addressOf w p) (en : n ≡ getD p w 0) where
       -- the block read lies inside the memory and is no longer than EEPROM's longest
@@ -75,7 +84,8 @@ module _ (m : Memory) (p : List ℕ) where
           (omega (arith, f .end-inside), omega (arith, f .length-max, longest-max m))
 
       -- the copied block is the reply
-      pub read-reply : (out last : List ℕ) → last ≡ slice mem a n ++ drop n out → replySeen mem 0 n last ≡ replyInBuffer (readRequest m p mem) out
+      pub read-reply : (out last : List ℕ) → last ≡ slice mem a n ++ drop n out
+          → replySeen (readRequest m p mem .after) 0 n last ≡ replyInBuffer (readRequest m p mem) out
       unfolding readRequest
       read-reply out last el = rw (z, ← ew, ← ea, ← en, slice-length mem a n (read-inside .0), el)
 
@@ -87,10 +97,10 @@ module _ (m : Memory) (p : List ℕ) where
           let s : a ≡ blockStart m p = ea ∙ ap (λ (k : ℕ). addressOf k p) ew in
           omega (arith, f .end-inside)
 
-      -- the overwritten memory is the reply
-      pub write-reply : (out last : List ℕ) → last ≡ overwrite mem a (take (length p - w) (drop w p)) → replySeen last 0 0 out ≡ replyInBuffer (writeRequest m p mem) out
+      -- the overwritten memory is that after the write
+      pub write-after : {last : List ℕ} → last ≡ overwrite mem a (take (length p - w) (drop w p)) → last ≡ writeRequest m p mem .after
       unfolding writeRequest
-      write-reply out last el = rw (z, ← ew, ← ea, el, slice-to-end w p)
+      write-after el = rw (z, ← ew, ← ea, el, slice-to-end w p)
 
 -- a read and a write have different PCMDs
 pub commands-differ : (m : Memory) → eqb (writeCommand m) (readCommand m) ≡ false

@@ -11,13 +11,12 @@ use dpa::number::wide_word;
 use dpa::number::word_of;
 use dpa::reply::Reply;
 ghost use mathlib.Core.Path.{_≡_};
-ghost use mathlib.Core.List.{List};
-ghost use Prim.Native.Nat.{ℕ, _≤_};
+ghost use Prim.Native.Nat.{_≤_};
 ghost use lib.ListN.{length};
 ghost use Rattle.dpa.specs.Frame.{pdataMax};
 ghost use Rattle.dpa.specs.Reply.{replySeen, replyInBuffer};
 ghost use Rattle.memory.specs.Block.{sizeOf};
-ghost use Rattle.memory.specs.Request.{blockError, addressOf, readError, writeError, readRequest, writeRequest, memoryRequest};
+ghost use Rattle.memory.specs.Request.{blockError, addressOf, readError, writeError, readRequest, memoryRequest};
 
 // The address at the front of PData: one byte, or two with the low byte first.
 fn address(width: usize, pdata: &[u8]) -> usize
@@ -62,10 +61,10 @@ fn write_error(memory: Memory, pdata: &[u8]) -> u8
     block_error(memory, start, pdata.len() - width)
 }
 
-// Reads a block to the front of out.
+// The answer to a read: the block, at the front of out.
 fn read(memory: Memory, mem: &[u8], pdata: &[u8], out: &mut [u8]) -> Reply
     requires { ⌜ (length (now mem) ≡ sizeOf memory) × (pdataMax ≤ length (now out)) ⌝ }
-    ensures { λ r. ⌜ replySeen (now (mem .entry)) (r .error) (r .length) (now (out .exit))
+    ensures { λ r. ⌜ replySeen (readRequest memory (now (pdata .entry)) (now (mem .entry)) .after) (r .error) (r .length) (now (out .exit))
         ≡ replyInBuffer (readRequest memory (now (pdata .entry)) (now (mem .entry))) (now (out .entry)) ⌝ }
 {
     let error = read_error(memory, pdata);
@@ -82,35 +81,18 @@ fn read(memory: Memory, mem: &[u8], pdata: &[u8], out: &mut [u8]) -> Reply
     }
 }
 
-// Writes a block and returns ErrN: the response to a write has no data.
-fn write(memory: Memory, mem: &mut [u8], pdata: &[u8]) -> u8
-    requires { ⌜ length (now mem) ≡ sizeOf memory ⌝ }
-    ensures { λ r. ⌜ ((o : List ℕ) → replySeen (now (mem .exit)) r 0 o
-        ≡ replyInBuffer (writeRequest memory (now (pdata .entry)) (now (mem .entry))) o) ⌝ }
-{
-    let error = write_error(memory, pdata);
-    if error != dpa::error::NONE {
-        return error;
-    }
-    let width = address_bytes(memory);
-    let start = address(width, pdata);
-    copy_in(mem, start, &pdata[width..]);
-    dpa::error::NONE
-}
-
-// Executes a request on a memory. The response data is written to the front of out; an error writes nothing.
-pub fn request(memory: Memory, mem: &mut [u8], pcmd: u8, pdata: &[u8], out: &mut [u8]) -> Reply
+// Answers a request: the response data is written to the front of out; an error writes nothing. The memory is only read.
+pub fn answer(memory: Memory, mem: &[u8], pcmd: u8, pdata: &[u8], out: &mut [u8]) -> Reply
     requires { ⌜ (length (now mem) ≡ sizeOf memory) × (pdataMax ≤ length (now out)) ⌝ }
-    ensures { λ r. ⌜ replySeen (now (mem .exit)) (r .error) (r .length) (now (out .exit))
+    ensures { λ r. ⌜ replySeen (memoryRequest memory pcmd (now (pdata .entry)) (now (mem .entry)) .after) (r .error) (r .length) (now (out .exit))
         ≡ replyInBuffer (memoryRequest memory pcmd (now (pdata .entry)) (now (mem .entry))) (now (out .entry)) ⌝ }
 {
     if pcmd == read_command(memory) {
         return read(memory, mem, pdata, out);
     }
     if pcmd == write_command(memory) {
-        let written = write(memory, mem, pdata);
         return Reply {
-            error: written,
+            error: write_error(memory, pdata),
             length: 0,
         };
     }
@@ -120,7 +102,7 @@ pub fn request(memory: Memory, mem: &mut [u8], pcmd: u8, pdata: &[u8], out: &mut
     }
 }
 
-// Executes a request that gets no answer: of a memory's requests only a write changes it.
+// The memory after a request: only a write without an error changes it.
 pub fn change(memory: Memory, mem: &mut [u8], pcmd: u8, pdata: &[u8])
     requires { ⌜ length (now mem) ≡ sizeOf memory ⌝ }
     ensures { λ r. ⌜ now (mem .exit) ≡ memoryRequest memory pcmd (now (pdata .entry)) (now (mem .entry)) .after ⌝ }
@@ -128,5 +110,10 @@ pub fn change(memory: Memory, mem: &mut [u8], pcmd: u8, pdata: &[u8])
     if pcmd != write_command(memory) {
         return;
     }
-    write(memory, mem, pdata);
+    if write_error(memory, pdata) != dpa::error::NONE {
+        return;
+    }
+    let width = address_bytes(memory);
+    let start = address(width, pdata);
+    copy_in(mem, start, &pdata[width..]);
 }

@@ -1,33 +1,27 @@
 -- The call: refusals, the address of the frame, and the response.
 use mathlib.Core.Path.{_≡_, refl, ap, sym, _∙_}
-use mathlib.Core.List.{List, [], _++_}
-use mathlib.Core.Bool.{Bool, true, false, cond, _&&_, _||_}
-use Prim.Native.Nat.{ℕ, _+_, _-_, _≤_}
+use mathlib.Core.List.{List}
+use mathlib.Core.Bool.{Bool, true, false, _&&_, _||_}
+use Prim.Native.Nat.{ℕ, _-_, _≤_}
 use native.Mathlib.Omega.{arith}
 use lib.Dec.{ltb, eqb}
 use lib.ListN.{length, take, drop}
-use borrow.Rule.Slice.PartMut.{midOf, putMid, put-same}
 use borrow.Author.Tests.{eq-eqb, ne-eqb, eqb-true, eqb-false, ltb-false}
 use Rattle.dpa.specs.declared.frame.Frame.{Frame}
-use Rattle.dpa.specs.declared.settings.Settings.{Settings}
-use Rattle.dpa.specs.Lists.{overwriteFront}
-use Rattle.dpa.specs.Frame.{headerSize, longestFrame, responseHeaderSize, longestResponse, broadcastNadr, headerOf, frameFits, responseHeader}
+use Rattle.dpa.specs.Frame.{headerSize, longestFrame, longestResponse, broadcastNadr, headerOf, frameFits}
 use Rattle.dpa.proofs.Bool.{by-cond, by-test, then-taken, else-taken}
 use Rattle.dpa.proofs.Headers.{fits-sizes}
-use Rattle.dpa.proofs.Lists.{slice-to-end, tail-borrowed, tail-returned, overwrite-append}
+use Rattle.dpa.proofs.Lists.{slice-to-end}
 use Rattle.memory.specs.declared.block.Memory.the-variants.{Eeprom, External}
 use Rattle.memory.specs.Block.{sizeOf}
-use Rattle.batch.specs.Batch.{Request}
 use Rattle.lights.specs.declared.lamp.Lamp.{Lamp}
 use Rattle.node.specs.declared.record.Node.{Node}
 use Rattle.node.specs.declared.record.ReadOnly.{ReadOnly}
-use Rattle.outcome.specs.declared.reply.RequestReply.{RequestReply}
-use Rattle.outcome.specs.declared.answer.Handled.{Handled}
 use Rattle.outcome.specs.declared.answer.RequestAnswer.{RequestAnswer}
 use Rattle.node.specs.Node.{nodeOk}
 use Rattle.node.specs.State.{State, state, SoundState}
-use Rattle.outcome.specs.Request.{Outcome, headerRequest, frameRequest, execute, CallResult, unhandledResult, unansweredResult, responseResult, unicastResult, handleFrame, requestRefusal, callRefusal, handleRequest}
-use Rattle.outcome.specs.Seen.{stateFromParts, Memories, memories, memoriesOf, succeeded, SeenOutcome, outcomeSeen, outcomeInBuffer, handledReply, withResponseHeader, SeenHandled, handledSeen, handledOf, handledBroadcast, handledUnicast, addressedResult, handledAddressed, callResult}
+use Rattle.outcome.specs.Request.{headerRequest, frameRequest, execute, CallResult, unhandledResult, unansweredResult, responseResult, unicastResult, handleFrame, requestRefusal, callRefusal, handleRequest}
+use Rattle.outcome.specs.Seen.{stateFromParts, Memories, memoriesOf, addressedResult, callResult}
 
 -- the request that the code reads from a frame
 pub frame-request-read : (f : List ℕ) {h : Frame} → h ≡ headerOf f → headerRequest h (take (length f - headerSize) (drop headerSize f)) ≡ frameRequest f
@@ -128,113 +122,13 @@ accepted-sound n e x f r z =
     let k = not-refused-facts n f (length e) (length x) r z in
     record { node-ok = k .0; eeprom-size = k .4; external-size = k .5 }
 
--- a request to this node or to all reports what executing it reports, answered or not
-pub addressed-report : (s : Settings) (h : Frame) (i : Request) (a : Outcome) (o : List ℕ) → addressedResult s h i a o .report ≡ a .report
-addressed-report s h i a o =
-    let Same : CallResult → Type 0 = λ (c : CallResult). c .report ≡ a .report in
-    by-cond Same (eqb (h .nadr) broadcastNadr) _ _ (λ _. refl) (λ _. by-cond Same (a .answered) _ _ (λ _. refl) (λ _. refl))
-
 -- ---- as the code shows it
-
--- equal replies to a handled request show equal results
-pub handled-same : {g h : Handled} {r e x o : List ℕ} → g ≡ h → handledSeen g r e x o ≡ handledSeen h r e x o
-handled-same {g} {h} {r} {e} {x} {o} q = ap (λ (t : Handled). handledSeen t r e x o) q
 
 -- equal answers show equal results
 pub call-result-as : {r t : RequestAnswer} {e x o : List ℕ} → r ≡ t → callResult r e x o ≡ callResult t e x o
 call-result-as {r} {t} {e} {x} {o} q = ap (λ (u : RequestAnswer). callResult u e x o) q
 
--- the response: the data is written to the buffer after the header, then the header in front; without an answer there is no data, and
--- the buffer stays
-module _ (k : ReadOnly) (header : Frame) (d : List ℕ) (a : Outcome) (o : List ℕ) (room : responseHeaderSize ≤ length o)
-    (no-data : a .answered ≡ false → a .bytes ≡ []) where
-  -- the response buffer with these bytes after the header
-  abbrev afterHeader : List ℕ → List ℕ
-  afterHeader m = putMid responseHeaderSize (length o - responseHeaderSize) o m
-
-  -- the part of the buffer that is lent for the data
-  abbrev lent : List ℕ
-  lent = midOf responseHeaderSize (length o - responseHeaderSize) o
-
-  -- the header in front
-  abbrev withHeader : ℕ → List ℕ → List ℕ
-  withHeader error m = responseHeader (k .settings) (header .pnum) (header .pcmd) error ++ drop responseHeaderSize (afterHeader m)
-
-  -- the same from what was seen of the outcome
-  abbrev seenHandled : SeenOutcome → SeenHandled
-  seenHandled l =
-      record {
-        success = l .answered && eqb (l .error) 0;
-        after = l .after;
-        length = cond (l .answered) (responseHeaderSize + l .length) 0;
-        report = l .report;
-        response = cond (l .answered) (withHeader (l .error) (l .out)) (afterHeader (l .out));
-      }
-
-  -- with an answer, the header and the data are at the front
-  header-written : withHeader (a .error) (overwriteFront (a .bytes) lent)
-      ≡ overwriteFront (responseHeader (k .settings) (header .pnum) (header .pcmd) (a .error) ++ a .bytes) o
-  header-written =
-      let front = responseHeader (k .settings) (header .pnum) (header .pcmd) (a .error) in
-      ap (λ (l : List ℕ). front ++ l) (tail-returned responseHeaderSize o (overwriteFront (a .bytes) lent) room)
-      ∙ ap (λ (l : List ℕ). front ++ overwriteFront (a .bytes) l) (tail-borrowed responseHeaderSize o)
-      ∙ sym (overwrite-append front (a .bytes) o)
-
-  -- without one, the buffer is as it was
-  nothing-written : a .bytes ≡ [] → afterHeader (overwriteFront (a .bytes) lent) ≡ o
-  nothing-written e = ap (λ (b : List ℕ). afterHeader (overwriteFront b lent)) e ∙ put-same responseHeaderSize (length o - responseHeaderSize) o
-
-  by-answer : (b : Bool) → (b ≡ false → a .bytes ≡ [])
-      → _≡_ {A = SeenHandled} (record {
-        success = succeeded a;
-        after = memoriesOf (a .after);
-        length = cond b (responseHeaderSize + length (a .bytes)) 0;
-        report = a .report;
-        response = cond b (withHeader (a .error) (overwriteFront (a .bytes) lent)) (afterHeader (overwriteFront (a .bytes) lent));
-      }) (handledOf a (cond b (responseResult (k .settings) (headerRequest header d) a o) (unansweredResult a o)))
-  by-answer true n = λ j. record {
-    success = succeeded a;
-    after = memoriesOf (a .after);
-    length = responseHeaderSize + length (a .bytes);
-    report = a .report;
-    response = header-written j;
-  }
-  by-answer false n = λ j. record { success = succeeded a; after = memoriesOf (a .after); length = 0; report = a .report; response = nothing-written (n refl) j }
-
-  -- so what the code leaves is the result of the request
-  pub unicast-response : {c : RequestReply} {r e x m w : List ℕ} {g : Handled} → outcomeSeen c r e x m ≡ outcomeInBuffer a lent
-      → g ≡ handledReply c → w ≡ withResponseHeader (k .settings) header c (afterHeader m)
-      → handledSeen g r e x w ≡ handledOf a (unicastResult (k .settings) (headerRequest header d) a o)
-  unicast-response {c} {r} {e} {x} {m} {w} q p u =
-      handled-same p
-      ∙ ap (handledSeen (handledReply c) r e x) u
-      ∙ ap seenHandled q
-      ∙ by-answer (a .answered) no-data
-
--- a request to all nodes or to this one, by its NADR
-module _ (s : Settings) (h : Frame) (i : Request) (a : Outcome) (o : List ℕ) where
-  pub addressed-broadcast : h .nadr ≡ broadcastNadr → handledBroadcast a o ≡ handledAddressed s h i a o
-  addressed-broadcast e = rw (eq-eqb (h .nadr) broadcastNadr e)
-
-  pub addressed-unicast : (h .nadr ≡ broadcastNadr → ⊥) → handledUnicast s i a o ≡ handledAddressed s h i a o
-  addressed-unicast n = rw (ne-eqb (h .nadr) broadcastNadr n)
-
--- the result of a call, from the state after the request and what else was seen of it
-abbrev resultWith : State → SeenHandled → CallResult
-resultWith st l = record { after = st; refusal = 0; length = l .length; report = l .report; addressed = true; response = l .response }
-
 -- a state is put together from the settings, the lamps and the memories that belong to it
 pub state-together : (k : ReadOnly) (ls : List Lamp) (ms : Memories) (st : State) → k .settings ≡ st .node .settings → ls ≡ st .node .lamps → ms ≡ memoriesOf st
     → stateFromParts k ls (ms .ram) (ms .eeprom) (ms .external) ≡ st
 state-together k ls ms st p q m = λ j. stateFromParts (record { settings = p j }) (q j) (m j .ram) (m j .eeprom) (m j .external)
-
--- with the lamps after it, what was seen of a request is the result of the call
-pub addressed-call : (k : ReadOnly) (h : Frame) (i : Request) (a : Outcome) (o : List ℕ) {g : Handled} {ls : List Lamp} {r e x w : List ℕ}
-    → handledSeen g r e x w ≡ handledOf a (addressedResult (k .settings) h i a o)
-    → k .settings ≡ a .after .node .settings → ls ≡ a .after .node .lamps
-    → resultWith (stateFromParts k ls r e x) (handledSeen g r e x w) ≡ addressedResult (k .settings) h i a o
-addressed-call k h i a o {g} {ls} {r} {e} {x} {w} s p q =
-    ap (λ (st : State). resultWith st (handledSeen g r e x w)) (state-together k ls (memories r e x) (a .after) p q (ap (λ (l : SeenHandled). l .after) s))
-    ∙ ap (resultWith (a .after)) s
-    ∙ by-cond (λ (c : CallResult). resultWith (a .after) (handledOf a c) ≡ c) (eqb (h .nadr) broadcastNadr) _ _ (λ _. refl)
-    (λ _. by-cond (λ (c : CallResult). resultWith (a .after) (handledOf a c) ≡ c) (a .answered) _ _ (λ _. refl) (λ _. refl))

@@ -8,3 +8,7 @@ pub mod Errors
 pub mod Reports
 pub mod SelectiveBatches
 pub mod Parts
+pub mod Effects
+pub mod Answers
+pub mod Responses
+pub mod Examples

@@ -1,7 +1,7 @@
 -- Executing a request, by the tests on the way: list, batch, selective batch, OS request, HWPID and PNUM.
 use mathlib.Core.Path.{_≡_, refl, ap, sym, subst, _∙_}
 use mathlib.Core.List.{List}
-use mathlib.Core.Bool.{Bool, true, false, cond}
+use mathlib.Core.Bool.{true, false, cond}
 use Prim.Native.Nat.{ℕ, _≤_}
 use native.Mathlib.Omega.{arith}
 use lib.Dec.{eqb}
@@ -9,21 +9,18 @@ use lib.ListN.{length, drop}
 use borrow.Author.Tests.{eq-eqb, ne-eqb, eqb-true}
 use Rattle.dpa.specs.NodeSet.{nodeSetSize}
 use Rattle.dpa.specs.Pnum.{osPnum}
-use Rattle.dpa.specs.Reply.{Reply, SeenReply, replySeen, replyInBuffer, errorReply, mapState}
+use Rattle.dpa.specs.Reply.{errorReply}
 use Rattle.dpa.proofs.Bool.{by-cond}
-use Rattle.checksum.specs.Check.{codeCheck, codeCheckPcmd}
-use Rattle.batch.specs.Batch.{Request, reading, listError, reasonOf, placeOf, batchPcmd}
+use Rattle.checksum.specs.Check.{codeCheckPcmd}
+use Rattle.batch.specs.Batch.{Request, reading, listError, batchPcmd}
 use Rattle.batch.specs.declared.list.ListCheck.{ListCheck}
 use Rattle.batch.specs.declared.list.ListCheck.the-variants.{Sound}
 use Rattle.batch.specs.declared.selective.Selection.{Selection}
 use Rattle.batch.specs.Selective.{selectivePdataMin, checkFrom, selectionOf, selectivePcmd}
 use Rattle.batch.proofs.Faults.{error-sound}
 use Rattle.batch.proofs.Selections.{check-from-front, select-cases}
-use Rattle.outcome.specs.declared.reply.Report.{Report}
-use Rattle.outcome.specs.declared.reply.RequestReply.{RequestReply}
 use Rattle.node.specs.State.{State}
-use Rattle.outcome.specs.Request.{peripheralRequest, hwpidMatches, loadReport, faultReport, noReport, Outcome, replyOnly, batchOutcome, brokenOutcome, listRequest, batchRequest, unansweredOutcome, selectionOutcome, selectiveRequest, codeCheckRequest, osRequest, execute}
-use Rattle.outcome.specs.Seen.{Memories, memoriesOf, outcomeSeen, outcomeInBuffer}
+use Rattle.outcome.specs.Request.{peripheralRequest, hwpidMatches, Outcome, replyOnly, batchOutcome, brokenOutcome, listRequest, batchRequest, unansweredOutcome, selectionOutcome, selectiveRequest, codeCheckRequest, osRequest, execute}
 
 module _ (check : ListCheck) (list : List ℕ) (st : State) where
   -- a list that cannot be read runs nothing, and its fault is reported
@@ -141,38 +138,3 @@ module _ (P : Outcome → Type 0) (st : State) (error : (e : ℕ) → P (replyOn
       by-cond P (hwpidMatches (st .node .settings) (i .hwpid)) _ _
       (λ _. by-cond P (eqb (i .pnum) osPnum) _ _ (λ _. os) (λ _. peripheral))
       (λ _. error 7)
-
--- ---- as the code shows it
-
--- equal replies show equal outcomes
-pub outcome-as : {c d : RequestReply} {r e x o : List ℕ} → c ≡ d → outcomeSeen c r e x o ≡ outcomeSeen d r e x o
-outcome-as {c} {d} {r} {e} {x} {o} q = ap (λ (t : RequestReply). outcomeSeen t r e x o) q
-
--- the reply to a broken list shows its outcome
-pub outcome-broken : (st : State) (o : List ℕ) (x : ListCheck) {e : ℕ} {r : Report} → e ≡ listError x → r ≡ faultReport (reasonOf x) (placeOf x)
-    → record { answered = true; after = memoriesOf st; error = e; length = 0; report = r; out = o } ≡ outcomeInBuffer (brokenOutcome x st) o
-outcome-broken st o x {e} {r} p q =
-    ap (λ (n : ℕ). record { answered = true; after = memoriesOf st; error = n; length = 0; report = r; out = o }) p
-    ∙ ap (λ (t : Report). record { answered = true; after = memoriesOf st; error = listError x; length = 0; report = t; out = o }) q
-
--- a list that is equal to the one that was checked has the same outcome
-pub list-same : (check : ListCheck) (st : State) (o : List ℕ) {l m : List ℕ} → l ≡ m
-    → outcomeInBuffer (listRequest check l st) o ≡ outcomeInBuffer (listRequest check m st) o
-list-same check st o q = ap (λ (z : List ℕ). outcomeInBuffer (listRequest check z st) o) q
-
--- the reply of a peripheral shows its outcome
-pub outcome-reply-only : {ms : Memories} {e n : ℕ} {out : List ℕ} (a : Reply State) (o : List ℕ) → replySeen ms e n out ≡ replyInBuffer (mapState memoriesOf a) o
-    → record { answered = true; after = ms; error = e; length = n; report = noReport; out = out } ≡ outcomeInBuffer (replyOnly a) o
-outcome-reply-only a o q =
-    ap (λ (l : SeenReply Memories). record { answered = true; after = l .after; error = l .error; length = l .length; report = noReport; out = l .out }) q
-
--- equal outcomes are equal in the buffer
-pub in-buffer : (o : List ℕ) {a b : Outcome} → a ≡ b → outcomeInBuffer b o ≡ outcomeInBuffer a o
-in-buffer o q = ap (λ (x : Outcome). outcomeInBuffer x o) (sym q)
-
--- the reply of the code check shows its outcome
-pub outcome-check : (st : State) (d : List ℕ) {b : Bool} {e n : ℕ} {out : List ℕ} (o : List ℕ) → replySeen b e n out ≡ replyInBuffer (codeCheck (st .external) d) o
-    → record { answered = true; after = memoriesOf st; error = e; length = n; report = loadReport b; out = out } ≡ outcomeInBuffer (codeCheckRequest d st) o
-unfolding codeCheckRequest
-outcome-check st d o q =
-    ap (λ (l : SeenReply Bool). record { answered = true; after = memoriesOf st; error = l .error; length = l .length; report = loadReport (l .after); out = l .out }) q

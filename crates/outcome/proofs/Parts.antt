@@ -1,17 +1,15 @@
 -- What a request does to the settings, the memories and the lamps, each by itself.
-use mathlib.Core.Path.{_≡_, refl, ap, sym, _∙_}
+use mathlib.Core.Path.{_≡_, refl, ap, _∙_}
 use mathlib.Core.List.{List}
-use mathlib.Core.Bool.{Bool, true, false, cond}
-use Prim.Native.Nat.{ℕ, _≤_}
-use native.Mathlib.Omega.{arith}
+use mathlib.Core.Bool.{false}
+use Prim.Native.Nat.{ℕ}
 use lib.Dec.{eqb}
-use lib.ListN.{length, drop}
-use borrow.Author.Tests.{eqb-true, eqb-false}
+use lib.ListN.{length}
+use borrow.Author.Tests.{eqb-true}
 use Rattle.dpa.specs.declared.settings.Settings.{Settings}
-use Rattle.dpa.specs.NodeSet.{nodeSetSize}
-use Rattle.dpa.specs.Pnum.{osPnum, lightsPnum}
-use Rattle.dpa.specs.Reply.{Reply, errorReply}
-use Rattle.dpa.proofs.Bool.{and-right, by-cond, by-test}
+use Rattle.dpa.specs.Pnum.{lightsPnum}
+use Rattle.dpa.specs.Reply.{Reply}
+use Rattle.dpa.proofs.Bool.{by-cond, by-test}
 use Rattle.memory.specs.declared.block.Memory.{Memory}
 use Rattle.memory.specs.declared.block.Memory.the-variants.{Eeprom, Ram, External}
 use Rattle.memory.specs.Block.{memoryPnum, sizeOf}
@@ -19,21 +17,14 @@ use Rattle.memory.specs.Request.{memoryRequest}
 use Rattle.memory.proofs.Requests.{request-length}
 use Rattle.lights.specs.declared.lamp.Lamp.{Lamp}
 use Rattle.node.proofs.Nodes.{node-ram}
-use Rattle.batch.specs.declared.list.ListCheck.{ListCheck}
-use Rattle.batch.specs.declared.selective.Selection.{Selection}
-use Rattle.batch.specs.Batch.{Request, reading, listError, runEntries, batchPcmd}
+use Rattle.batch.specs.Batch.{Request, reading, runEntries}
 use Rattle.batch.proofs.Running.{entries-keep, entries-part}
-use Rattle.batch.proofs.Selections.{select-cases}
 use Rattle.node.specs.State.{State, SoundState, withMemory}
-use Rattle.batch.specs.Selective.{selectivePcmd}
-use Rattle.checksum.specs.Check.{codeCheckPcmd}
-use Rattle.outcome.specs.Request.{peripheralRequest, hwpidMatches, entryAfter, Outcome, replyOnly, batchOutcome, brokenOutcome, listRequest, batchRequest, selectionOutcome, selectiveRequest, codeCheckRequest, osRequest, execute}
-use Rattle.outcome.specs.Seen.{Memories, memoriesOf, Sized, peripheralMemories, peripheralLamps, entryMemories, entryLamps, listMemories, listLamps, succeeded, lampsAfterSuccess, StartKnown}
-use Rattle.lights.proofs.Requests.{success-changes}
+use Rattle.outcome.specs.Request.{peripheralRequest, hwpidMatches, entryAfter, Outcome, codeCheckRequest, execute}
+use Rattle.outcome.specs.Seen.{Memories, memoriesOf, Sized, peripheralMemories, peripheralLamps, entryMemories, entryLamps, listMemories, listLamps}
 use Rattle.outcome.proofs.Peripherals.{peripheral-lights, peripheral-cases}
 use Rattle.outcome.proofs.BatchEntries.{entry-match, entry-mismatch, entry-cases}
-use Rattle.outcome.proofs.Outcomes.{execute-mismatch, execute-os, execute-peripheral, os-selective, os-cases, execute-cases}
-use Rattle.outcome.proofs.Errors.{peripheral-harmless}
+use Rattle.outcome.proofs.Outcomes.{os-cases, execute-cases}
 
 -- ---- a request to a peripheral
 
@@ -158,89 +149,3 @@ request-settings i st =
     (os-cases Kept st (λ _. refl) (i .pcmd) (i .pdata)
     (λ list. entries-settings list st) (λ _ _ _. refl) refl refl)
     (peripheral-settings (i .pnum) (i .pcmd) (i .pdata) st)
-
--- ls are the lamps after a request that succeeded; any other leaves them
-abbrev LampsAs : State → List Lamp → Outcome → Type 0
-LampsAs st ls a = a .after .node .lamps ≡ cond (succeeded a) ls (st .node .lamps)
-
--- if a success leaves the lamps, every request does
-lamps-left : {A : Type 0} (b : Bool) {x y : A} → x ≡ y → y ≡ cond b x y
-lamps-left true e = sym e
-lamps-left false e = refl
-
-module _ (st : State) (ls : List Lamp) where
-  list-lamps : (check : ListCheck) (list : List ℕ) → ls ≡ listLamps (st .node .settings) list (st .node .lamps) → LampsAs st ls (listRequest check list st)
-  unfolding listRequest
-  list-lamps check list e = by-cond (LampsAs st ls) (eqb (listError check) 0) (batchOutcome (reading list .entries) st) (brokenOutcome check st) (λ _. entries-lamps list st ∙ sym e) (λ z. rw z)
-
-  batch-lamps : (d : List ℕ) → ls ≡ listLamps (st .node .settings) d (st .node .lamps) → LampsAs st ls (batchRequest d st)
-  unfolding batchRequest
-  batch-lamps d e = by-cond (LampsAs st ls) (eqb (length d) 0) (replyOnly (errorReply st 5)) (listRequest (reading d .check) d st) (λ _. refl) (λ _. list-lamps (reading d .check) d e)
-
-  selective-lamps : (d : List ℕ) → ls ≡ listLamps (st .node .settings) (drop nodeSetSize d) (st .node .lamps) → LampsAs st ls (selectiveRequest d st)
-  unfolding selectiveRequest
-  selective-lamps d e =
-      select-cases d (st .node .settings .address) (λ (x : Selection). LampsAs st ls (selectionOutcome x (drop nodeSetSize d) st)) refl refl
-      (λ _ _. list-lamps _ (drop nodeSetSize d) e)
-
-  peripheral-success : (pnum pcmd : ℕ) (d : List ℕ) → ls ≡ peripheralLamps (st .node .settings) pnum pcmd d (st .node .lamps)
-      → LampsAs st ls (replyOnly (peripheralRequest pnum pcmd d st))
-  peripheral-success pnum pcmd d e =
-      by-test (eqb (peripheralRequest pnum pcmd d st .error) 0)
-      (λ z. rw z (peripheral-lamps pnum pcmd d st ∙ sym e))
-      (λ z. rw z (ap (λ (x : State). x .node .lamps) (peripheral-harmless pnum pcmd d st (eqb-false _ _ z) .0)))
-
-module _ (i : Request) (st : State) where
-  abbrev lampsWith : List Lamp
-  lampsWith = lampsAfterSuccess (st .node .settings) i (st .node .lamps)
-
-  -- by the PCMD
-  os-lamps : eqb (i .pnum) osPnum ≡ true → LampsAs st lampsWith (osRequest (i .pcmd) (i .pdata) st)
-  unfolding lampsAfterSuccess osRequest codeCheckRequest
-  os-lamps p =
-      let unknown : Outcome = replyOnly (errorReply st 2) in
-      let selective : Outcome = cond (eqb (i .pcmd) selectivePcmd) (selectiveRequest (i .pdata) st) unknown in
-      by-cond (LampsAs st lampsWith) (eqb (i .pcmd) batchPcmd) (batchRequest (i .pdata) st) (cond (eqb (i .pcmd) codeCheckPcmd) (codeCheckRequest (i .pdata) st) selective) (λ a. batch-lamps st lampsWith (i .pdata) (rw (p, a)))
-      (λ a. by-cond (LampsAs st lampsWith) (eqb (i .pcmd) codeCheckPcmd) (codeCheckRequest (i .pdata) st) selective (λ b. lamps-left (succeeded (codeCheckRequest (i .pdata) st)) (check-leaves p (eqb-true _ _ b)))
-      (λ _. by-cond (LampsAs st lampsWith) (eqb (i .pcmd) selectivePcmd) (selectiveRequest (i .pdata) st) unknown (λ c. selective-lamps st lampsWith (i .pdata) (rw (p, a, c))) (λ _. refl)))
-    where
-      check-leaves : eqb (i .pnum) osPnum ≡ true → i .pcmd ≡ codeCheckPcmd → lampsWith ≡ st .node .lamps
-      check-leaves q e = rw (q, e)
-
-  -- the lamps after a request
-  pub request-lamps : execute i st .after .node .lamps ≡ cond (succeeded (execute i st)) lampsWith (st .node .lamps)
-  unfolding execute lampsAfterSuccess
-  request-lamps =
-      let os : Outcome = osRequest (i .pcmd) (i .pdata) st in
-      let peripheral : Outcome = replyOnly (peripheralRequest (i .pnum) (i .pcmd) (i .pdata) st) in
-      by-cond (LampsAs st lampsWith) (hwpidMatches (st .node .settings) (i .hwpid)) (cond (eqb (i .pnum) osPnum) os peripheral) (replyOnly (errorReply st 7))
-      (λ _. by-cond (LampsAs st lampsWith) (eqb (i .pnum) osPnum) os peripheral os-lamps (λ p. peripheral-success st lampsWith (i .pnum) (i .pcmd) (i .pdata) (rw p)))
-      (λ _. refl)
-
-  -- a selective batch that succeeded has a node set
-  selective-long : succeeded (selectiveRequest (i .pdata) st) ≡ true → nodeSetSize ≤ length (i .pdata)
-  unfolding selectiveRequest
-  selective-long =
-      select-cases (i .pdata) (st .node .settings .address)
-      (λ (x : Selection). succeeded (selectionOutcome x (drop nodeSetSize (i .pdata)) st) ≡ true → nodeSetSize ≤ length (i .pdata))
-      (λ e. absurd (never e)) (λ e. absurd (never e)) (λ h _ _. omega (arith, h))
-    where
-      never : false ≡ true → ⊥
-      never e = let z : _≡_ {A = ℕ} 0 1 = cc in omega arith
-
-  -- what is known of a request that succeeded
-  pub success-known : succeeded (execute i st) ≡ true → StartKnown i
-  success-known h =
-      let z : execute i st .error ≡ 0 = eqb-true _ _ (and-right (execute i st .answered) _ h) in
-      record {
-        changes = λ p c.
-            success-changes (st .node .settings) (i .pcmd) (i .pdata) (st .node .lamps) c
-            (by-test (hwpidMatches (st .node .settings) (i .hwpid))
-            (λ e. sym (ap (λ (x : Reply State). x .error) (peripheral-lights (i .pnum) (i .pcmd) (i .pdata) st p))
-            ∙ sym (ap (λ (a : Outcome). a .error) (execute-peripheral i st e (λ q. omega arith))) ∙ z)
-            (λ e. let y : 7 ≡ 0 = sym (ap (λ (a : Outcome). a .error) (execute-mismatch i st e)) ∙ z in absurd (omega arith)));
-        node-set = λ p c.
-            by-test (hwpidMatches (st .node .settings) (i .hwpid))
-            (λ e. selective-long (ap succeeded (sym (os-selective (i .pcmd) (i .pdata) st c) ∙ sym (execute-os i st e p)) ∙ h))
-            (λ e. let y : 7 ≡ 0 = sym (ap (λ (a : Outcome). a .error) (execute-mismatch i st e)) ∙ z in absurd (omega arith));
-      }

@@ -1,20 +1,17 @@
 -- Requests to peripherals, by PNUM.
-use mathlib.Core.Path.{_≡_, refl, ap, sym, _∙_}
+use mathlib.Core.Path.{_≡_, refl, ap}
 use mathlib.Core.List.{List}
 use Prim.Native.Nat.{ℕ}
 use lib.Dec.{eqb}
 use borrow.Author.Tests.{ne-eqb}
 use Rattle.dpa.specs.Pnum.{lightsPnum}
-use Rattle.dpa.specs.Reply.{Reply, replySeen, replyInBuffer, errorReply, mapState}
+use Rattle.dpa.specs.Reply.{Reply, errorReply}
 use Rattle.dpa.proofs.Bool.{by-cond}
-use Rattle.dpa.proofs.Replies.{reply-mapped}
 use Rattle.memory.specs.declared.block.Memory.{Memory}
 use Rattle.memory.specs.declared.block.Memory.the-variants.{Eeprom, Ram, External}
 use Rattle.memory.specs.Block.{memoryPnum}
-use Rattle.memory.specs.Request.{memoryRequest}
 use Rattle.node.specs.State.{State, memoryOf, withMemory}
 use Rattle.outcome.specs.Request.{memoryRequestOnState, lightsRequestOnState, peripheralRequest}
-use Rattle.outcome.specs.Seen.{memoriesOf}
 
 module _ (pnum pcmd : ℕ) (d : List ℕ) (st : State) where
   -- the PNUM of a memory
@@ -50,13 +47,3 @@ pub memory-same : (m : Memory) (st : State) → withMemory m st (memoryOf m st) 
 memory-same Memory.Eeprom st = refl
 memory-same Memory.Ram st = refl
 memory-same Memory.External st = refl
-
--- ---- as the code shows it
-
--- the reply of a memory is the reply of the peripheral with its PNUM
-pub memory-seen : (m : Memory) (pnum pcmd : ℕ) (d : List ℕ) (st : State) (o : List ℕ) {bytes out : List ℕ} {e n : ℕ} → pnum ≡ memoryPnum m
-    → replySeen bytes e n out ≡ replyInBuffer (memoryRequest m pcmd d (memoryOf m st)) o
-    → replySeen (memoriesOf (withMemory m st bytes)) e n out ≡ replyInBuffer (mapState memoriesOf (peripheralRequest pnum pcmd d st)) o
-memory-seen m pnum pcmd d st o p q =
-    reply-mapped (λ (b : List ℕ). memoriesOf (withMemory m st b)) (memoryRequest m pcmd d (memoryOf m st)) o q
-    ∙ ap (λ (x : Reply State). replyInBuffer (mapState memoriesOf x) o) (sym (peripheral-memory pnum pcmd d st m p))

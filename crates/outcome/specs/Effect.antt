@@ -1,7 +1,7 @@
 -- What a request changes: an answer is found first, and then the request has an effect on the node and the memories.
-use Prim.Native.Nat.{_≤_}
 use mathlib.Core.Path.{_≡_}
-use mathlib.Core.Bool.{true, cond}
+use mathlib.Core.Bool.{Bool, true, cond, _&&_}
+use Prim.Native.Nat.{ℕ, _≤_}
 use lib.ListN.{length, drop}
 use lib.Dec.{eqb}
 use Rattle.dpa.specs.NodeSet.{nodeSetSize}
@@ -14,21 +14,26 @@ use Rattle.node.specs.State.{State}
 use Rattle.outcome.specs.declared.reply.Effect.{Effect}
 use Rattle.outcome.specs.declared.reply.Effect.the-variants.{Nothing, Alone, Batch, Selective}
 use Rattle.outcome.specs.Request.{Outcome, peripheralRequest, entryAfter}
-use Rattle.outcome.specs.Seen.{succeeded}
 
--- the effect of a request that succeeded: a batch and a selective batch run their lists, any other OS request changes nothing, and a
--- request to a peripheral acts by itself
+-- a request that is answered and has no error
+abbrev pub succeeded : Outcome → Bool
+succeeded done = done .answered && eqb (done .error) 0
+
+-- without success there is no effect
+unfoldable pub onSuccess : Outcome → Effect → Effect
+onSuccess done effect = cond (succeeded done) effect Nothing
+
+-- the effect of an OS request that succeeded: a batch and a selective batch run their lists, any other changes nothing
+abbrev pub osEffect : ℕ → Effect
+osEffect pcmd = cond (eqb pcmd batchPcmd) Batch (cond (eqb pcmd selectivePcmd) Selective Nothing)
+
+-- the effect of a request that succeeded: a request to a peripheral acts by itself
 abbrev pub requestEffect : Request → Effect
-requestEffect i =
-    cond (eqb (i .pnum) osPnum)
-    (cond (eqb (i .pcmd) batchPcmd) Batch
-    (cond (eqb (i .pcmd) selectivePcmd) Selective
-    Nothing))
-    Alone
+requestEffect i = cond (eqb (i .pnum) osPnum) (osEffect (i .pcmd)) Alone
 
--- the effect of a request with this outcome; without success there is none
-unfoldable pub effectOf : Request → Outcome → Effect
-effectOf i done = cond (succeeded done) (requestEffect i) Nothing
+-- the effect of a request with this outcome
+abbrev pub effectOf : Request → Outcome → Effect
+effectOf i done = onSuccess done (requestEffect i)
 
 -- the state after an effect
 abbrev pub afterEffect : Effect → Request → State → State

@@ -1,3 +1,4 @@
 pub mod Request
-pub mod Seen
 pub mod Effect
+pub mod Seen
+pub mod Examples

@@ -1,15 +1,15 @@
 -- How the code's results and buffers show the outcome of a request and the result of a call, and what a request does to the memories and
 -- to the lamps, each by itself.
-use Prim.Native.Nat.{ℕ, _+_, _≤_}
+use Prim.Native.Nat.{ℕ, _≤_}
 use mathlib.Core.Path.{_≡_}
-use mathlib.Core.List.{List, _++_}
-use mathlib.Core.Bool.{Bool, true, cond, _&&_}
+use mathlib.Core.List.{List}
+use mathlib.Core.Bool.{Bool, true, false, cond}
 use lib.ListN.{length, drop}
 use lib.Dec.{eqb}
 use Rattle.dpa.specs.declared.frame.Frame.{Frame}
 use Rattle.dpa.specs.declared.settings.Settings.{Settings}
 use Rattle.dpa.specs.Lists.{overwriteFront}
-use Rattle.dpa.specs.Frame.{responseHeaderSize, broadcastNadr, responseHeader}
+use Rattle.dpa.specs.Frame.{broadcastNadr}
 use Rattle.dpa.specs.NodeSet.{nodeSetSize}
 use Rattle.dpa.specs.Pnum.{osPnum, lightsPnum}
 use Rattle.memory.specs.declared.block.Memory.the-variants.{Eeprom, Ram, External}
@@ -24,11 +24,13 @@ use Rattle.node.specs.declared.record.ReadOnly.{ReadOnly}
 use Rattle.node.specs.Node.{nodeFromParts}
 use Rattle.outcome.specs.declared.reply.Report.{Report}
 use Rattle.outcome.specs.declared.reply.RequestReply.{RequestReply}
-use Rattle.outcome.specs.declared.answer.Handled.{Handled}
 use Rattle.outcome.specs.declared.answer.RequestAnswer.{RequestAnswer}
 use Rattle.node.specs.State.{State, state}
 use Rattle.batch.specs.Selective.{selectivePcmd}
-use Rattle.outcome.specs.Request.{hwpidMatches, Outcome, CallResult, unansweredResult, unicastResult}
+use Rattle.outcome.specs.declared.reply.Effect.{Effect}
+use Rattle.outcome.specs.declared.reply.Effect.the-variants.{Nothing, Alone}
+use Rattle.outcome.specs.Effect.{onSuccess}
+use Rattle.outcome.specs.Request.{hwpidMatches, noReport, Outcome, CallResult, unansweredResult, unicastResult}
 
 -- ---- inside the handler: the node is split into parts; the lamps change last, apart from the memories
 
@@ -79,10 +81,6 @@ listMemories s list ms = runEntries (entryMemories s) (reading list .entries) ms
 abbrev pub listLamps : Settings → List ℕ → List Lamp → List Lamp
 listLamps s list ls = runEntries (entryLamps s) (reading list .entries) ls
 
--- a request that is answered and has no error
-abbrev pub succeeded : Outcome → Bool
-succeeded done = done .answered && eqb (done .error) 0
-
 -- the lamps after a request that succeeded; any other leaves them (`request-lamps`)
 unfoldable pub lampsAfterSuccess : Settings → Request → List Lamp → List Lamp
 lampsAfterSuccess s i ls =
@@ -97,100 +95,47 @@ pub record StartKnown (i : Request) : Type 0 where
   pub changes : i .pnum ≡ lightsPnum → i .pcmd ≤ commandPcmd Lower → changesLamps (i .pcmd) (i .pdata) ≡ true
   pub node-set : i .pnum ≡ osPnum → i .pcmd ≡ selectivePcmd → nodeSetSize ≤ length (i .pdata)
 
--- what executing a request leaves, except the lamps: whether it is answered, the memories, ErrN, the length of the data, the report,
--- and the buffer for the data
-pub record SeenOutcome : Type 0 where
-  pub answered : Bool
-  pub after : Memories
-  pub error : ℕ
-  pub length : ℕ
-  pub report : Report
+-- ---- the answer to a request
+
+-- the reply to a request with this outcome and this effect of a success; the length is that of the data, or of the response
+abbrev pub replyTo : Outcome → Effect → ℕ → RequestReply
+replyTo done effect size =
+    record { answered = done .answered; error = done .error; report = done .report; length = size; effect = onSuccess done effect }
+
+-- the reply to an error
+abbrev pub errorOnly : ℕ → RequestReply
+errorOnly error = record { answered = true; error = error; report = noReport; length = 0; effect = Nothing }
+
+-- the reply without an answer
+abbrev pub unansweredOnly : RequestReply
+unansweredOnly = record { answered = false; error = 0; report = noReport; length = 0; effect = Nothing }
+
+-- the reply of a peripheral with this ErrN and this length of the data
+abbrev pub peripheralOnly : (error size : ℕ) → RequestReply
+peripheralOnly error size =
+    record { answered = true; error = error; report = noReport; length = size; effect = cond (eqb error 0) Alone Nothing }
+
+-- what an answer leaves: the reply, and the buffer for the data or the response
+pub record SeenAnswer : Type 0 where
+  pub reply : RequestReply
   pub out : List ℕ
 
--- as the code has it: a reply, the memories and the buffer
-abbrev pub outcomeSeen : RequestReply → List ℕ → List ℕ → List ℕ → List ℕ → SeenOutcome
-outcomeSeen reply ram eeprom external out =
-    record {
-      answered = reply .answered;
-      after = memories ram eeprom external;
-      error = reply .error;
-      length = reply .length;
-      report = reply .report;
-      out = out;
-    }
-
--- as the definitions have it: an outcome whose data was written to the front of the buffer
-abbrev pub outcomeInBuffer : Outcome → List ℕ → SeenOutcome
-outcomeInBuffer done out =
-    record {
-      answered = done .answered;
-      after = memoriesOf (done .after);
-      error = done .error;
-      length = length (done .bytes);
-      report = done .report;
-      out = overwriteFront (done .bytes) out;
-    }
-
--- the report of a reply and whether it is a success, with the length of the response
-abbrev pub handledAs : RequestReply → ℕ → Handled
-handledAs done size = record { report = done .report; length = size; success = done .answered && eqb (done .error) 0 }
-
--- a response has a header before the data; without an answer there is none
-abbrev pub handledReply : RequestReply → Handled
-handledReply done = handledAs done (cond (done .answered) (responseHeaderSize + done .length) 0)
-
--- the response buffer, which has the data after the header, with the header written; without an answer it stays
-abbrev pub withResponseHeader : Settings → Frame → RequestReply → List ℕ → List ℕ
-withResponseHeader settings header done response =
-    cond (done .answered)
-    (responseHeader settings (header .pnum) (header .pcmd) (done .error) ++ drop responseHeaderSize response)
-    response
-
--- what a request to this node or to all leaves, except the lamps
-pub record SeenHandled : Type 0 where
-  pub success : Bool
-  pub after : Memories
-  pub length : ℕ
-  pub report : Report
-  pub response : List ℕ
-
 -- as the code has it
-abbrev pub handledSeen : Handled → List ℕ → List ℕ → List ℕ → List ℕ → SeenHandled
-handledSeen handled ram eeprom external response =
-    record {
-      success = handled .success;
-      after = memories ram eeprom external;
-      length = handled .length;
-      report = handled .report;
-      response = response;
-    }
+abbrev pub answerSeen : RequestReply → List ℕ → SeenAnswer
+answerSeen reply out = record { reply = reply; out = out }
 
--- as the definitions have it: the outcome of the request and the result of the call
-abbrev pub handledOf : Outcome → CallResult → SeenHandled
-handledOf done result =
-    record {
-      success = succeeded done;
-      after = memoriesOf (done .after);
-      length = result .length;
-      report = result .report;
-      response = result .response;
-    }
-
--- to all nodes
-abbrev pub handledBroadcast : Outcome → List ℕ → SeenHandled
-handledBroadcast done buffer = handledOf done (unansweredResult done buffer)
-
--- to this node
-abbrev pub handledUnicast : Settings → Request → Outcome → List ℕ → SeenHandled
-handledUnicast settings i done buffer = handledOf done (unicastResult settings i done buffer)
+-- as the definitions have it: the data is at the front of the buffer
+abbrev pub answerInBuffer : Outcome → Effect → List ℕ → SeenAnswer
+answerInBuffer done effect out = answerSeen (replyTo done effect (length (done .bytes))) (overwriteFront (done .bytes) out)
 
 -- to all nodes or to this one, by the NADR
 abbrev pub addressedResult : Settings → Frame → Request → Outcome → List ℕ → CallResult
 addressedResult settings header i done buffer =
     cond (eqb (header .nadr) broadcastNadr) (unansweredResult done buffer) (unicastResult settings i done buffer)
 
-abbrev pub handledAddressed : Settings → Frame → Request → Outcome → List ℕ → SeenHandled
-handledAddressed settings header i done buffer = handledOf done (addressedResult settings header i done buffer)
+-- the answer with the response of a call, if there is one
+abbrev pub answerInResponse : Outcome → Effect → CallResult → SeenAnswer
+answerInResponse done effect result = answerSeen (replyTo done effect (result .length)) (result .response)
 
 -- ---- at the public call
 

@@ -4,9 +4,13 @@ use batch::list::ListCheck;
 use dpa::error;
 use dpa::reply::Reply;
 ghost use mathlib.Core.Path.{_≡_};
-ghost use mathlib.Core.Bool.{true, false};
-ghost use Rattle.batch.specs.Batch.{reasonOf, placeOf};
-ghost use Rattle.outcome.specs.Request.{faultReport, noReport};
+ghost use mathlib.Core.List.{List};
+ghost use mathlib.Core.Bool.{cond};
+ghost use Prim.Native.Nat.{ℕ};
+ghost use lib.Dec.{eqb};
+ghost use Rattle.node.specs.State.{State};
+ghost use Rattle.outcome.specs.Request.{listRequest};
+ghost use Rattle.outcome.specs.Seen.{errorOnly, unansweredOnly, peripheralOnly, answerSeen, answerInBuffer};
 
 // What a request reports to the caller besides the response: the load mark; why the list of a batch cannot be read, and the place
 // of that fault in PData.
@@ -24,20 +28,6 @@ impl Report {
     };
 }
 
-// The report of a batch with this list; nothing if the list is sound.
-pub fn list_report(check: ListCheck) -> Report
-    ensures { λ r. ⌜ r ≡ faultReport (reasonOf check) (placeOf check) ⌝ }
-{
-    match check {
-        ListCheck::Sound => Report::NONE,
-        ListCheck::Broken { reason, at } => Report {
-            load: false,
-            reason,
-            place: at,
-        },
-    }
-}
-
 // What a request that was answered still has to change.
 pub enum Effect {
     // Nothing: an error, no answer, or a request that changes nothing.
@@ -50,46 +40,86 @@ pub enum Effect {
     Selective,
 }
 
-// Whether the request is answered, ErrN, the report, and the length of the response data.
+// Whether the request is answered, ErrN, the report, the length of the data or of the response, and what is still to be changed.
 pub struct RequestReply {
     pub answered: bool,
     pub error: u8,
     pub report: Report,
     pub length: usize,
+    pub effect: Effect,
 }
 
-// A reply without data.
-pub fn without_data(error: u8) -> RequestReply
-    ensures { λ r. ⌜ r ≡ record { answered = true; error = error; report = noReport; length = 0 } ⌝ }
+// The reply to an error.
+pub fn error_reply(error: u8) -> RequestReply
+    ensures { λ r. ⌜ r ≡ errorOnly error ⌝ }
 {
     RequestReply {
         answered: true,
         error,
         report: Report::NONE,
         length: 0,
+        effect: Effect::Nothing,
     }
 }
 
 // No answer.
 pub fn unanswered() -> RequestReply
-    ensures { λ r. ⌜ r ≡ record { answered = false; error = 0; report = noReport; length = 0 } ⌝ }
+    ensures { λ r. ⌜ r ≡ unansweredOnly ⌝ }
 {
     RequestReply {
         answered: false,
         error: error::NONE,
         report: Report::NONE,
         length: 0,
+        effect: Effect::Nothing,
     }
+}
+
+// The effect of a request to a peripheral with this ErrN.
+fn peripheral_effect(error: u8) -> Effect
+    ensures { λ r. ⌜ r ≡ cond (eqb error 0) Effect.Alone Effect.Nothing ⌝ }
+{
+    if error != error::NONE {
+        return Effect::Nothing;
+    }
+    Effect::Alone
 }
 
 // The reply of a peripheral, which has nothing to report.
 pub fn peripheral_reply(reply: Reply) -> RequestReply
-    ensures { λ r. ⌜ r ≡ record { answered = true; error = reply .error; report = noReport; length = reply .length } ⌝ }
+    ensures { λ r. ⌜ r ≡ peripheralOnly (reply .error) (reply .length) ⌝ }
 {
     RequestReply {
         answered: true,
         error: reply.error,
         report: Report::NONE,
         length: reply.length,
+        effect: peripheral_effect(reply.error),
+    }
+}
+
+// The reply to a batch whose list has this check: a sound list is still to be run, the fault of a broken one is reported.
+pub fn list_reply(check: ListCheck, effect: Effect) -> RequestReply
+    ensures { λ r. ⌜ ((list : List ℕ) (st : State) (o : List ℕ) → answerSeen r o ≡ answerInBuffer (listRequest check list st) effect o) ⌝ }
+{
+    match check {
+        ListCheck::Sound => RequestReply {
+            answered: true,
+            error: error::NONE,
+            report: Report::NONE,
+            length: 0,
+            effect,
+        },
+        ListCheck::Broken { reason, at } => RequestReply {
+            answered: true,
+            error: error::DATA,
+            report: Report {
+                load: false,
+                reason,
+                place: at,
+            },
+            length: 0,
+            effect: Effect::Nothing,
+        },
     }
 }

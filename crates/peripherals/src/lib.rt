@@ -1,4 +1,3 @@
-// Executing a request, except that the lamps stay: the memories, the lights, and OS 02 with the entries of a batch.
-pub mod entries;
+// The answer to a request: the HWPID, the peripherals with the OS, and what is still to be changed. Node and memories are only read.
+pub mod answer;
 pub mod os;
-pub mod peripheral;

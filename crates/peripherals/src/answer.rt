@@ -1,0 +1,58 @@
+// The answer to a request: ErrN, the response data, the report, and the effect that it still has to have.
+use crate::os::os_answer;
+use dpa::error;
+use dpa::frame::Frame;
+use dpa::pnum;
+use memory::block::Memory;
+use node::record::Node;
+use outcome::hwpid::hwpid_matches;
+use outcome::reply::RequestReply;
+use outcome::reply::error_reply;
+use outcome::reply::peripheral_reply;
+ghost use mathlib.Core.Path.{_≡_};
+ghost use Prim.Native.Nat.{_≤_};
+ghost use lib.ListN.{length};
+ghost use Rattle.dpa.specs.Frame.{pdataMax};
+ghost use Rattle.node.specs.State.{state, SoundState};
+ghost use Rattle.outcome.specs.Request.{headerRequest, execute};
+ghost use Rattle.outcome.specs.Effect.{requestEffect};
+ghost use Rattle.outcome.specs.Seen.{answerSeen, answerInBuffer};
+
+// Tests the HWPID, then asks the peripheral of the PNUM. The response data goes to the front of `out`.
+pub fn answer(
+    node: Node,
+    header: Frame,
+    pdata: &[u8],
+    eeprom: &[u8],
+    external: &[u8],
+    out: &mut [u8],
+) -> RequestReply
+    requires { ⌜ SoundState (state node (now eeprom) (now external)) × (pdataMax ≤ length (now out)) ⌝ }
+    ensures { λ r. ⌜ answerSeen r (now (out .exit))
+        ≡ answerInBuffer (execute (headerRequest header (now (pdata .entry))) (state node (now (eeprom .entry)) (now (external .entry))))
+        (requestEffect (headerRequest header (now (pdata .entry)))) (now (out .entry)) ⌝ }
+{
+    if !hwpid_matches(node.settings, header.hwpid) {
+        return error_reply(error::HWPID);
+    }
+    let pnum = header.pnum;
+    let pcmd = header.pcmd;
+    match pnum {
+        pnum::OS => os_answer(node.settings.address, pcmd, pdata, external, out),
+        pnum::EEPROM => {
+            peripheral_reply(memory::request::answer(Memory::Eeprom, eeprom, pcmd, pdata, out))
+        }
+        pnum::EXTERNAL => {
+            peripheral_reply(memory::request::answer(Memory::External, external, pcmd, pdata, out))
+        }
+        pnum::RAM => {
+            let ram = node.ram;
+            peripheral_reply(memory::request::answer(Memory::Ram, &ram, pcmd, pdata, out))
+        }
+        pnum::LIGHTS => {
+            let lamps = node.lamps;
+            peripheral_reply(lights::request::request(node.settings, lamps, pcmd, pdata, out))
+        }
+        _ => error_reply(error::PNUM),
+    }
+}
