@@ -23,34 +23,20 @@ pub checks : (rest : List ℕ) → Checks rest
 unfolding addWithCarry addByte sums blockSize initialLow imageError imageMatches codeCheck
 checks rest = record { load = refl; check = refl; mismatch = refl; plugin = refl; plugin-load = refl }
 
--- errors in their order, 5, 1, 6, 4, over any external memory: each request has the later faults too
-pub record CheckErrors (external : List ℕ) : Type 0 where
-  pub too-short : codeCheck external (4 ∷ 0xFF ∷ 0xFF ∷ 65 ∷ 0 ∷ 0 ∷ []) ≡ errorReply false 5
-  pub too-many : codeCheck external (4 ∷ 0xFF ∷ 0xFF ∷ 65 ∷ 0 ∷ 0 ∷ 0 ∷ 0 ∷ []) ≡ errorReply false 5
-  pub flag-bit-2 : codeCheck external (4 ∷ 0xFF ∷ 0xFF ∷ 65 ∷ 0 ∷ 0 ∷ 0 ∷ []) ≡ errorReply false 1
-  pub flag-bit-7 : codeCheck external (0x80 ∷ 0xFF ∷ 0xFF ∷ 0 ∷ 0 ∷ 0 ∷ 0 ∷ []) ≡ errorReply false 1
-  pub no-bytes : codeCheck external (3 ∷ 0xFF ∷ 0xFF ∷ 0 ∷ 0 ∷ 0 ∷ 0 ∷ []) ≡ errorReply false 6
-  pub not-20s : codeCheck external (2 ∷ 0xFF ∷ 0xFF ∷ 10 ∷ 0 ∷ 0 ∷ 0 ∷ []) ≡ errorReply false 6
-  pub not-64s : codeCheck external (1 ∷ 0xFF ∷ 0xFF ∷ 32 ∷ 0 ∷ 0 ∷ 0 ∷ []) ≡ errorReply false 6
-  pub outside : codeCheck external (0 ∷ 0xC1 ∷ 0x3F ∷ 64 ∷ 0 ∷ 0 ∷ 0 ∷ []) ≡ errorReply false 4
-  -- an image may end where external memory ends
-  pub at-end : imageError (imageOf (0 ∷ 0xC0 ∷ 0x3F ∷ 64 ∷ 0 ∷ 0 ∷ 0 ∷ [])) ≡ 0
-
--- the definition gives these errors
-pub check-errors : (external : List ℕ) → CheckErrors external
+-- errors in their order, 5, 1, 6, 4, over any external memory; each request has later faults too
+pub check-errors : (external : List ℕ)
+    → (codeCheck external (4 ∷ 0xFF ∷ 0xFF ∷ 65 ∷ 0 ∷ 0 ∷ []) ≡ errorReply false 5) × (codeCheck external (4 ∷ 0xFF ∷ 0xFF ∷ 65 ∷ 0 ∷ 0 ∷ 0 ∷ 0 ∷ []) ≡ errorReply false 5)
+    × (codeCheck external (4 ∷ 0xFF ∷ 0xFF ∷ 65 ∷ 0 ∷ 0 ∷ 0 ∷ []) ≡ errorReply false 1) × (codeCheck external (0x80 ∷ 0xFF ∷ 0xFF ∷ 0 ∷ 0 ∷ 0 ∷ 0 ∷ []) ≡ errorReply false 1)
+    × (codeCheck external (3 ∷ 0xFF ∷ 0xFF ∷ 0 ∷ 0 ∷ 0 ∷ 0 ∷ []) ≡ errorReply false 6)
+    × (codeCheck external (2 ∷ 0xFF ∷ 0xFF ∷ 10 ∷ 0 ∷ 0 ∷ 0 ∷ []) ≡ errorReply false 6) × (codeCheck external (1 ∷ 0xFF ∷ 0xFF ∷ 32 ∷ 0 ∷ 0 ∷ 0 ∷ []) ≡ errorReply false 6)
+    × (codeCheck external (0 ∷ 0xC1 ∷ 0x3F ∷ 64 ∷ 0 ∷ 0 ∷ 0 ∷ []) ≡ errorReply false 4)
 unfolding blockSize imageError codeCheck
-check-errors external =
-    record {
-      too-short = refl;
-      too-many = refl;
-      flag-bit-2 = refl;
-      flag-bit-7 = refl;
-      no-bytes = refl;
-      not-20s = refl;
-      not-64s = refl;
-      outside = refl;
-      at-end = refl;
-    }
+check-errors external = (refl, refl, refl, refl, refl, refl, refl, refl)
+
+-- an image may end where external memory ends
+pub at-end : imageError (imageOf (0 ∷ 0xC0 ∷ 0x3F ∷ 64 ∷ 0 ∷ 0 ∷ 0 ∷ [])) ≡ 0
+unfolding blockSize imageError
+at-end = refl
 
 -- over zeros, sums of 0 and of 255 stay and a low sum of 255 makes the high sum 255; document 01's byte FE; the largest plain sums
 pub record BlockExamples : Type 0 where

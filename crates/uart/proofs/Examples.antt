@@ -10,7 +10,7 @@ use Rattle.crc.proofs.Examples.{guideMessage}
 use Rattle.framing.proofs.Examples.{guideFramed}
 use Rattle.framing.specs.Framing.{flag, escape, reserved, escaped, escapedAll, framed}
 use Rattle.uart.specs.Receiver.{receiverFrom, newReceiver, limitOk, receiverOk, receiveFrom, receiveOf, Event, frame, dropped, dropCause, eventFor, begun, byteEvent, dataByte, stored, nextReceiver}
-use Rattle.uart.specs.Stream.{heardFrom}
+use Rattle.uart.specs.Stream.{heardFrom, answerEvent, callsOn}
 
 -- ---- what a new receiver hears
 
@@ -121,3 +121,11 @@ record-tests = (refl, refl, refl, refl, refl)
 pub refused-record : (bs : List ℕ) → receiveOf (receiverFrom 63 0 0 (replicate 65 0)) bs .refusal ≡ 1
 unfolding limitOk receiverOk receiveOf
 refused-record bs = refl
+
+-- ---- calls on a stream
+
+-- Two frames by four calls: 10 bytes; what is left of the first frame together with newer bytes; none; all that is left.
+pub leftovers-heard : callsOn (newReceiver false) (guideFramed ++ drop 1 guideFramed) (10 ∷ 10 ∷ 0 ∷ 14 ∷ [])
+    ≡ record { events = frame guideMessage ∷ frame guideMessage ∷ []; receiver = receiverFrom 62 1 0 (guideMessage ++ (0x7E ∷ replicate 55 0)); left = [] }
+unfolding shift shifts crcByte fold newReceiver limitOk receiverOk dropCause eventFor begun byteEvent dataByte stored nextReceiver receiveFrom receiveOf answerEvent callsOn
+leftovers-heard = refl

@@ -114,7 +114,7 @@ heardByParts r [] = heard [] r
 heardByParts r (p ∷ ps) =
     heardBefore (heardByCalls (length p) r p .events) (heardByParts (heardByCalls (length p) r p .receiver) ps)
 
--- ---- calls that get any bytes of the stream that are next
+-- ---- calls on the next bytes of the stream, any number of them
 
 -- what calls leave: frames and drops in order, the receiver, and the bytes of the stream that no call has taken
 pub record Calls : Type 0 where
