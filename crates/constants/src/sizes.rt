@@ -1,6 +1,7 @@
 // Counts, sizes and offsets.
 use crate::print;
 use batch::entry::HEAD_SIZE;
+use bonds::addresses::BONDS_SIZE;
 use book::locations::LOCATION_LENGTH;
 use book::locations::LONGEST_BOOK;
 use book::locations::SCENES_MAX;
@@ -8,7 +9,6 @@ use book::step::STEP_LENGTH;
 use book::step::STEPS_MAX;
 use dpa::frame::Frame;
 use dpa::node_set::NODE_SET_SIZE;
-use gateway::record::BONDS_SIZE;
 use lights::lamp::LAMPS;
 use lights::power::BITMAP_SIZE;
 use memory::block::Memory;
