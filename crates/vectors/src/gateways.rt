@@ -9,69 +9,68 @@ use gateway::record::Gateway;
 use gateway::sending::release;
 use gateway::sending::send;
 
-// Releases at this time; prints the confirmation and the next time.
+// Sends 5 bytes of PData over 2 hops, with response hops 3 and a delay of 20 ms; prints the refusal.
+fn send_at(gateway: Gateway, address: u8, time: u64) -> Gateway {
+    let frame = [address, 0, 0x71, 0, 0xFF, 0xFF, 1, 0, 0, 0, 100];
+    let answer = send(gateway, &frame, 2, 3, 20, time);
+    print_text(b"send, refusal");
+    print_number(answer.refusal as u64);
+    print_text(b"\n");
+    answer.gateway
+}
+
+// Releases; prints the confirmation and the next time.
 fn release_at(gateway: Gateway, time: u64) -> Gateway {
     let mut out = [0u8; Frame::RESPONSE_LONGEST];
     let answer = release(gateway, time, &mut out);
     let after = answer.gateway;
-    print_text(b"released at");
-    print_number(time);
-    print_text(b", next");
+    print_text(b"release, next");
     print_number(after.queue.next);
     print_text(b":");
     print_hex(&out, answer.length);
     after
 }
 
-// Two requests over 2 hops, with response hops 3 and a delay of 20 ms: to node 5 and to all nodes.
-fn mixed_hops() {
-    let bonded = bond(gateway_start(false, 7), 5);
-    let to_five = b"\x05\x00\x71\x00\xFF\xFF\x01\x00\x00\x00\x64";
-    let one = send(bonded.gateway, to_five, 2, 3, 20, 900);
-    let to_all =
-        b"\xFF\x00\x05\x01\xFF\xFF\x00\x00\x00\x00\x00\x00\x00\x00\x00\x00\x00\x00\x00\x00\x00\x00\x00";
-    let two = send(one.gateway, to_all, 2, 3, 20, 950);
-    let first = release_at(two.gateway, 1000);
-    let early = release_at(first, 1379);
-    release_at(early, 1380);
+// A call: the hundred thousands are the address of a send, or 0 for a release; the rest is the time.
+fn call(gateway: Gateway, coded: u32) -> Gateway {
+    let address = (coded / 100_000 % 256) as u8;
+    let time = (coded % 100_000) as u64;
+    if address == 0 {
+        return release_at(gateway, time);
+    }
+    send_at(gateway, address, time)
 }
 
-// Sends a request without PData; prints the refusal.
-fn send_at(gateway: Gateway, frame: &[u8], time: u64) -> Gateway {
-    let answer = send(gateway, frame, 0, 0, 0, time);
-    print_number(answer.refusal as u64);
-    answer.gateway
-}
-
-// Two requests to node 1.
-fn send_two(gateway: Gateway) -> Gateway {
-    let one = send_at(gateway, b"\x01\x00\x07\x01\xFF\xFF", 1000);
-    send_at(one, b"\x01\x00\x07\x01\xFF\xFF", 1000)
-}
-
-// Eight of them in an STD+LP network; no other node is bonded.
-fn send_eight() -> Gateway {
-    let bonded = bond(gateway_start(true, 0), 1);
-    let two = send_two(bonded.gateway);
-    let four = send_two(two);
-    let six = send_two(four);
-    send_two(six)
-}
-
-// The order of the refusals: 12 before 13 before 14, at a time before the last one.
-fn refusals() {
-    print_text(b"sends at 1000, then 999:");
-    let eight = send_eight();
-    let unbonded = send_at(eight, b"\x02\x00\x07\x01\xFF\xFF", 999);
-    let full = send_at(unbonded, b"\x01\x00\x07\x01\xFF\xFF", 999);
-    print_text(b"\n");
-    let freed = release_at(full, 1000);
-    print_text(b"a send at 999:");
-    send_at(freed, b"\x01\x00\x07\x01\xFF\xFF", 999);
-    print_text(b"\n");
+fn run(started: Gateway, calls: &[u32]) {
+    let mut gateway = started;
+    let mut i = 0;
+    while i < calls.len() {
+        gateway = call(gateway, calls[i]);
+        i += 1;
+    }
 }
 
 pub fn histories() {
-    mixed_hops();
-    refusals();
+    // To node 5 and to all nodes, a release that is too early, and one that finds none.
+    let five = bond(gateway_start(false, 7), 5);
+    run(five.gateway, &[5_00900, 255_00950, 1000, 1379, 1380, 1520]);
+    // Eight requests to node 1, the only bonded one. At a time before the last: another node, a full queue, a free place.
+    let one = bond(gateway_start(true, 0), 1);
+    run(
+        one.gateway,
+        &[
+            1_01000,
+            1_01000,
+            1_01000,
+            1_01000,
+            1_01000,
+            1_01000,
+            1_01000,
+            1_01000,
+            2_00999,
+            1_00999,
+            1000,
+            1_00999,
+        ],
+    );
 }
