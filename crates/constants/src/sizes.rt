@@ -1,6 +1,7 @@
 // Counts, sizes and offsets.
 use crate::print_all;
 use batch::entry::HEAD_SIZE;
+use bonds::addresses::BONDS_SIZE;
 use book::locations::LOCATION_LENGTH;
 use book::locations::LONGEST_BOOK;
 use book::locations::SCENES_MAX;
@@ -13,7 +14,6 @@ use dpa::sizes::EXTERNAL_SIZE;
 use dpa::sizes::RAM_SIZE;
 use framing::frame::LONGEST;
 use framing::frame::LONGEST_FRAMED;
-use gateway::record::BONDS_SIZE;
 use lights::lamp::LAMPS;
 use lights::power::BITMAP_SIZE;
 use memory::block::Memory;

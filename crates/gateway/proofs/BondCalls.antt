@@ -9,10 +9,10 @@ use Rattle.dpa.specs.NodeSet.{selects}
 use Rattle.dpa.proofs.Bool.{and-left, and-right, both}
 use Rattle.gateway.specs.declared.record.Gateway.{Gateway}
 use Rattle.gateway.specs.declared.record.BondAnswer.{BondAnswer}
-use Rattle.gateway.specs.Bonds.{canChange, changedBonds, bondsOk}
+use Rattle.bonds.specs.Bonds.{canChange, changedBonds, bondsOk}
 use Rattle.queue.specs.Queue.{queueOk}
 use Rattle.gateway.specs.Gateway.{gatewayFrom, gatewayOk, bondsAnswer, bondRefused, changeOf, bondCountOf, bondBitmapOf}
-use Rattle.gateway.proofs.Bonds.{changed-sound, changed-back, changed-undone, count-bonded}
+use Rattle.bonds.proofs.Bonds.{changed-sound, changed-back, changed-undone, count-bonded}
 
 -- a gateway that is sound has sound bonds
 pub gateway-bonds : (g : Gateway) → gatewayOk g ≡ true → bondsOk (g .bonds) ≡ true

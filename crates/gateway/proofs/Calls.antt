@@ -16,7 +16,7 @@ use Rattle.queue.specs.declared.record.SendQueue.{SendQueue}
 use Rattle.gateway.specs.declared.record.Gateway.{Gateway}
 use Rattle.gateway.specs.declared.record.BondAnswer.{BondAnswer}
 use Rattle.gateway.specs.declared.record.GatewayAnswer.{GatewayAnswer}
-use Rattle.gateway.specs.Bonds.{noBonds, bonded, bondedNode, canChange, changedBonds, canSend, bondsOk}
+use Rattle.bonds.specs.Bonds.{noBonds, bonded, bondedNode, canChange, changedBonds, canSend, bondsOk}
 use Rattle.queue.specs.Queue.{Outgoing, nadrOf, queueSize, timeMax, queueOk, QueueRule, networkIn, oldest, confirmationOf, clockOk, due, withTime, withRequest, withoutOldest}
 use Rattle.gateway.specs.Gateway.{gatewayFrom, gatewayOk, bondsAnswer, bondRefused, changeOf, clearOf, sendRefusal, gatewayAnswer, sendRequest, releaseRefusal, ReleaseResult, notReleased, releasedResult, releaseEffect, releaseOf}
 use Rattle.gateway.specs.History.{Call, bond, unbond, clear, count, bitmap, send, release, after, accepted, released, Handout, handout, HandoutOf, lateEnough}

@@ -8,7 +8,7 @@ use Rattle.dpa.specs.Settings.{addressOk}
 use Rattle.timing.specs.Slot.{baseSlot, networkOf, networkExtra, slotOf, directionTime, earliestOf}
 use Rattle.timing.specs.Confirm.{responseHopsSent}
 use Rattle.queue.specs.Queue.{newQueue, waitAfter, confirmationOf, allZero, widthsOk, waitingOk, emptyOk, placeOk, placesOk, queueOk, clockOk, due}
-use Rattle.gateway.specs.Bonds.{bondedNode, bondCount, canAdd, canSend, bondsOk}
+use Rattle.bonds.specs.Bonds.{bondedNode, bondCount, canAdd, canSend, bondsOk}
 use Rattle.gateway.specs.Gateway.{gatewayOk, changeOf, clearOf, bondCountOf, bondBitmapOf, sendRefusal, sendRequest, releaseRefusal, releaseEffect, releaseOf}
 use Rattle.gateway.specs.History.{afterAll, releasedAll}
 use Rattle.gateway.specs.Examples.{callRefusals, GatewayExamples}

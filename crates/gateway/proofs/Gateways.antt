@@ -6,11 +6,11 @@ use mathlib.Core.List.{List, [], _∷_}
 use Rattle.dpa.specs.Lists.{All}
 use Rattle.dpa.proofs.Bool.{and-left, both}
 use Rattle.gateway.specs.declared.record.Gateway.{Gateway}
-use Rattle.gateway.specs.Bonds.{bondsOk}
+use Rattle.bonds.specs.Bonds.{bondsOk}
 use Rattle.queue.specs.Queue.{newQueue, queueOk, QueueRule}
 use Rattle.gateway.specs.Gateway.{gatewayOk, GatewayRule, newGateway}
 use Rattle.gateway.specs.History.{Call, bond, unbond, clear, count, bitmap, send, release, InRange, after, afterAll}
-use Rattle.gateway.proofs.Bonds.{bonds-facts, bonds-test, add-sound, remove-sound, none-sound}
+use Rattle.bonds.proofs.Bonds.{bonds-facts, bonds-test, add-sound, remove-sound, none-sound}
 use Rattle.gateway.proofs.Calls.{queue-rule, change-cases, clear-cases, send-cases, release-cases, by-effect}
 use Rattle.queue.proofs.Rules.{queue-test, new-rule}
 use Rattle.queue.proofs.Changes.{place-rule, at-rule, with-rule, after-rule, due-facts}

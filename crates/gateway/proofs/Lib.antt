@@ -1,5 +1,4 @@
 pub mod BondCalls
-pub mod Bonds
 pub mod Calls
 pub mod Examples
 pub mod Gateways

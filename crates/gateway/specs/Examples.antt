@@ -49,10 +49,10 @@ shortTo address = outgoing (address ∷ 0 ∷ 7 ∷ 1 ∷ 255 ∷ 255 ∷ []) 0 
 
 -- ---- histories
 
--- a bond that is removed, a release that is too early, and then a time that goes back
+-- all bonds are removed while requests wait; a release is too early; and then a time goes back
 abbrev mixedCalls : List Call
 mixedCalls =
-    bond 5 ∷ send toFive 900 ∷ send toAll 950 ∷ unbond 5 ∷ releaseAt 1000 ∷ releaseAt 1379 ∷ send toAll 1378 ∷ releaseAt 1380 ∷ releaseAt 1550 ∷ []
+    bond 5 ∷ send toFive 900 ∷ send toAll 950 ∷ unbond 5 ∷ clear ∷ releaseAt 1000 ∷ releaseAt 1379 ∷ send toAll 1378 ∷ releaseAt 1380 ∷ releaseAt 1550 ∷ []
 
 -- eight requests wait, the last given at 1,000 ms; only node 1 is bonded
 abbrev fullCalls : List Call
@@ -82,7 +82,7 @@ pub record GatewayExamples : Type 0 where
       ∷ record { time = 1380; frame = toAll .frame; confirmation = 255 ∷ 0 ∷ 5 ∷ 1 ∷ 255 ∷ 255 ∷ 255 ∷ 7 ∷ 2 ∷ 5 ∷ 0 ∷ []; next = 1550 }
       ∷ []
   -- only the send at 1,378 is refused: the release that was too early gave 1,379
-  pub mixed-refused : callRefusals (newGateway false 7) mixedCalls ≡ 0 ∷ 0 ∷ 0 ∷ 0 ∷ 0 ∷ 0 ∷ 14 ∷ 0 ∷ 0 ∷ []
+  pub mixed-refused : callRefusals (newGateway false 7) mixedCalls ≡ 0 ∷ 0 ∷ 0 ∷ 0 ∷ 0 ∷ 0 ∷ 0 ∷ 14 ∷ 0 ∷ 0 ∷ []
   -- a full queue: 12 before 13 before 14 in a send, 3 before 14 in a release
   pub full-refused : callRefusals (newGateway true 0)
       (fullCalls ++ (send (shortTo 2) 999 ∷ send (shortTo 1) 999 ∷ send (shortTo 1) 1000 ∷ release 999 (replicate 63 0) ∷ releaseAt 999 ∷ []))

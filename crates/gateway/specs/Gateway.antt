@@ -13,7 +13,7 @@ use Rattle.gateway.specs.declared.record.CountAnswer.{CountAnswer}
 use Rattle.gateway.specs.declared.record.BitmapAnswer.{BitmapAnswer}
 use Rattle.gateway.specs.declared.record.GatewayAnswer.{GatewayAnswer}
 use Rattle.gateway.specs.declared.record.ReleaseAnswer.{ReleaseAnswer}
-use Rattle.gateway.specs.Bonds.{noBonds, bondCount, canChange, changedBonds, canSend, bondsOk, BondsRule}
+use Rattle.bonds.specs.Bonds.{noBonds, bondCount, canChange, changedBonds, canSend, bondsOk, BondsRule}
 use Rattle.queue.specs.Queue.{Outgoing, nadrOf, confirmationOf, queueSize, padded, queueOk, QueueRule, newQueue, networkIn, oldest, clockOk, due, withTime, withRequest, withoutOldest}
 
 abbrev pub gatewayFrom : List ℕ → SendQueue → Gateway

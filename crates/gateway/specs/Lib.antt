@@ -1,4 +1,3 @@
-pub mod Bonds
 pub mod Gateway
 pub mod History
 pub mod Examples

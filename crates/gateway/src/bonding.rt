@@ -1,19 +1,19 @@
 // The gateway rule, the start, and the calls on bonds.
-use crate::addresses::bonds_ok;
-use crate::addresses::can_change;
-use crate::addresses::change;
-use crate::addresses::count_bonds;
-use crate::record::BONDS_SIZE;
 use crate::record::BitmapAnswer;
 use crate::record::BondAnswer;
 use crate::record::CountAnswer;
 use crate::record::Gateway;
+use bonds::addresses::BONDS_SIZE;
+use bonds::addresses::bonds_ok;
+use bonds::addresses::can_change;
+use bonds::addresses::change;
+use bonds::addresses::count_bonds;
 use dpa::refusal;
 use queue::rule::queue_ok;
 use queue::updates::new_queue;
 ghost use mathlib.Core.Path.{_≡_};
 ghost use mathlib.Core.Bool.{true};
-ghost use Rattle.gateway.specs.Bonds.{bondsOk};
+ghost use Rattle.bonds.specs.Bonds.{bondsOk};
 ghost use Rattle.gateway.specs.Gateway.{gatewayOk, newGateway, bondsAnswer, bondRefused, changeOf, bondOf, unbondOf, clearOf, bondCountOf, bondBitmapOf};
 
 // Returns whether a record follows the gateway rule.

@@ -1,5 +1,4 @@
 // The gateway's bookkeeping: which addresses are bonded, and a send queue, in which requests wait until they may be sent.
-pub mod addresses;
 pub mod bonding;
 pub mod record;
 pub mod sending;

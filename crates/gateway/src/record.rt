@@ -1,9 +1,7 @@
 // The record of a gateway.
+use bonds::addresses::BONDS_SIZE;
 use dpa::frame::Frame;
 use queue::record::SendQueue;
-
-// Bytes of the bonds: a bit for each address from 0 to 255.
-pub const BONDS_SIZE: usize = 32;
 
 // Bit a % 8 of byte a / 8 of the bonds is set if address a is bonded.
 #[repr(C)]

@@ -1,9 +1,9 @@
 // The calls on the send queue: a request is put into it, and released when the air is free.
-use crate::addresses::can_change;
 use crate::bonding::gateway_ok;
 use crate::record::Gateway;
 use crate::record::GatewayAnswer;
 use crate::record::ReleaseAnswer;
+use bonds::addresses::can_change;
 use dpa::frame::Frame;
 use dpa::number::wide;
 use dpa::refusal;
@@ -24,7 +24,7 @@ ghost use mathlib.Core.List.{List};
 ghost use Prim.Native.Nat.{ℕ, _≤_};
 ghost use lib.ListN.{length};
 ghost use Rattle.dpa.specs.Frame.{headerSize, longestResponse};
-ghost use Rattle.gateway.specs.Bonds.{canSend};
+ghost use Rattle.bonds.specs.Bonds.{canSend};
 ghost use Rattle.queue.specs.Queue.{outgoing, nadrOf, timeMax, due};
 ghost use Rattle.gateway.specs.Gateway.{gatewayFrom, gatewayOk, sendRefusal, gatewayAnswer, sendRequest, releaseRefusal, releaseResult, notReleased, releaseEffect, releaseOf};
 

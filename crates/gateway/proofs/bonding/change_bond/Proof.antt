@@ -3,9 +3,9 @@ use mathlib.Core.Path.{_≡_, sym, ap, _∙_}
 use mathlib.Core.Bool.{true}
 use borrow.Author.Needs.{needs}
 use borrow.Author.Tests.{not-true, not-false}
-use Rattle.gateway.specs.Bonds.{canChange, bondsOk}
+use Rattle.bonds.specs.Bonds.{canChange, bondsOk}
 use Rattle.gateway.specs.Gateway.{gatewayOk, bondsAnswer, changeOf}
-use Rattle.gateway.proofs.Bonds.{changed-sound}
+use Rattle.bonds.proofs.Bonds.{changed-sound}
 use Rattle.gateway.proofs.BondCalls.{gateway-bonds, change-answer}
 use Rattle.gateway.proofs.bonding.change_bond.Statement.{statement}
 use Rattle.gateway.proofs.bonding.change_bond.Tie as tie

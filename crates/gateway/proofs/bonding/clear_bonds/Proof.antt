@@ -3,7 +3,7 @@ use mathlib.Core.Path.{sym, _∙_}
 use borrow.Author.Needs.{needs}
 use borrow.Author.Tests.{not-true, not-false}
 use Rattle.gateway.specs.Gateway.{clearOf}
-use Rattle.gateway.proofs.Bonds.{none-sound}
+use Rattle.bonds.proofs.Bonds.{none-sound}
 use Rattle.gateway.proofs.bonding.clear_bonds.Statement.{statement}
 use Rattle.gateway.proofs.bonding.clear_bonds.Tie as tie
 

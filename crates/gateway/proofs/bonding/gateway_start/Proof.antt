@@ -1,7 +1,7 @@
 -- `bonding::gateway_start`: no bonds, and a new queue.
 use mathlib.Core.Path.{ap}
 use borrow.Author.Needs.{needs}
-use Rattle.gateway.specs.Bonds.{noBonds}
+use Rattle.bonds.specs.Bonds.{noBonds}
 use Rattle.gateway.specs.Gateway.{gatewayFrom}
 use Rattle.gateway.proofs.bonding.gateway_start.Statement.{statement}
 use Rattle.gateway.proofs.bonding.gateway_start.Tie as tie

@@ -6,7 +6,7 @@ use borrow.Author.Needs.{needs}
 use borrow.Author.Tests.{not-true, not-false}
 use Rattle.dpa.specs.Frame.{frameFits}
 use Rattle.dpa.proofs.Headers.{fits-sizes}
-use Rattle.gateway.specs.Bonds.{canSend}
+use Rattle.bonds.specs.Bonds.{canSend}
 use Rattle.queue.specs.Queue.{nadrOf, clockOk}
 use Rattle.gateway.specs.Gateway.{gatewayOk, sendRefusal}
 use Rattle.gateway.proofs.sending.send_refusal.Statement.{statement}

@@ -5,11 +5,11 @@ use Rattle.timing.proofs.slot.network_of.Tie as tie
 
 returns : tie.Need-returns
 unfolding networkOf
-returns c = search
+returns c = rw (c .if1 .taken)
 
 returns-2 : tie.Need-returns-2
 unfolding networkOf
-returns-2 c = search
+returns-2 c = rw (c .if1 .left)
 
 pub network-of-spec : {M : Type 1} → statement M
 network-of-spec = tie.close (tie.spec returns returns-2)

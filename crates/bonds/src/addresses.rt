@@ -1,5 +1,4 @@
-// Bonded addresses: a bit for each.
-use crate::record::BONDS_SIZE;
+// Which addresses are bonded, and the changes of that.
 use dpa::node_set::NODE_SET_SIZE;
 use dpa::node_set::selects;
 use dpa::number::wide_word;
@@ -8,7 +7,10 @@ ghost use mathlib.Core.Path.{_≡_};
 ghost use mathlib.Core.Bool.{true};
 ghost use Prim.Native.Nat.{_%_, _^_, _≤_};
 ghost use lib.Count.{ones};
-ghost use Rattle.gateway.specs.Bonds.{bondCount, canChange, changedBonds, bondsOk};
+ghost use Rattle.bonds.specs.Bonds.{bondCount, canChange, changedBonds, bondsOk};
+
+// Bytes of the bonds: bit a % 8 of byte a / 8 is set if address a is bonded.
+pub const BONDS_SIZE: usize = 32;
 
 // Returns whether only addresses that a node can have are bonded. The bytes after those of a node set have the addresses from 240 on.
 pub fn bonds_ok(bonds: [u8; BONDS_SIZE]) -> bool

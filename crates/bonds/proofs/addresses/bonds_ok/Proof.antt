@@ -5,10 +5,10 @@ use lib.ListN.{length}
 use borrow.Author.Needs.{needs}
 use Rattle.dpa.specs.Lists.{Bytes}
 use Rattle.dpa.proofs.Bytes.{bytes-owned}
-use Rattle.gateway.specs.Bonds.{bondsSize}
-use Rattle.gateway.proofs.Bonds.{zero-fails, byte-fails, last-tested}
-use Rattle.gateway.proofs.addresses.bonds_ok.Statement.{statement}
-use Rattle.gateway.proofs.addresses.bonds_ok.Tie as tie
+use Rattle.bonds.specs.Bonds.{bondsSize}
+use Rattle.bonds.proofs.Bonds.{zero-fails, byte-fails, last-tested}
+use Rattle.bonds.proofs.addresses.bonds_ok.Statement.{statement}
+use Rattle.bonds.proofs.addresses.bonds_ok.Tie as tie
 
 size : (c : tie.Start) → length (c .args .t1) ≡ bondsSize
 size c = search needs

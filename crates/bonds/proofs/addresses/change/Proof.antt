@@ -6,10 +6,10 @@ use native.Mathlib.Omega.{arith}
 use lib.ListN.{getD, set}
 use borrow.Author.Needs.{needs}
 use Rattle.dpa.proofs.NodeSets.{added-small, named-min}
-use Rattle.gateway.specs.Bonds.{bondsSize, canChange, changedBonds}
-use Rattle.gateway.proofs.Bonds.{bonds-facts, add-facts, remove-facts, node-inside, changed-inside}
-use Rattle.gateway.proofs.addresses.change.Statement.{statement}
-use Rattle.gateway.proofs.addresses.change.Tie as tie
+use Rattle.bonds.specs.Bonds.{bondsSize, canChange, changedBonds}
+use Rattle.bonds.proofs.Bonds.{bonds-facts, add-facts, remove-facts, node-inside, changed-inside}
+use Rattle.bonds.proofs.addresses.change.Statement.{statement}
+use Rattle.bonds.proofs.addresses.change.Tie as tie
 
 index : (c : tie.After-wide-word) → c .wide-word .result < bondsSize
 index c =

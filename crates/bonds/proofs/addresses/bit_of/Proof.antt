@@ -1,8 +1,8 @@
 -- `addresses::bit_of`: a power of 2 below 256.
 use borrow.Author.Needs.{needs}
-use Rattle.gateway.proofs.Bonds.{bit-shifted}
-use Rattle.gateway.proofs.addresses.bit_of.Statement.{statement}
-use Rattle.gateway.proofs.addresses.bit_of.Tie as tie
+use Rattle.bonds.proofs.Bonds.{bit-shifted}
+use Rattle.bonds.proofs.addresses.bit_of.Statement.{statement}
+use Rattle.bonds.proofs.addresses.bit_of.Tie as tie
 
 returns : tie.Need-returns
 returns c = bit-shifted (c .args .address)

@@ -17,7 +17,7 @@ use Rattle.dpa.proofs.Bool.{and-left, and-right, both, and-right-false, or-left
 use Rattle.dpa.proofs.Ranges.{node-range}
 use Rattle.dpa.proofs.Bytes.{bytes-set, bytes-tested}
 use Rattle.dpa.proofs.NodeSets.{byte-none, selects-first, selects-next, selects-outside, selects-inside, named-min, byte-clear, added-small, selects-added, selects-removed, ones-bits}
-use Rattle.gateway.specs.Bonds.{canChange, changedBonds, bondsSize, noBonds, bonded, withBond, withoutBond, bondCount, canAdd, bondedNode, bondsOk, BondsRule}
+use Rattle.bonds.specs.Bonds.{canChange, changedBonds, bondsSize, noBonds, bonded, withBond, withoutBond, bondCount, canAdd, bondedNode, bondsOk, BondsRule}
 
 -- ---- the rule as a test and as facts
 

@@ -4,10 +4,10 @@ use mathlib.Core.Bool.{true}
 use borrow.Author.Needs.{needs}
 use borrow.Author.Tests.{not-true, not-false}
 use Rattle.dpa.specs.Settings.{nodeAddress}
-use Rattle.gateway.specs.Bonds.{canAdd, bondedNode}
-use Rattle.gateway.proofs.Bonds.{node-untested}
-use Rattle.gateway.proofs.addresses.can_change.Statement.{statement}
-use Rattle.gateway.proofs.addresses.can_change.Tie as tie
+use Rattle.bonds.specs.Bonds.{canAdd, bondedNode}
+use Rattle.bonds.proofs.Bonds.{node-untested}
+use Rattle.bonds.proofs.addresses.can_change.Statement.{statement}
+use Rattle.bonds.proofs.addresses.can_change.Tie as tie
 
 node : (c : tie.Else1) → nodeAddress (c .before .before .before .args .address) ≡ true
 node c = sym (c .before .node-address .ensures) ∙ not-false _ (c .if1 .left)

@@ -4,10 +4,10 @@ use Prim.Native.Nat.{ℕ, _+_, _-_, _*_, _≤_}
 use native.Mathlib.Omega.{arith}
 use lib.ListN.{take}
 use borrow.Author.Needs.{needs}
-use Rattle.gateway.specs.Bonds.{bondCount}
-use Rattle.gateway.proofs.Bonds.{bonds-facts, count-start, count-next, count-sound}
-use Rattle.gateway.proofs.addresses.count_bonds.Statement.{statement}
-use Rattle.gateway.proofs.addresses.count_bonds.Tie as tie
+use Rattle.bonds.specs.Bonds.{bondCount}
+use Rattle.bonds.proofs.Bonds.{bonds-facts, count-start, count-next, count-sound}
+use Rattle.bonds.proofs.addresses.count_bonds.Statement.{statement}
+use Rattle.bonds.proofs.addresses.count_bonds.Tie as tie
 
 abbrev Inv-loop : tie.InvT-loop
 Inv-loop bonds count₀ i₀ count i = (i ≤ 30) × (count ≤ 8 * i) × (count ≡ bondCount (take i bonds))

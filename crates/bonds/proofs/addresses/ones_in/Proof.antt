@@ -1,8 +1,8 @@
 -- `addresses::ones_in`: at most eight of eight bits.
 use mathlib.Core.Path.{refl}
 use lib.Count.{ones-le}
-use Rattle.gateway.proofs.addresses.ones_in.Statement.{statement}
-use Rattle.gateway.proofs.addresses.ones_in.Tie as tie
+use Rattle.bonds.proofs.addresses.ones_in.Statement.{statement}
+use Rattle.bonds.proofs.addresses.ones_in.Tie as tie
 
 returns : tie.Need-returns
 returns c = (refl, ones-le 8 (c .args .byte) (c .fits .byte .fits))
