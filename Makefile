@@ -4,17 +4,21 @@
 PREFIX = /usr/local
 VERSION = $(shell sed -n 's/^.define GRELFINT_VERSION "\(.*\)"$$/\1/p' include/grelfint.h)
 installed = $(DESTDIR)$(PREFIX)
+archive = target/staticlib/libgrelfint.a
+sources = crates.txt $(shell find crates -name must-fail -prune -o -type f -print)
 
-all:
+all: $(archive)
+
+$(archive): $(sources)
 	rt staticlib grelfint
 
 check:
 	.ci/run
 
-install: all
+install: $(archive)
 	install -d "$(installed)/include" "$(installed)/lib/pkgconfig"
 	install -m 644 include/grelfint.h "$(installed)/include"
-	install -m 644 target/staticlib/libgrelfint.a "$(installed)/lib"
+	install -m 644 $(archive) "$(installed)/lib"
 	sed 's|@PREFIX@|$(PREFIX)|; s|@VERSION@|$(VERSION)|' grelfint.pc.in >"$(installed)/lib/pkgconfig/grelfint.pc"
 
 .PHONY: all check install
