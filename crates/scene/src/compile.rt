@@ -3,7 +3,8 @@ use crate::fill::SizeLimits;
 use crate::request::write_output;
 use batch::list::BATCH;
 use batch::selective::SELECTIVE_BATCH;
-use book::locations::book_ok;
+use book::check::BookCheck;
+use book::check::check_book;
 use book::locations::scene_location;
 use dpa::frame::Frame;
 use dpa::node_set::NodeSet;
@@ -98,9 +99,9 @@ fn compile_scene(
     ensures { λ r. ⌜ compileResult r (now (out .exit))
         ≡ compileScene (now (book .entry)) scene (requestsWith limits header (now (front .entry))) (now (out .entry)) ⌝ }
 {
-    if !book_ok(book) {
+    let BookCheck::Sound = check_book(book) else {
         return refused(refusal::BOOK, 0);
-    }
+    };
     let scenes = wide(book[0]);
     if scenes <= scene {
         return refused(refusal::SCENE, 0);
