@@ -15,9 +15,13 @@ ghost use Rattle.book.specs.Check.{checkBodies, checkBook};
 pub enum BookFault {
     Empty,
     // Too many scenes.
-    Scenes { scenes: usize },
+    Scenes {
+        scenes: usize,
+    },
     // The scene locations end at byte `end`, after the book.
-    Locations { end: usize },
+    Locations {
+        end: usize,
+    },
     // A scene's body is said to start at byte `offset`; the bytes before it end at `start`.
     Start {
         scene: usize,
@@ -25,9 +29,14 @@ pub enum BookFault {
         start: usize,
     },
     // A scene has too many steps.
-    Steps { scene: usize, steps: usize },
+    Steps {
+        scene: usize,
+        steps: usize,
+    },
     // The last body ends at byte `end`, which is not the end of the book.
-    End { end: usize },
+    End {
+        end: usize,
+    },
 }
 
 // The result of checking a book.
