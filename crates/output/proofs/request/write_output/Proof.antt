@@ -9,11 +9,11 @@ use Rattle.dpa.specs.declared.frame.Frame.{Frame}
 use Rattle.book.specs.Book.{stepsIn}
 use Rattle.entries.specs.Group.{concat}
 use Rattle.book.proofs.Positions.{steps-length}
-use Rattle.scene.specs.Fill.{requestsWith}
-use Rattle.scene.proofs.Outputs.{output-length, request-count}
-use Rattle.scene.proofs.Progress.{steps-fit, output-written}
-use Rattle.scene.proofs.request.write_output.Statement.{statement}
-use Rattle.scene.proofs.request.write_output.Tie as tie
+use Rattle.output.specs.Fill.{requestsWith}
+use Rattle.output.proofs.Outputs.{output-length, request-count}
+use Rattle.output.proofs.Progress.{steps-fit, output-written}
+use Rattle.output.proofs.request.write_output.Statement.{statement}
+use Rattle.output.proofs.request.write_output.Tie as tie
 
 -- the start, from where the length bytes are written
 abbrev start : tie.After-write-lengths → tie.Start

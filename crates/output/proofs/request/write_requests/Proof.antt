@@ -21,14 +21,14 @@ use Rattle.dpa.specs.Lists.{All}
 use Rattle.dpa.proofs.All.{all-drop}
 use Rattle.step.proofs.GoodSteps.{good-steps}
 use Rattle.entries.proofs.EntryWritable.{entry-writable}
-use Rattle.scene.specs.Compile.{emptyListSize}
-use Rattle.scene.specs.Fill.{requestsWith, StartsWithSpans}
-use Rattle.scene.proofs.Batches.{entry-limit}
-use Rattle.scene.proofs.Remaining.{remainingBytes, requests-bytes}
-use Rattle.scene.proofs.Progress.{Remaining, Progress, progress-start, progress-end, remaining-end, separator-room, entry-room, bytes-more}
-use Rattle.scene.proofs.Spans.{NextSpan, next-span}
-use Rattle.scene.proofs.request.write_requests.Statement.{statement}
-use Rattle.scene.proofs.request.write_requests.Tie as tie
+use Rattle.output.specs.Requests.{emptyListSize}
+use Rattle.output.specs.Fill.{requestsWith, StartsWithSpans}
+use Rattle.output.proofs.Batches.{entry-limit}
+use Rattle.output.proofs.Remaining.{remainingBytes, requests-bytes}
+use Rattle.output.proofs.Progress.{Remaining, Progress, progress-start, progress-end, remaining-end, separator-room, entry-room, bytes-more}
+use Rattle.output.proofs.Spans.{NextSpan, next-span}
+use Rattle.output.proofs.request.write_requests.Statement.{statement}
+use Rattle.output.proofs.request.write_requests.Tie as tie
 
 abbrev Inv-loop : tie.InvT-loop
 Inv-loop body count spans limits header front out₀ at end₀ size₀ step₀ index₀ out end size step index =

@@ -18,9 +18,9 @@ use Rattle.entries.specs.EntrySize.{oneStepMax, FirstEntry}
 use Rattle.step.proofs.Faults.{Good}
 use Rattle.entries.proofs.Groups.{length-group}
 use Rattle.entries.proofs.EntryGroups.{EntryGroup, entry-groups, joining-keeps}
-use Rattle.scene.specs.Fill.{spanLength, spanBytes, StartsWithSpans}
-use Rattle.scene.proofs.Remaining.{entries-next}
-use Rattle.scene.proofs.Progress.{Remaining, remaining-more}
+use Rattle.output.specs.Fill.{spanLength, spanBytes, StartsWithSpans}
+use Rattle.output.proofs.Remaining.{entries-next}
+use Rattle.output.proofs.Progress.{Remaining, remaining-more}
 
 -- ---- the first group of a list, which continues `cur`, and the groups of the rest
 pub record FirstGroup {A : Type 0} (fits : List A → A → Bool) (cur xs r : List A) (rs : List (List A)) : Type 0 where

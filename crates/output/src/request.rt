@@ -20,9 +20,9 @@ ghost use Rattle.dpa.specs.Frame.{pdataMax, headerBytes};
 ghost use Rattle.book.specs.Book.{stepsMax, stepLength, stepsIn};
 ghost use Rattle.entries.specs.Group.{concat};
 ghost use Rattle.step.specs.Step.{AllStepsGood};
-ghost use Rattle.scene.specs.Compile.{Limits};
-ghost use Rattle.scene.specs.Call.{output, minOutput};
-ghost use Rattle.scene.specs.Fill.{requestsWith, nextSize, separatorBytes, StartsWithSpans};
+ghost use Rattle.output.specs.Requests.{Limits};
+ghost use Rattle.output.specs.Output.{output, minOutput};
+ghost use Rattle.output.specs.Fill.{requestsWith, nextSize, separatorBytes, StartsWithSpans};
 
 // Writes what a request starts with: its header, and the bytes in front of its list. Returns the position after them.
 fn write_prefix(header: Frame, front: &[u8], out: &mut [u8], at: usize) -> usize

@@ -7,8 +7,8 @@ use lib.ListN.{length, getD, take, drop, length-append, length-drop}
 use lib.Seq.{take-at, drop-at}
 use Rattle.dpa.proofs.Lists.{slice-to-end}
 use Rattle.entries.specs.Group.{concat}
-use Rattle.scene.specs.Call.{splitBy, requestsIn, lengths, output, totalLength, CompleteOutput}
-use Rattle.scene.proofs.Outputs.{lengths-length}
+use Rattle.output.specs.Output.{splitBy, requestsIn, lengths, output, totalLength, CompleteOutput}
+use Rattle.output.proofs.Outputs.{lengths-length}
 
 -- the bytes hold the first request, of the first length n
 pub first-covered : (ns bs : List ℕ) {n : ℕ} → (length ns ≡ 0 → ⊥) → n ≡ getD ns 0 0 → totalLength ns ≤ length bs → n ≤ length bs

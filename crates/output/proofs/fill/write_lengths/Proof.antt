@@ -11,16 +11,16 @@ use Rattle.book.specs.Book.{stepsIn}
 use Rattle.entries.specs.Join.{entriesOf}
 use Rattle.book.proofs.Positions.{steps-length}
 use Rattle.step.proofs.GoodSteps.{good-steps}
-use Rattle.scene.specs.Compile.{emptyListSize}
-use Rattle.scene.specs.Call.{lengths}
-use Rattle.scene.specs.Fill.{requestsWith, spanLength, maxSpanBytes}
-use Rattle.scene.proofs.Outputs.{lengths-length}
-use Rattle.scene.proofs.Batches.{entry-limit}
-use Rattle.scene.proofs.Remaining.{remainingLengths, requests-lengths}
-use Rattle.scene.proofs.Progress.{Remaining, remaining-start, Progress, progress-start, progress-end, remaining-end, lengths-room, lengths-more}
-use Rattle.scene.proofs.Spans.{SpansWritten, span-room, spans-more, spans-end}
-use Rattle.scene.proofs.fill.write_lengths.Statement.{statement}
-use Rattle.scene.proofs.fill.write_lengths.Tie as tie
+use Rattle.output.specs.Requests.{emptyListSize}
+use Rattle.output.specs.Output.{lengths}
+use Rattle.output.specs.Fill.{requestsWith, spanLength, maxSpanBytes}
+use Rattle.output.proofs.Outputs.{lengths-length}
+use Rattle.output.proofs.Batches.{entry-limit}
+use Rattle.output.proofs.Remaining.{remainingLengths, requests-lengths}
+use Rattle.output.proofs.Progress.{Remaining, remaining-start, Progress, progress-start, progress-end, remaining-end, lengths-room, lengths-more}
+use Rattle.output.proofs.Spans.{SpansWritten, span-room, spans-more, spans-end}
+use Rattle.output.proofs.fill.write_lengths.Statement.{statement}
+use Rattle.output.proofs.fill.write_lengths.Tie as tie
 
 abbrev Inv-loop : tie.InvT-loop
 Inv-loop body count limits front spans₀ out₀ at prefix step₀ size₀ end₀ index₀ spans out step size end index =

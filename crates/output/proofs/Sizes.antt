@@ -12,8 +12,8 @@ use Rattle.batch.proofs.RoundTrip.{entry-length}
 use Rattle.book.specs.declared.step.Step.{Step}
 use Rattle.entries.specs.Entry.{groupData, joinedEntry}
 use Rattle.step.proofs.Faults.{Good}
-use Rattle.scene.specs.Compile.{Limits, joinedEntries, listOf, entrySize, emptyListSize, batchesOf, requestWith}
-use Rattle.scene.proofs.Batches.{BatchRule, batches-rule}
+use Rattle.output.specs.Requests.{Limits, joinedEntries, listOf, entrySize, emptyListSize, batchesOf, requestWith}
+use Rattle.output.proofs.Batches.{BatchRule, batches-rule}
 
 -- one more entry at the end of a list adds its bytes
 pub entries-snoc : (h : ℕ) (rs : List (List Step)) (r : List Step)

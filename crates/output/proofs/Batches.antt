@@ -17,7 +17,7 @@ use Rattle.entries.proofs.Groups.{all-group, concat-group}
 use Rattle.dpa.proofs.All.{all-snoc}
 use Rattle.step.proofs.Faults.{Good}
 use Rattle.entries.proofs.EntryGroups.{EntryGroup, entry-groups}
-use Rattle.scene.specs.Compile.{Limits, fitsBatch, listOf, batchesOf, entryLimit, listLimit, selectedEntryLimit, selectedListLimit}
+use Rattle.output.specs.Requests.{Limits, fitsBatch, listOf, batchesOf, entryLimit, listLimit, selectedEntryLimit, selectedListLimit}
 
 -- groups that joining makes, in a list of at most `listMax` bytes
 pub record BatchRule (entryMax listMax h : ℕ) (rs : List (List Step)) : Type 0 where

@@ -1,80 +1,22 @@
--- The output of a compile call: the requests can be read back from it, and it fits its buffer; when it is written.
-use mathlib.Core.List.{List, [], _∷_}
+-- What a compile call writes and answers.
+use mathlib.Core.List.{List}
 use mathlib.Core.Path.{_≡_, refl, ap, _∙_}
 use mathlib.Core.Bool.{Bool, true, false, not}
-use Prim.Native.Nat.{ℕ, suc, _+_, _*_, _≤_, _<_}
-use native.Mathlib.Omega.{arith}
-use lib.ListN.{length, length-append, length-map, drop}
-use lib.Seq.{take-append-seam, drop-append-seam, take-at, drop-at, sets}
+use Prim.Native.Nat.{ℕ, _≤_, _<_}
+use lib.ListN.{length, drop}
+use lib.Seq.{take-append-seam, sets}
 use lib.Dec.{ltb, leb}
 use borrow.Author.Tests.{lt-leb, le-ltb}
-use Rattle.dpa.specs.declared.frame.Frame.{Frame}
-use Rattle.dpa.specs.Frame.{longestFrame}
 use Rattle.dpa.proofs.Bool.{by-cond}
 use Rattle.dpa.proofs.Lists.{sets-front}
-use Rattle.dpa.specs.Lists.{All}
 use Rattle.book.specs.declared.step.Step.{Step}
 use Rattle.step.specs.declared.fault.StepsCheck.{StepsCheck}
 use Rattle.step.specs.declared.fault.StepsCheck.the-variants.{AllGood, Bad}
-use Rattle.entries.specs.Group.{concat}
-use Rattle.entries.specs.Join.{joins, entriesOf}
-use Rattle.book.specs.Book.{stepsMax, sceneCount, bookOk, sceneOf}
+use Rattle.book.specs.Book.{sceneCount, bookOk, sceneOf}
 use Rattle.step.specs.Step.{firstBadFrom}
-use Rattle.step.proofs.Faults.{Good}
-use Rattle.entries.proofs.Groups.{length-group}
-use Rattle.scene.specs.declared.fill.SizeLimits.{SizeLimits}
-use Rattle.scene.specs.Compile.{Limits, fitsBatch, batchesOf, requestWith}
-use Rattle.scene.specs.Call.{lengths, output, splitBy, requestsIn, minOutput, CompileResult, outputOf, refusedWith, outputInBuffer, compileSteps, compileScene, compileTo}
-use Rattle.scene.specs.Fill.{requestsWith}
-use Rattle.scene.proofs.Sizes.{FrameSized, requests-fit}
-
--- ---- the requests are read back
-
--- as many lengths as requests
-pub lengths-length : (rs : List (List ℕ)) → length (lengths rs) ≡ length rs
-lengths-length [] = refl
-lengths-length (r ∷ rs) = ap suc (lengths-length rs)
-
-split-back : (rs : List (List ℕ)) → splitBy (lengths rs) (concat rs) ≡ rs
-split-back [] = refl
-split-back (r ∷ rs) = rw (take-append-seam r (concat rs), drop-append-seam r (concat rs), split-back rs)
-
--- an output is read back as its requests
-pub requests-back : (rs : List (List ℕ)) → requestsIn (output rs) ≡ rs
-unfolding requestsIn
-requests-back rs =
-    rw (take-at (lengths rs) (concat rs) (length rs) (lengths-length rs), drop-at (lengths rs) (concat rs) (length rs) (lengths-length rs))
-    (split-back rs)
-
--- ---- the output fits its buffer
-
--- size of an output
-pub output-length : (rs : List (List ℕ)) → length (output rs) ≡ suc (length rs + length (concat rs))
-output-length rs = omega (arith, length-append (lengths rs) (concat rs), lengths-length rs)
-
-joined-length : (rs : List (List ℕ)) → All FrameSized rs → length (concat rs) ≤ longestFrame * length rs
-joined-length [] a = omega arith
-joined-length (r ∷ rs) a = omega (arith, a .0 .1, length-append r (concat rs), joined-length rs (a .1))
-
-module _ (limits : SizeLimits) (header : Frame) (front : List ℕ) where
-  -- no more requests than steps
-  pub request-count : (ss : List Step) → length (requestsWith limits header front ss) ≤ length ss
-  request-count ss =
-      omega (
-        arith,
-        length-map (batchesOf (limits .entry) (limits .list) (header .hwpid) ss) (requestWith header front),
-        length-group (fitsBatch (limits .list) (header .hwpid)) (entriesOf (limits .entry) ss),
-        length-group (joins (limits .entry)) ss,
-      )
-
-  -- the output of any scene fits: at most `stepsMax` requests, each no longer than a frame
-  pub output-fits : Limits (limits .entry) (limits .list) front → (ss : List Step) → length ss ≤ stepsMax → All Good ss
-      → length (output (requestsWith limits header front ss)) ≤ minOutput
-  output-fits l ss n g =
-      let rs = requestsWith limits header front ss in
-      omega (arith, output-length rs, joined-length rs (requests-fit l header ss g), request-count ss)
-
--- ---- what the call writes
+use Rattle.output.specs.Output.{output, requestsIn, minOutput}
+use Rattle.scene.specs.Call.{CompileResult, outputOf, refusedWith, outputInBuffer, compileSteps, compileScene, compileTo}
+use Rattle.output.proofs.Outputs.{requests-back}
 
 -- a well-formed book that has the scene, and no bad step in it
 pub record Faultless (b : List ℕ) (k : ℕ) : Type 0 where

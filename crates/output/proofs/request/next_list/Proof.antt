@@ -8,9 +8,9 @@ use borrow.Author.Needs.{needs}
 use Rattle.dpa.specs.Frame.{headerBytes}
 use Rattle.batch.specs.Batch.{closingZero}
 use Rattle.entries.proofs.Writing.{two-writes}
-use Rattle.scene.proofs.Remaining.{list-open, list-full}
-use Rattle.scene.proofs.request.next_list.Statement.{statement}
-use Rattle.scene.proofs.request.next_list.Tie as tie
+use Rattle.output.proofs.Remaining.{list-open, list-full}
+use Rattle.output.proofs.request.next_list.Statement.{statement}
+use Rattle.output.proofs.request.next_list.Tie as tie
 
 -- what a request starts with
 abbrev prefix : tie.Start → List ℕ

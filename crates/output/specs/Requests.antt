@@ -34,11 +34,11 @@ abbrev pub emptyListSize : ℕ
 emptyListSize = 1
 
 -- whether a list stays within `listMax` with one more entry
-abbrev pub fitsBatch : ℕ → ℕ → List (List Step) → List Step → Bool
+abbrev pub fitsBatch : (listMax h : ℕ) → List (List Step) → List Step → Bool
 fitsBatch listMax h groups group = leb (length (listOf h (groups ++ (group ∷ [])))) listMax
 
 -- the batches of a scene, each a list of entries, filled greedily from the left
-abbrev pub batchesOf : ℕ → ℕ → ℕ → List Step → List (List (List Step))
+abbrev pub batchesOf : (entryMax listMax h : ℕ) → List Step → List (List (List Step))
 batchesOf entryMax listMax h ss = group (fitsBatch listMax h) (entriesOf entryMax ss)
 
 -- ---- requests
@@ -53,12 +53,12 @@ pub record Limits (entryMax listMax : ℕ) (front : List ℕ) : Type 0 where
 abbrev pub requestWith : Frame → List ℕ → List (List Step) → List ℕ
 requestWith header front groups = headerBytes header ++ (front ++ listOf (header .hwpid) groups)
 
--- a request to peripheral OS with this PCMD
-abbrev pub requestBytes : ℕ → List ℕ → ℕ → ℕ → List (List Step) → List ℕ
+-- a request to peripheral OS with this PCMD, for address a and profile h
+abbrev pub requestBytes : (pcmd : ℕ) (front : List ℕ) (a h : ℕ) → List (List Step) → List ℕ
 requestBytes pcmd front a h groups = requestWith (frame a osPnum pcmd h) front groups
 
 -- the requests of a scene within two limits, with any PCMD and any bytes in front of the lists
-abbrev pub requestsOf : ℕ → ℕ → ℕ → List ℕ → ℕ → ℕ → List Step → List (List ℕ)
+abbrev pub requestsOf : (entryMax listMax pcmd : ℕ) (front : List ℕ) (a h : ℕ) → List Step → List (List ℕ)
 requestsOf entryMax listMax pcmd front a h ss = map (requestBytes pcmd front a h) (batchesOf entryMax listMax h ss)
 
 -- ---- batches to an address

@@ -11,9 +11,9 @@ ghost use Rattle.dpa.specs.declared.frame.Frame.{Frame};
 ghost use Rattle.dpa.specs.Frame.{pdataMax, longestFrame};
 ghost use Rattle.book.specs.Book.{stepsMax, stepLength, stepsIn};
 ghost use Rattle.step.specs.Step.{AllStepsGood};
-ghost use Rattle.scene.specs.Compile.{Limits};
-ghost use Rattle.scene.specs.Call.{lengths};
-ghost use Rattle.scene.specs.Fill.{requestsWith, nextSize, lengthByteIfFull, maxSpanBytes, StartsWithSpans};
+ghost use Rattle.output.specs.Requests.{Limits};
+ghost use Rattle.output.specs.Output.{lengths};
+ghost use Rattle.output.specs.Fill.{requestsWith, nextSize, lengthByteIfFull, maxSpanBytes, StartsWithSpans};
 
 // Maximum size of an entry's PData, and of a list with its closing zero.
 pub struct SizeLimits {

@@ -11,8 +11,8 @@ use Rattle.book.specs.declared.step.Step.{Step}
 use Rattle.book.specs.Book.{stepsMax}
 use Rattle.entries.specs.Entry.{groupData}
 use Rattle.entries.specs.Join.{entriesOf}
-use Rattle.scene.specs.declared.fill.SizeLimits.{SizeLimits}
-use Rattle.scene.specs.Compile.{requestWith, batchesOf, entrySize, emptyListSize}
+use Rattle.output.specs.declared.fill.SizeLimits.{SizeLimits}
+use Rattle.output.specs.Requests.{requestWith, batchesOf, entrySize, emptyListSize}
 
 -- the requests of steps within these limits, with this header and these bytes in front of each list
 abbrev pub requestsWith : SizeLimits → Frame → List ℕ → List Step → List (List ℕ)
@@ -21,19 +21,19 @@ requestsWith limits header front ss = map (requestWith header front) (batchesOf 
 -- ---- an open list of `size` bytes, its closing zero included, and a next entry with `pdata` bytes of PData
 
 -- whether the list has room for the entry
-abbrev pub fitsList : ℕ → ℕ → ℕ → Bool
+abbrev pub fitsList : (listMax size pdata : ℕ) → Bool
 fitsList listMax size pdata = leb (size + entrySize pdata) listMax
 
 -- size of the list that the entry goes into: the open list, or a new one
-unfoldable pub nextSize : ℕ → ℕ → ℕ → ℕ
+unfoldable pub nextSize : (listMax size pdata : ℕ) → ℕ
 nextSize listMax size pdata = cond (fitsList listMax size pdata) (size + entrySize pdata) (emptyListSize + entrySize pdata)
 
 -- bytes written before the entry: none, or the open list's closing zero and the prefix of the next request
-unfoldable pub separatorBytes : ℕ → List ℕ → ℕ → ℕ → List ℕ
+unfoldable pub separatorBytes : (listMax : ℕ) (prefix : List ℕ) (size pdata : ℕ) → List ℕ
 separatorBytes listMax prefix size pdata = cond (fitsList listMax size pdata) [] (closingZero ∷ prefix)
 
 -- the length byte of the open list's request if the entry does not fit, where a request has `prefix` bytes before its list
-unfoldable pub lengthByteIfFull : ℕ → ℕ → ℕ → ℕ → List ℕ
+unfoldable pub lengthByteIfFull : (listMax prefix size pdata : ℕ) → List ℕ
 lengthByteIfFull listMax prefix size pdata = cond (fitsList listMax size pdata) [] ((size + prefix) ∷ [])
 
 -- ---- spans: what the first pass keeps about each entry for the second, its number of steps and the size of its PData

@@ -19,10 +19,10 @@ use Rattle.entries.specs.EntrySize.{FirstEntry}
 use Rattle.step.proofs.Faults.{Good}
 use Rattle.entries.proofs.Groups.{grow-fits, grow-not-fits}
 use Rattle.entries.proofs.EntryGroups.{EntryGroup, entry-groups, joining-keeps}
-use Rattle.scene.specs.Compile.{Limits, joinedEntries, listOf, entrySize, emptyListSize, fitsBatch, batchesOf}
-use Rattle.scene.specs.Call.{lengths}
-use Rattle.scene.specs.Fill.{fitsList, nextSize, separatorBytes, lengthByteIfFull}
-use Rattle.scene.proofs.Sizes.{entries-snoc, list-snoc, list-one}
+use Rattle.output.specs.Requests.{Limits, joinedEntries, listOf, entrySize, emptyListSize, fitsBatch, batchesOf}
+use Rattle.output.specs.Output.{lengths}
+use Rattle.output.specs.Fill.{fitsList, nextSize, separatorBytes, lengthByteIfFull}
+use Rattle.output.proofs.Sizes.{entries-snoc, list-snoc, list-one}
 
 -- all bytes after those of an open list of `size` bytes, when the entries of these groups remain
 abbrev pub remainingBytes : ℕ → List ℕ → ℕ → ℕ → List (List Step) → List ℕ

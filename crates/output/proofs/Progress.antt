@@ -19,12 +19,12 @@ use Rattle.dpa.proofs.Lists.{sets-append}
 use Rattle.entries.proofs.Writing.{two-writes}
 use Rattle.book.proofs.Positions.{steps-length}
 use Rattle.step.proofs.GoodSteps.{good-steps}
-use Rattle.scene.specs.declared.fill.SizeLimits.{SizeLimits}
-use Rattle.scene.specs.Compile.{Limits, emptyListSize}
-use Rattle.scene.specs.Call.{lengths, output, minOutput}
-use Rattle.scene.specs.Fill.{requestsWith, nextSize, separatorBytes, lengthByteIfFull}
-use Rattle.scene.proofs.Remaining.{remainingBytes, remainingLengths, next-small, bytes-next, lengths-next}
-use Rattle.scene.proofs.Outputs.{lengths-length, output-length, output-fits}
+use Rattle.output.specs.declared.fill.SizeLimits.{SizeLimits}
+use Rattle.output.specs.Requests.{Limits, emptyListSize}
+use Rattle.output.specs.Output.{lengths, output, minOutput}
+use Rattle.output.specs.Fill.{requestsWith, nextSize, separatorBytes, lengthByteIfFull}
+use Rattle.output.proofs.Remaining.{remainingBytes, remainingLengths, next-small, bytes-next, lengths-next}
+use Rattle.output.proofs.Outputs.{lengths-length, output-length, output-fits}
 
 -- writing `all` into `old` at `at` amounts to writing `rest` into `out` at w
 pub record Remaining (old : List ℕ) (at : ℕ) (all out : List ℕ) (w : ℕ) (rest : List ℕ) : Type 0 where

@@ -7,8 +7,8 @@ use lib.Seq.{sets}
 use borrow.Author.Needs.{needs}
 use Rattle.dpa.specs.Frame.{headerBytes}
 use Rattle.entries.proofs.Writing.{two-writes}
-use Rattle.scene.proofs.request.write_prefix.Statement.{statement}
-use Rattle.scene.proofs.request.write_prefix.Tie as tie
+use Rattle.output.proofs.request.write_prefix.Statement.{statement}
+use Rattle.output.proofs.request.write_prefix.Tie as tie
 
 -- where the header's bytes are written, and where they are made
 abbrev written : tie.After-slice-known3 → tie.After-write-bytes

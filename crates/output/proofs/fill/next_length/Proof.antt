@@ -4,9 +4,9 @@ use mathlib.Core.Path.{refl, ap}
 use native.Mathlib.Omega.{arith}
 use lib.ListN.{length}
 use borrow.Author.Needs.{needs}
-use Rattle.scene.proofs.Remaining.{list-open, list-full}
-use Rattle.scene.proofs.fill.next_length.Statement.{statement}
-use Rattle.scene.proofs.fill.next_length.Tie as tie
+use Rattle.output.proofs.Remaining.{list-open, list-full}
+use Rattle.output.proofs.fill.next_length.Statement.{statement}
+use Rattle.output.proofs.fill.next_length.Tie as tie
 
 returns : tie.Need-returns
 returns c =
