@@ -21,13 +21,13 @@ use Rattle.outcome.proofs.SelectiveBatches.{not-selected-stays}
 use Rattle.book.specs.declared.step.Step.{Step}
 use Rattle.entries.specs.Group.{concat}
 use Rattle.step.specs.Machine.{machine}
-use Rattle.scene.specs.Compile.{Limits, joinedEntries, batchesOf, requestBytes, requestsOf, selectedEntryLimit, selectedListLimit, selectedRequests}
+use Rattle.output.specs.Requests.{Limits, joinedEntries, batchesOf, requestBytes, requestsOf, selectedEntryLimit, selectedListLimit, selectedRequests}
 use Rattle.entries.proofs.Groups.{concat-append}
 use Rattle.step.proofs.MachineLaws.{machine-append, machine-stays}
 use Rattle.step.proofs.Faults.{Good}
 use Rattle.entries.proofs.EntryGroups.{EntryGroup, joining-keeps}
-use Rattle.scene.proofs.Batches.{BatchRule, batches-rule, selected-limits, filling-keeps}
-use Rattle.scene.proofs.Sizes.{batch-fits}
+use Rattle.output.proofs.Batches.{BatchRule, batches-rule, selected-limits, filling-keeps}
+use Rattle.output.proofs.Sizes.{batch-fits}
 use Rattle.acceptance.specs.SceneTheorem.{Success, AllSucceed, afterCalls, MatchesMachine, Ignored, AllIgnored, StaysUnchanged}
 use Rattle.acceptance.proofs.Batches.{AllPerform, entries-perform, batch-performs}
 use Rattle.acceptance.proofs.OneRequest.{call-leaves, call-sound, call-succeeds, broadcast-ignored}

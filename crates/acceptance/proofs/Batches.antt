@@ -17,7 +17,7 @@ use Rattle.book.specs.declared.step.Step.{Step}
 use Rattle.entries.specs.Group.{concat}
 use Rattle.step.specs.Machine.{machine}
 use Rattle.entries.specs.Entry.{joinedEntry}
-use Rattle.scene.specs.Compile.{joinedEntries}
+use Rattle.output.specs.Requests.{joinedEntries}
 use Rattle.step.proofs.MachineLaws.{machine-append, machine-stays}
 
 -- an outcome without an error, data or a report

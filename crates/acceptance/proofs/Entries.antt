@@ -24,7 +24,7 @@ use Rattle.entries.specs.Entry.{entryData, pnumOf, pcmdOf, joinedEntry}
 use Rattle.entries.specs.Join.{follows}
 use Rattle.step.proofs.Faults.{eeprom-good}
 use Rattle.entries.proofs.EntryGroups.{Linked, EntryGroup}
-use Rattle.scene.specs.Compile.{Limits}
+use Rattle.output.specs.Requests.{Limits}
 use Rattle.acceptance.proofs.Lamps.{LampGroup, entry-lamp-group}
 use Rattle.acceptance.proofs.Memories.{Writes, writes-ram, writes-eeprom, ByteGroup, entry-byte-group}
 

@@ -19,7 +19,8 @@ use Rattle.book.specs.Book.{chained, bookOk, sceneOf}
 use Rattle.step.specs.Step.{stepTimeOk, lampFault, byteFault, stepFault}
 use Rattle.entries.specs.Entry.{powerBytes, entryData, pnumOf, pcmdOf}
 use Rattle.entries.specs.Join.{follows}
-use Rattle.scene.specs.Call.{minOutput, compileScene, compileTo}
+use Rattle.output.specs.Output.{minOutput}
+use Rattle.scene.specs.Call.{compileScene, compileTo}
 use Rattle.acceptance.specs.Examples.{WorkedExamples, OwnExamples}
 
 -- those of document 01

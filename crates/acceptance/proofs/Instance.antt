@@ -26,8 +26,9 @@ use Rattle.step.specs.Step.{stepTimeOk, lampFault, byteFault, stepFault}
 use Rattle.step.specs.Machine.{timeFormed, stepFormed, machineLevel, machineSeconds, machineLamps, machineEffect, machineStep, machine}
 use Rattle.entries.specs.Entry.{powerBytes, entryData, pnumOf, pcmdOf}
 use Rattle.entries.specs.Join.{follows}
-use Rattle.scene.specs.Compile.{batchesOf, entryLimit, listLimit, sceneRequests, selectedRequests}
-use Rattle.scene.specs.Call.{minOutput, requestsIn, outputOf, compileFor, compileSelected}
+use Rattle.output.specs.Requests.{batchesOf, entryLimit, listLimit, sceneRequests, selectedRequests}
+use Rattle.output.specs.Output.{minOutput, requestsIn}
+use Rattle.scene.specs.Call.{outputOf, compileFor, compileSelected}
 use Rattle.scene.specs.Refusals.{Addressable, SceneRule}
 use Rattle.acceptance.specs.SceneTheorem.{Given, MatchesMachine, afterCalls, StaysUnchanged}
 use Rattle.scene.proofs.Refusals.{compile-refusals, selected-refusals}

@@ -7,7 +7,7 @@ use lib.ListN.{length, getD, take, drop}
 use Rattle.dpa.proofs.Lists.{slice-to-end}
 use Rattle.node.specs.State.{State}
 use Rattle.outcome.specs.Request.{handleRequest}
-use Rattle.scene.specs.Call.{splitBy}
+use Rattle.output.specs.Output.{splitBy}
 use Rattle.acceptance.specs.SceneTheorem.{afterCalls}
 use Rattle.acceptance.specs.RunScene.{zeroBuffer}
 

@@ -17,7 +17,8 @@ use Rattle.outcome.specs.Request.{handleRequest}
 use Rattle.outcome.proofs.Soundness.{request-sound}
 use Rattle.book.specs.Book.{sceneOf}
 use Rattle.step.specs.Machine.{machine}
-use Rattle.scene.specs.Call.{CompileResult, output, requestsIn, outputOf, compileFor, CompleteOutput}
+use Rattle.output.specs.Output.{output, requestsIn, CompleteOutput}
+use Rattle.scene.specs.Call.{CompileResult, outputOf, compileFor}
 use Rattle.acceptance.specs.SceneTheorem.{Given, afterCalls}
 use Rattle.acceptance.specs.RunScene.{zeroBuffer, SceneResult, result, afterCompile, runScene}
 use Rattle.scene.proofs.Refusals.{compile-refusals, output-inside, output-whole}

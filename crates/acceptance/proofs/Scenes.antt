@@ -25,10 +25,10 @@ use Rattle.book.specs.Book.{sceneOf}
 use Rattle.step.specs.Step.{noFault, stepFault}
 use Rattle.step.specs.Machine.{stepFormed}
 use Rattle.step.proofs.Faults.{fault-meaning, good-formed}
-use Rattle.scene.specs.Compile.{sceneRequests, selectedRequests}
+use Rattle.output.specs.Requests.{sceneRequests, selectedRequests}
 use Rattle.scene.specs.Call.{compileTo}
-use Rattle.scene.proofs.Batches.{batch-limits, selected-limits}
-use Rattle.scene.proofs.Outputs.{buffer-back}
+use Rattle.output.proofs.Batches.{batch-limits, selected-limits}
+use Rattle.scene.proofs.Calls.{buffer-back}
 use Rattle.scene.specs.Refusals.{Addressable, NoFault, SceneRule}
 use Rattle.acceptance.specs.SceneTheorem.{MatchesMachine, StaysUnchanged, ClaimOfScene, AddressedTheorem, SelectedTheorem, NotSelectedTheorem, Condition3}
 use Rattle.acceptance.proofs.Entries.{group-performs}

@@ -21,8 +21,9 @@ use Rattle.book.specs.declared.step.Step.{Step}
 use Rattle.entries.specs.Join.{entriesOf}
 use Rattle.node.specs.Examples.{settings, freshState}
 use Rattle.book.specs.Examples.{book}
-use Rattle.scene.specs.Compile.{selectedEntryLimit}
-use Rattle.scene.specs.Call.{minOutput, outputInBuffer, compileFor, compileSelected}
+use Rattle.output.specs.Requests.{selectedEntryLimit}
+use Rattle.output.specs.Output.{minOutput}
+use Rattle.scene.specs.Call.{outputInBuffer, compileFor, compileSelected}
 
 -- a lights request, and a batch, with the HWPID of the example node
 abbrev pub lights : ℕ → List ℕ → State → Outcome

@@ -26,7 +26,7 @@ pub record SceneResult : Type 0 where
   pub out : List ℕ
 
 -- the result of a call that returned r and left these memories and this output buffer
-abbrev pub sceneResult : SceneAnswer → List ℕ → List ℕ → List ℕ → SceneResult
+abbrev pub sceneResult : SceneAnswer → (e x o : List ℕ) → SceneResult
 sceneResult r e x o = record { refusal = r .refusal; step = r .step; after = state (r .node) e x; out = o }
 
 -- a result from its parts

@@ -38,9 +38,10 @@ use Rattle.book.specs.declared.step.Step.{Step}
 use Rattle.book.specs.Book.{sceneOf}
 use Rattle.step.specs.Step.{FaultMeaning}
 use Rattle.step.specs.Machine.{stepFormed, machine}
-use Rattle.scene.specs.Compile.{sceneRequests, selectedRequests}
+use Rattle.output.specs.Requests.{sceneRequests, selectedRequests}
 use Rattle.scene.specs.Refusals.{Addressable, NoFault, SceneRule, Refusals}
-use Rattle.scene.specs.Call.{CompileResult, requestsIn, outputOf, compileFor, compileSelected}
+use Rattle.output.specs.Output.{requestsIn}
+use Rattle.scene.specs.Call.{CompileResult, outputOf, compileFor, compileSelected}
 
 -- ---- the requests of a scene, handled by a node
 

@@ -1,4 +1,4 @@
--- Laws of the book: its scene locations, the loop over the bodies, and what a well-formed book guarantees.
+-- Laws of the book: its scene locations, and what a well-formed book guarantees.
 use mathlib.Core.Bool.{true, false, _&&_}
 use mathlib.Core.List.{List, [], _∷_}
 use mathlib.Core.Path.{_≡_, sym, ap, subst, _∙_}
@@ -30,34 +30,9 @@ after-count b i = ap locationOf (drop-drop (locationLength * i) 1 b ∙ ap (λ (
 location-at : (b : List ℕ) (i : ℕ) → i < sceneCount b → getD (sceneLocations b) i noLocation ≡ locationAt b i
 location-at b i h = records-at locationLength locationOf (sceneCount b) (drop 1 b) i noLocation h ∙ after-count b i
 
-location-next : (b : List ℕ) (i : ℕ) → i < sceneCount b → drop i (sceneLocations b) ≡ locationAt b i ∷ drop (suc i) (sceneLocations b)
+-- scene i, then the others
+pub location-next : (b : List ℕ) (i : ℕ) → i < sceneCount b → drop i (sceneLocations b) ≡ locationAt b i ∷ drop (suc i) (sceneLocations b)
 location-next b i h = records-next locationLength locationOf (sceneCount b) (drop 1 b) i h ∙ rw (after-count b i)
-
--- ---- the loop of bodies_ok: l is the location of scene i, whose body should start at `start`
-module _ (b : List ℕ) (i start end : ℕ) (l : SceneLocation) (h : i < sceneCount b) (e : l ≡ locationAt b i) where
-  here : drop i (sceneLocations b) ≡ l ∷ drop (suc i) (sceneLocations b)
-  here = location-next b i h ∙ ap (λ (m : SceneLocation). m ∷ drop (suc i) (sceneLocations b)) (sym e)
-
-  -- a body that fits is followed by the next
-  pub chained-next : l .offset ≡ start → l .steps ≤ stepsMax
-      → chained start (drop i (sceneLocations b)) end ≡ chained (start + stepLength * l .steps) (drop (i + 1) (sceneLocations b)) end
-  unfolding chained
-  chained-next p q = rw (add-one i, here, eq-eqb (l .offset) start p, le-leb (l .steps) stepsMax q)
-
-  -- a body that starts elsewhere is refused
-  pub chained-wrong-offset : (l .offset ≡ start → ⊥) → chained start (drop i (sceneLocations b)) end ≡ false
-  unfolding chained
-  chained-wrong-offset p = rw (here, ne-eqb (l .offset) start p)
-
-  -- a body with too many steps is refused
-  pub chained-too-long : l .offset ≡ start → stepsMax < l .steps → chained start (drop i (sceneLocations b)) end ≡ false
-  unfolding chained
-  chained-too-long p q = rw (here, eq-eqb (l .offset) start p, lt-leb (l .steps) stepsMax q)
-
--- after the last body only the end is left to compare
-pub chained-end : (b : List ℕ) (i start end : ℕ) → sceneCount b ≤ i → chained start (drop i (sceneLocations b)) end ≡ eqb start end
-unfolding chained
-chained-end b i start end h = rw (records-end locationLength locationOf (sceneCount b) (drop 1 b) i h)
 
 -- ---- what a well-formed book guarantees
 

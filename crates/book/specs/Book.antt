@@ -38,7 +38,7 @@ abbrev pub sceneLocations : List ℕ → List SceneLocation
 sceneLocations b = records locationLength locationOf (sceneCount b) (drop 1 b)
 
 -- the first body starts at `start`, each next one where the previous one ends, the last ends at `end`; none has too many steps
-unfoldable pub chained : ℕ → List SceneLocation → ℕ → Bool
+unfoldable pub chained : (start : ℕ) → List SceneLocation → (end : ℕ) → Bool
 chained start [] end = eqb start end
 chained start (l ∷ ls) end = (eqb (l .offset) start && leb (l .steps) stepsMax) && chained (start + stepLength * l .steps) ls end
 

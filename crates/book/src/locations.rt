@@ -1,4 +1,4 @@
-// Where the scenes of a book are, and whether the book is well formed.
+// Where the scenes of a book are.
 use crate::step::STEP_LENGTH;
 use crate::step::STEPS_MAX;
 use dpa::number::wide;
@@ -7,7 +7,7 @@ use dpa::number::word_of;
 ghost use mathlib.Core.Path.{_≡_};
 ghost use Prim.Native.Nat.{_+_, _*_, _≤_, _<_};
 ghost use lib.ListN.{length};
-ghost use Rattle.book.specs.Book.{scenesMax, locationLength, sceneCount, sceneLocations, chained, bookOk};
+ghost use Rattle.book.specs.Book.{scenesMax, locationLength};
 ghost use Rattle.book.specs.Positions.{locationAt};
 
 // The most scenes of a book.
@@ -37,42 +37,4 @@ pub fn scene_location(book: &[u8], scene: usize) -> SceneLocation
         )),
         steps: wide(book[LOCATION_LENGTH * scene + 3]),
     }
-}
-
-// Whether the scenes' bodies follow one another and end with the book.
-fn bodies_ok(book: &[u8], scenes: usize) -> bool
-    requires { ⌜ (1 + locationLength * scenes ≤ length (now book)) × (scenes ≤ scenesMax) × (scenes ≡ sceneCount (now book)) ⌝ }
-    ensures { λ r. ⌜ r ≡ chained (1 + locationLength * scenes) (sceneLocations (now (book .entry))) (length (now (book .entry))) ⌝ }
-{
-    let mut start = 1 + LOCATION_LENGTH * scenes;
-    let mut i: usize = 0;
-    while i < scenes {
-        let location = scene_location(book, i);
-        if location.offset != start {
-            return false;
-        }
-        if STEPS_MAX < location.steps {
-            return false;
-        }
-        start = start + STEP_LENGTH * location.steps;
-        i = i + 1;
-    }
-    start == book.len()
-}
-
-// Whether a book is well formed.
-pub fn book_ok(book: &[u8]) -> bool
-    ensures { λ r. ⌜ r ≡ bookOk (now (book .entry)) ⌝ }
-{
-    if book.len() < 1 {
-        return false;
-    }
-    let scenes = wide(book[0]);
-    if SCENES_MAX < scenes {
-        return false;
-    }
-    if book.len() < 1 + LOCATION_LENGTH * scenes {
-        return false;
-    }
-    bodies_ok(book, scenes)
 }

@@ -11,10 +11,9 @@ use Rattle.dpa.proofs.Bool.{and-left}
 use Rattle.dpa.specs.Lists.{All}
 use Rattle.book.specs.declared.step.Step.{Step}
 use Rattle.book.specs.Book.{stepLength, stepsIn}
-use Rattle.step.specs.Step.{ramKind}
+use Rattle.step.specs.Step.{ramKind, AllStepsGood}
 use Rattle.entries.specs.Join.{follows, entriesOf}
 use Rattle.entries.specs.EntrySize.{oneStepMax, FirstEntry}
-use Rattle.step.specs.Step.{AllStepsGood}
 use Rattle.entries.specs.Writing.{EntryWritable}
 use Rattle.step.proofs.Faults.{Good, lamp-good}
 use Rattle.dpa.proofs.All.{all-drop}

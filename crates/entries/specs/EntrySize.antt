@@ -32,7 +32,7 @@ abbrev pub oneStepMax : ℕ
 oneStepMax = bitmapSize + 2
 
 -- the PData size of an entry of kind k and `size` bytes after x joins it, or 0 if x does not join; p is its last step
-unfoldable pub joinedSize : ℕ → Step → Step → ℕ → ℕ → ℕ
+unfoldable pub joinedSize : (limit : ℕ) (p x : Step) (k size : ℕ) → ℕ
 joinedSize limit p x k size = cond (follows p x && leb (stepSize k x + size) limit) (stepSize k x + size) 0
 
 -- a usable limit: any single step fits into an entry, and the entry's PData fits into a frame

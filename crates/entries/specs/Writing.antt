@@ -23,5 +23,5 @@ abbrev pub EntryWritable : List ℕ → ℕ → Type 0
 EntryWritable body n = isLamp (stepAt body 0 .kind) ≡ true → LampStepsInRange body n
 
 -- the bytes before an entry's PData
-abbrev pub entryHeadBytes : ℕ → ℕ → ℕ → List ℕ
+abbrev pub entryHeadBytes : (kind h size : ℕ) → List ℕ
 entryHeadBytes kind h size = headBytes size (pnumOf kind) (pcmdOf kind) h

@@ -22,10 +22,11 @@ use Rattle.book.specs.Book.{sceneCount, bookOk, sceneOf}
 use Rattle.step.specs.Step.{stepFault, goodStep, firstBadFrom}
 use Rattle.dpa.proofs.All.{all-weaken}
 use Rattle.step.proofs.Faults.{Good, no-bad, fault-range}
-use Rattle.scene.specs.Compile.{sceneRequests, selectedRequests}
-use Rattle.scene.specs.Call.{CompileResult, output, CompleteOutput, minOutput, outputOf, refusedWith, outputInBuffer, compileSteps, compileScene, compileTo, compileFor, compileSelected}
-use Rattle.scene.proofs.Outputs.{Faultless, target-refused, target-valid, compile-written, compile-refused}
-use Rattle.scene.proofs.CompleteOutputs.{output-complete}
+use Rattle.output.specs.Requests.{sceneRequests, selectedRequests}
+use Rattle.output.specs.Output.{output, CompleteOutput, minOutput}
+use Rattle.scene.specs.Call.{CompileResult, outputOf, refusedWith, outputInBuffer, compileSteps, compileScene, compileTo, compileFor, compileSelected}
+use Rattle.scene.proofs.Calls.{Faultless, target-refused, target-valid, compile-written, compile-refused}
+use Rattle.output.proofs.CompleteOutputs.{output-complete}
 use Rattle.scene.specs.Refusals.{Addressable, NoFault, SceneRule, StepRefusal, FirstBad, Refusals}
 
 -- ---- the faults, and the tests of the call

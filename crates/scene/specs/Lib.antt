@@ -1,4 +1,2 @@
-pub mod Compile
 pub mod Call
-pub mod Fill
 pub mod Refusals

@@ -12,7 +12,8 @@ use Rattle.dpa.specs.Settings.{lastAddress}
 use Rattle.book.specs.declared.step.Step.{Step}
 use Rattle.book.specs.Book.{sceneCount, bookOk, sceneOf}
 use Rattle.step.specs.Step.{noFault, stepFault}
-use Rattle.scene.specs.Call.{CompileResult, minOutput}
+use Rattle.output.specs.Output.{minOutput}
+use Rattle.scene.specs.Call.{CompileResult}
 
 -- An address that a scene can be compiled for: a node's, 1 to 239, or the broadcast address, 255.
 abbrev pub Addressable : ℕ → Type 0

@@ -1,9 +1,8 @@
 // Compiles a scene of a book into batch requests to an address, or into selective batch requests to the nodes of a set.
-use crate::fill::SizeLimits;
-use crate::request::write_output;
 use batch::list::BATCH;
 use batch::selective::SELECTIVE_BATCH;
-use book::locations::book_ok;
+use book::check::BookCheck;
+use book::check::check_book;
 use book::locations::scene_location;
 use dpa::frame::Frame;
 use dpa::node_set::NodeSet;
@@ -12,6 +11,8 @@ use dpa::number::wide;
 use dpa::pnum;
 use dpa::refusal;
 use dpa::settings::address_ok;
+use output::fill::SizeLimits;
+use output::request::write_output;
 use step::fault::StepsCheck;
 use step::fault::check_steps;
 ghost use mathlib.Core.Path.{_≡_};
@@ -20,9 +21,9 @@ ghost use lib.ListN.{length};
 ghost use Rattle.dpa.specs.Frame.{anyHwpid};
 ghost use Rattle.book.specs.Book.{stepsMax, stepLength, stepsIn};
 ghost use Rattle.step.specs.Step.{firstBadFrom};
-ghost use Rattle.scene.specs.Compile.{Limits};
+ghost use Rattle.output.specs.Requests.{Limits};
 ghost use Rattle.scene.specs.Call.{compileSteps, compileScene, compileFor, compileSelected, compileResult};
-ghost use Rattle.scene.specs.Fill.{requestsWith};
+ghost use Rattle.output.specs.Fill.{requestsWith};
 
 // Maximum size of the PData of a batch entry.
 const ENTRY_LIMIT: usize = 50;
@@ -98,9 +99,9 @@ fn compile_scene(
     ensures { λ r. ⌜ compileResult r (now (out .exit))
         ≡ compileScene (now (book .entry)) scene (requestsWith limits header (now (front .entry))) (now (out .entry)) ⌝ }
 {
-    if !book_ok(book) {
+    let BookCheck::Sound = check_book(book) else {
         return refused(refusal::BOOK, 0);
-    }
+    };
     let scenes = wide(book[0]);
     if scenes <= scene {
         return refused(refusal::SCENE, 0);

@@ -8,13 +8,14 @@ use lib.ListN.{length, getD, take, drop, length-take}
 use lib.Seq.{take-at, drop-cons}
 use Rattle.dpa.specs.Lists.{All}
 use Rattle.book.specs.Book.{sceneOf}
-use Rattle.scene.specs.Compile.{sceneRequests}
-use Rattle.scene.specs.Call.{CompileResult, lengths, output, outputOf, compileFor, totalLength}
-use Rattle.scene.proofs.Batches.{batch-limits}
-use Rattle.scene.proofs.Outputs.{lengths-length}
-use Rattle.scene.proofs.Sizes.{FrameSized, requests-fit}
+use Rattle.output.specs.Requests.{sceneRequests}
+use Rattle.output.specs.Output.{lengths, output, totalLength}
+use Rattle.scene.specs.Call.{CompileResult, outputOf, compileFor}
+use Rattle.output.proofs.Batches.{batch-limits}
+use Rattle.output.proofs.Outputs.{lengths-length}
+use Rattle.output.proofs.Sizes.{FrameSized, requests-fit}
 use Rattle.scene.proofs.Refusals.{no-fault-good, accepted, output-is}
-use Rattle.scene.proofs.CompleteOutputs.{output-complete, parts-covered}
+use Rattle.output.proofs.CompleteOutputs.{output-complete, parts-covered}
 use Rattle.scenedump.specs.Output.{RequestLength, Printable}
 
 lengths-headed : (rs : List (List ℕ)) → All FrameSized rs → All RequestLength (lengths rs)

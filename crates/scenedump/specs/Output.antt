@@ -4,7 +4,7 @@ use Prim.Native.Nat.{ℕ, _≤_}
 use lib.ListN.{getD, take, drop}
 use Rattle.dpa.specs.Frame.{headerSize}
 use Rattle.dpa.specs.Lists.{All}
-use Rattle.scene.specs.Call.{CompleteOutput}
+use Rattle.output.specs.Output.{CompleteOutput}
 
 -- the length of a request: it has at least a header
 abbrev pub RequestLength : ℕ → Type 0

@@ -34,8 +34,9 @@ use args::Options;
 use args::print_usage;
 use args::read_arguments;
 use args::refuse_argument;
+use book::check::BookCheck;
+use book::check::check_book;
 use book::locations::LONGEST_BOOK;
-use book::locations::book_ok;
 use fault::print_book_fault;
 use fault::print_not_a_book;
 use input::Input;
@@ -45,8 +46,8 @@ use requests::print_scenes;
 use steps::print_book;
 
 fn dump(book: &[u8], options: Options, first: usize, count: usize) {
-    if !book_ok(book) {
-        print_book_fault(book);
+    if let BookCheck::Bad(fault) = check_book(book) {
+        print_book_fault(fault, book.len());
         return;
     }
     let ok = print_book(book);

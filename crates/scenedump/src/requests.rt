@@ -17,7 +17,7 @@ use timing::slot::timeslot;
 ghost use Prim.Native.Nat.{_≤_, _<_};
 ghost use lib.ListN.{length};
 ghost use Rattle.dpa.specs.Lists.{All};
-ghost use Rattle.scene.specs.Call.{totalLength};
+ghost use Rattle.output.specs.Output.{totalLength};
 ghost use Rattle.scenedump.specs.Output.{RequestLength, Printable};
 
 // How long after a request with this much PData the next one may be sent, in ms. A batch answers without data.

@@ -45,14 +45,14 @@ stepFormed s =
 -- ---- the effect of a step
 
 -- the new requested level: set takes the value, raise adds it up to 100, lower subtracts it down to 0
-unfoldable pub machineLevel : ℕ → ℕ → ℕ → ℕ
+unfoldable pub machineLevel : (kind level value : ℕ) → ℕ
 machineLevel kind level value =
     cond (eqb kind setKind) value
     (cond (eqb kind raiseKind) (min maxLevel (level + value))
     (level - value))
 
 -- the new timer in seconds: 0 if the time or the new level is 0; up to 7F hex the time is minutes, above it its low seven bits are seconds
-unfoldable pub machineSeconds : ℕ → ℕ → ℕ
+unfoldable pub machineSeconds : (time level : ℕ) → ℕ
 machineSeconds time level =
     cond (eqb time 0 || eqb level 0) 0
     (cond (ltb time secondsBit) (60 * time)

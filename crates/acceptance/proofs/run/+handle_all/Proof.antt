@@ -8,7 +8,7 @@ use lib.Seq.{length-take-le}
 use borrow.Fn.Kinds.{In}
 use borrow.Fn.PlainCycle.{Measures, is, falls, and}
 use Rattle.node.specs.State.{state}
-use Rattle.scene.proofs.CompleteOutputs.{first-covered, rest-covered}
+use Rattle.output.proofs.CompleteOutputs.{first-covered, rest-covered}
 use Rattle.acceptance.proofs.OutputRequests.{none-handled, one-handled}
 use Rattle.acceptance.proofs.run.handle_all.Reads as handle-all
 use Rattle.acceptance.proofs.run.handle_all.Kinds as handle-all-kinds

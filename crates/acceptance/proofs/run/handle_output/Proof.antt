@@ -6,7 +6,7 @@ use Prim.Native.Nat.{ℕ}
 use Rattle.node.specs.State.{state}
 use Rattle.acceptance.specs.SceneTheorem.{afterCalls}
 use Rattle.acceptance.specs.RunScene.{zeroBuffer}
-use Rattle.scene.proofs.CompleteOutputs.{parts-covered, parts-requests}
+use Rattle.output.proofs.CompleteOutputs.{parts-covered, parts-requests}
 use Rattle.acceptance.proofs.run.handle_output.Statement.{statement}
 use Rattle.acceptance.proofs.run.handle_output.Tie as tie
 

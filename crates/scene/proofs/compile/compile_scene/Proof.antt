@@ -1,36 +1,40 @@
 -- `compile::compile_scene`: the tests of book and number, then the steps of the scene.
-use mathlib.Core.Bool.{true}
+use mathlib.Core.Bool.{true, false}
 use mathlib.Core.Path.{_≡_, sym, ap, _∙_}
 use Prim.Native.Nat.{_+_, _*_, _<_, _≤_}
 use native.Mathlib.Omega.{arith}
 use lib.ListN.{length, drop, length-drop}
 use borrow.Author.Needs.{needs}
-use borrow.Author.Tests.{le-leb, lt-leb, not-true, not-false}
+use borrow.Author.Tests.{le-leb, lt-leb}
 use Rattle.dpa.proofs.Lists.{slice-to-end}
 use Rattle.book.specs.declared.locations.SceneLocation.{SceneLocation}
 use Rattle.book.specs.Book.{stepsMax, stepLength, sceneCount, bookOk, sceneOf, stepsIn}
 use Rattle.book.proofs.Books.{book-facts, body-within, scene-at}
+use Rattle.book.proofs.Checks.{sound-book, bad-book}
 use Rattle.scene.specs.declared.compile.CompileAnswer.{CompileAnswer}
 use Rattle.scene.specs.Call.{compileResult, compileScene}
 use Rattle.scene.proofs.compile.compile_scene.Statement.{statement}
 use Rattle.scene.proofs.compile.compile_scene.Tie as tie
 
 -- the start, from where the book is refused, where it is well formed, and where it has the scene
-abbrev refused-start : tie.Then1 → tie.Start
-refused-start c = c .before .before .before .before .before
+abbrev refused-start : tie.After-enum-told2 → tie.Start
+refused-start c = c .before .before .before .before .before .before
 
-abbrev book-start : tie.Else1 → tie.Start
-book-start c = c .before .before .before .before .before
+abbrev book-start : tie.After-enum-told → tie.Start
+book-start c = c .before .before .before .before .before .before
 
-abbrev start : tie.Else2 → tie.Start
+abbrev start : tie.Else1 → tie.Start
 start c = book-start (c .before .before .before)
 
 -- what the tests on the way have shown
-book : (c : tie.Else1) → bookOk (book-start c .args .book .now) ≡ true
-book c = sym (c .before .book-ok .ensures) ∙ not-false _ (c .if1 .left)
+no-book : (c : tie.After-enum-told2) → bookOk (refused-start c .args .book .now) ≡ false
+no-book c = bad-book _ _ (sym (c .before .before .check-book .ensures) ∙ c .enum-told2 .given .1)
 
-below : (c : tie.Else2) → let a = start c .args in a .scene < sceneCount (a .book .now)
-below c = rw (c .before .wide .ensures .0) at (c .if2 .left)
+book : (c : tie.After-enum-told) → bookOk (book-start c .args .book .now) ≡ true
+book c = sound-book _ (sym (c .before .before .check-book .ensures) ∙ c .enum-told .given .1)
+
+below : (c : tie.Else1) → let a = start c .args in a .scene < sceneCount (a .book .now)
+below c = rw (c .before .wide .ensures .0) at (c .if1 .left)
 
 -- the scene's steps lie in the book
 inside : (d : tie.After-scene-location) → let a = start (d .before) .args in
@@ -43,7 +47,7 @@ inside d =
 returns : tie.Need-returns
 unfolding compileScene
 returns c =
-    rw (sym (c .before .before .book-ok .ensures) ∙ not-true _ (c .before .if1 .taken))
+    rw (no-book (c .before))
     (ap (λ (r : CompileAnswer). compileResult r (refused-start (c .before) .args .out .now)) (c .refused .ensures))
 
 shared-slice-read-wide : tie.Need-shared-slice-read-wide
@@ -52,7 +56,7 @@ shared-slice-read-wide c = omega (arith, book-facts _ (book (c .before)))
 returns-2 : tie.Need-returns-2
 unfolding compileScene
 returns-2 c =
-    rw (book (c .before .before .before .before), le-leb _ _ (rw (c .before .before .wide .ensures .0) at (c .before .if2 .taken)))
+    rw (book (c .before .before .before .before), le-leb _ _ (rw (c .before .before .wide .ensures .0) at (c .before .if1 .taken)))
     (ap (λ (r : CompileAnswer). compileResult r (book-start (c .before .before .before .before) .args .out .now)) (c .refused2 .ensures))
 
 scene-location-requires : tie.Need-scene-location-requires
@@ -81,6 +85,6 @@ returns-3 c =
 
 pub compile-scene-spec : {M : Type 1} → statement M
 compile-scene-spec =
-    tie.close (tie.spec (λ c κs. search needs) (λ c κs. search needs) returns shared-slice-read-wide
+    tie.close (tie.spec (λ c κs. search needs) (λ c. search needs) (λ c. search needs) (λ c κs. search needs) returns shared-slice-read-wide
     (λ c κs. search needs) (λ c κs. search needs) returns-2 scene-location-requires
     (λ c. omega (arith, inside c)) (λ c. omega (arith, inside c)) (λ c. search needs) compile-steps-requires (λ c. search needs) returns-3)

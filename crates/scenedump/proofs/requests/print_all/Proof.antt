@@ -5,7 +5,7 @@ use Prim.Native.Nat.{ℕ, _+_, _*_, _-_, _≤_}
 use lib.ListN.{length, drop}
 use Rattle.dpa.specs.Frame.{headerSize}
 use Rattle.dpa.proofs.All.{all-at}
-use Rattle.scene.specs.Call.{totalLength}
+use Rattle.output.specs.Output.{totalLength}
 use Rattle.scenedump.specs.Output.{RequestLength}
 use Rattle.scenedump.proofs.Outputs.{next-covered}
 use Rattle.scenedump.proofs.requests.print_all.Statement.{statement}

@@ -1,0 +1,3 @@
+pub mod Requests
+pub mod Output
+pub mod Fill
