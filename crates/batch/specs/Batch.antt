@@ -26,8 +26,8 @@ pub record Request : Type 0 where
   pub hwpid : ℕ
   pub pdata : List ℕ
 
-abbrev pub requestOf : ℕ → ℕ → ℕ → List ℕ → Request
-requestOf p c h d = record { pnum = p; pcmd = c; hwpid = h; pdata = d }
+abbrev pub requestOf : (pnum pcmd hwpid : ℕ) → List ℕ → Request
+requestOf pnum pcmd hwpid pdata = record { pnum = pnum; pcmd = pcmd; hwpid = hwpid; pdata = pdata }
 
 -- size of an entry's head: length, PNUM, PCMD and HWPID
 abbrev pub entryHeadSize : ℕ
@@ -38,7 +38,7 @@ abbrev pub closingZero : ℕ
 closingZero = 0
 
 -- the head of an entry with `size` bytes of PData: the entry's length including this byte, PNUM, PCMD, HWPID
-abbrev pub headBytes : ℕ → ℕ → ℕ → ℕ → List ℕ
+abbrev pub headBytes : (size pnum pcmd hwpid : ℕ) → List ℕ
 headBytes size pnum pcmd hwpid = (entryHeadSize + size) ∷ pnum ∷ pcmd ∷ low hwpid ∷ high hwpid ∷ []
 
 -- an entry: its head, then its PData

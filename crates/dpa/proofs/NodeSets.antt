@@ -11,9 +11,9 @@ use lib.Seq.{ext-getD, getD-set-same, getD-set-other}
 use lib.Count.{ones, onesIn}
 use lib.Dec.{eqb, ltb, leb}
 use borrow.Author.Tests.{ltb-true, ltb-false, leb-true, leb-false, eqb-true, eqb-false, eq-eqb, ne-eqb, not-true, not-false}
-use Rattle.dpa.specs.Lists.{Bytes, allBelow, numberBelow}
+use Rattle.dpa.specs.Lists.{Bytes, bitOf, allBelow, numberBelow}
 use Rattle.dpa.specs.Settings.{lastAddress}
-use Rattle.dpa.specs.NodeSet.{nodeSetSize, bitOf, selects, selectsAny, nodeSetOk, Selectable, byteOf, tabulate, nodeSetOf}
+use Rattle.dpa.specs.NodeSet.{nodeSetSize, selects, selectsAny, nodeSetOk, Selectable, byteOf, tabulate, nodeSetOf}
 use Rattle.dpa.proofs.Bool.{and-left, and-right, both, or-right, never-true, by-test, all-below-intro, all-below-elim, all-below-fails}
 
 -- bit k of byte i is that of address 8 i + k

@@ -32,8 +32,8 @@ broadcastNadr = 0x00FF
 abbrev pub anyHwpid : ℕ
 anyHwpid = 0xFFFF
 
-abbrev pub frame : ℕ → ℕ → ℕ → ℕ → Frame
-frame a p c h = record { nadr = a; pnum = p; pcmd = c; hwpid = h }
+abbrev pub frame : (nadr pnum pcmd hwpid : ℕ) → Frame
+frame nadr pnum pcmd hwpid = record { nadr = nadr; pnum = pnum; pcmd = pcmd; hwpid = hwpid }
 
 -- the six bytes of a header
 abbrev pub headerBytes : Frame → List ℕ
@@ -56,6 +56,6 @@ abbrev pub responseBit : ℕ
 responseBit = 0x80
 
 -- the header of a response: the node's address, PNUM, PCMD with bit 7 set, the node's HWPID, ErrN, DpaValue
-abbrev pub responseHeader : Settings → ℕ → ℕ → ℕ → List ℕ
+abbrev pub responseHeader : Settings → (pnum pcmd error : ℕ) → List ℕ
 responseHeader s pnum pcmd error =
     headerBytes (frame (s .address) pnum (pcmd % responseBit + responseBit) (s .hwpid)) ++ (error ∷ s .«dpa_value» ∷ [])

@@ -1,24 +1,18 @@
 -- Document 02, change 3: a set of nodes in thirty bytes.
-use Prim.Native.Nat.{ℕ, zero, suc, _+_, _*_, _/_, _%_, _^_, _≤_}
+use Prim.Native.Nat.{ℕ, zero, suc, _+_, _*_, _≤_}
 use mathlib.Core.Path.{_≡_}
 use mathlib.Core.List.{List, [], _∷_}
 use mathlib.Core.Bool.{Bool, true, false, cond, not, _&&_}
-use lib.ListN.{getD}
-use lib.Dec.{eqb}
-use Rattle.dpa.specs.Lists.{allBelow}
+use Rattle.dpa.specs.Lists.{bitAt, allBelow}
 use Rattle.dpa.specs.Settings.{lastAddress}
 
 -- size of a set in bytes: a bit for each address from 0 to 239
 abbrev pub nodeSetSize : ℕ
 nodeSetSize = 30
 
--- whether bit k of a byte is set
-abbrev pub bitOf : ℕ → ℕ → Bool
-bitOf byte k = eqb (byte / 2 ^ k % 2) 1
-
--- whether a set names address a: bit a mod 8 of byte a / 8
+-- whether a set names address a: by bit a
 unfoldable pub selects : List ℕ → ℕ → Bool
-selects set a = bitOf (getD set (a / 8) 0) (a % 8)
+selects set a = bitAt set a
 
 -- whether it names any address
 unfoldable pub selectsAny : List ℕ → Bool

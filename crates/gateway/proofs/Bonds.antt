@@ -10,8 +10,8 @@ use lib.Seq.{take-suc, take-all, getD-set-same, set-set, set-getD}
 use lib.Count.{ones, onesIn, ones-le}
 use lib.Dec.{eqb, ltb, leb}
 use borrow.Author.Tests.{ltb-true, ltb-false, leb-true, leb-false, le-leb, lt-leb, eqb-true, eqb-false, eq-eqb, lt-ltb, not-true}
-use Rattle.dpa.specs.Lists.{Bytes, allBelow, numberBelow}
-use Rattle.dpa.specs.NodeSet.{bitOf, selects}
+use Rattle.dpa.specs.Lists.{Bytes, bitOf, allBelow, numberBelow}
+use Rattle.dpa.specs.NodeSet.{selects}
 use Rattle.dpa.specs.Settings.{nodeAddress, lastAddress}
 use Rattle.dpa.proofs.Bool.{and-left, and-right, both, and-right-false, or-left, or-right, never-true, by-test, all-below-intro, all-below-elim, number-same, number-none, number-shift, number-add, number-max, number-added}
 use Rattle.dpa.proofs.Ranges.{node-range}

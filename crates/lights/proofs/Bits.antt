@@ -1,5 +1,6 @@
 -- Laws of bits and of the bitmap.
 use mathlib.Core.Path.{_≡_, refl, sym, ap, ap₂, _∙_, subst}
+use mathlib.Core.Bool.{Bool, true, false}
 use mathlib.Core.List.{List, [], _∷_, _++_}
 use Prim.Native.Nat.{ℕ, zero, suc, _+_, _-_, _*_, _/_, _%_, _^_, _≤_, _<_, min, zero-le}
 use native.Mathlib.Nat.{suc-add, pow-suc}
@@ -10,9 +11,20 @@ use lib.Arith.{lt-one}
 use lib.Pow.{shr-lt}
 use lib.Bits.{block-half, block-odd, bitAnd, and-step, and-self}
 use lib.Count.{ones, ones-step, trailingZeros, under}
+use lib.Dec.{eqb}
 use Rattle.dpa.specs.Settings.{maxLamps}
 use Rattle.dpa.specs.Lists.{Bytes}
 use Rattle.lights.specs.Bits.{bits, count, bitmap, maskOf}
+
+-- an element of a list of bits is 1
+abbrev pub isSet : ℕ → Bool
+isSet zero = false
+isSet (suc b) = true
+
+pub set-exact : (b : ℕ) → b < 2 → isSet b ≡ eqb b 1
+set-exact zero h = refl
+set-exact (suc zero) h = refl
+set-exact (suc (suc b)) h = absurd (omega arith)
 
 -- the first bit counts if it is 1
 pub count-cons : (b : ℕ) (bs : List ℕ) → b < 2 → count (b ∷ bs) ≡ b + count bs

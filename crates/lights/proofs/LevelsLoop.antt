@@ -6,7 +6,7 @@ use Prim.Native.Nat.{ℕ, _+_, _^_, _≤_, _<_}
 use native.Mathlib.Numerals.{add-one}
 use native.Mathlib.Omega.{arith}
 use lib.ListN.{length, getD, take, drop, set, length-set}
-use lib.Seq.{length-take-le, take-suc-set, append-snoc}
+use lib.Seq.{take-suc-set, append-snoc}
 use lib.Dec.{ltb}
 use borrow.Author.Tests.{ltb-false}
 use Rattle.dpa.specs.Settings.{maxLamps, settingsOk}
@@ -19,6 +19,8 @@ use Rattle.lights.specs.Lamp.{off, SoundLevels, actualLevel}
 use Rattle.lights.proofs.Lamps.{actual-off}
 use Rattle.lights.specs.Lights.{levelsBefore}
 use Rattle.lights.proofs.Bits.{count-le, mask-max, bits-mask, lowest-less, lowest-counts}
+use Rattle.lights.proofs.Selected.{bitmap-length}
+use Rattle.lights.proofs.Replies.{levels-length}
 use Rattle.lights.proofs.Remaining.{levelAt, levels-lowest, levels-none}
 use Rattle.lights.specs.declared.lamp.Lamp.{Lamp}
 
@@ -52,16 +54,24 @@ levels-start s src ls old mask a small e =
       levels = rw (e, bits-mask src small);
     }
 
+-- the number of 1-bits is the length of the result
+pub levels-counted : (s : Settings) (src : List ℕ) (ls : List Lamp) (mask : ℕ) → length ls ≡ maxLamps → Bytes src → mask ≡ maskOf src
+    → count (bits maxLamps mask) ≡ length (levelsBefore s (s .«lamp_count») (bitmap src) ls)
+levels-counted s src ls mask full small e =
+    ap (λ (m : ℕ). count (bits maxLamps m)) e
+    ∙ ap count (bits-mask src small)
+    ∙ sym (levels-length s (s .«lamp_count») (bitmap src) ls (omega (arith, bitmap-length src)))
+
 module _ {s : Settings} {ls : List Lamp} {result old out : List ℕ} {m k : ℕ} (w : LevelsLoop s ls result old out m k) where
   -- after the loop the result is written
-  pub levels-end : m ≡ 0 → (k ≡ length result) × (out ≡ overwriteFront result old)
+  pub levels-end : m ≡ 0 → out ≡ overwriteFront result old
   levels-end z =
       let n = s .«lamp_count» in
       let h : k ≤ length out = omega (arith, w .count-max, w .out-length, w .input .old-length) in
       let v : result ≡ take k out =
       w .levels ∙ ap (λ (j : ℕ). take k out ++ levelsBefore s n (bits maxLamps j) ls) z
       ∙ ap (λ (x : List ℕ). take k out ++ x) (levels-none s maxLamps n ls) ∙ append-nil (take k out) in
-      (sym (ap length v ∙ length-take-le k out h), front-written result out old k h v (w .out-unchanged))
+      front-written result out old k h v (w .out-unchanged)
 
   -- an unimplemented lamp has the level of a lamp that is off
   level-at : (i : ℕ) → actualLevel s (getD ls i off .level) ≡ levelAt s (s .«lamp_count») ls i

@@ -1,92 +1,133 @@
--- Applying the remaining power entries one after another: each step leaves the lamps at the end what they are.
-use mathlib.Core.Path.{_≡_, refl, sym, ap, _∙_}
+-- Changing the remaining lamps one after another: each step leaves the lamps at the end what they are.
+use mathlib.Core.Path.{_≡_, refl, sym, ap, ap₂, _∙_}
 use mathlib.Core.Bool.{true}
 use mathlib.Core.List.{List, []}
-use Prim.Native.Nat.{ℕ, suc, _≤_, _<_}
+use Prim.Native.Nat.{ℕ, suc, _+_, _-_, _≤_, _<_}
 use native.Mathlib.Omega.{arith}
-use lib.ListN.{length, getD, drop, set}
+use lib.ListN.{length, getD, drop, set, length-drop, drop-of-length-le}
+use lib.Seq.{drop-drop}
 use borrow.Author.Tests.{lt-ltb, le-ltb}
 use Rattle.dpa.specs.Settings.{maxLamps}
 use Rattle.dpa.specs.declared.settings.Settings.{Settings}
 use Rattle.dpa.specs.Lists.{Bytes}
 use Rattle.dpa.specs.Reply.{Reply}
-use Rattle.lights.specs.Bits.{bitmapSize, bits, count, bitmap, maskOf, lowestLamp, withoutLowest}
+use Rattle.dpa.proofs.Bytes.{bytes-drop}
+use Rattle.lights.specs.Bits.{bitmapSize, bits, count, lowestLamp, withoutLowest}
 use Rattle.lights.specs.Lamp.{off}
-use Rattle.lights.specs.Lights.{PowerEntries, firstPowerEntry, isValid, prepend, powerEntries, areValid, changesOf, lampAfter, lampsAfter, lightsRequest, changesLamps, commandOf}
-use Rattle.lights.specs.Remaining.{remainingEntries, remainingLamps, Remaining, lampChanged}
-use Rattle.lights.proofs.Bits.{mask-max, bits-mask, lowest-less, lowest-counts}
-use Rattle.lights.proofs.PowerEntries.{first-valid, valid-prepend, changes-prepend}
-use Rattle.lights.proofs.WellFormed.{changesIn, entries-valid, changes-command, changes-well-formed}
+use Rattle.lights.specs.Lights.{PowerEntries, change, firstPowerEntry, isValid, prepend, powerEntries, areValid, changesOf, lampAfter, lampsAfter, lightsRequest, changesLamps, commandOf}
+use Rattle.lights.specs.Remaining.{remainingEntries, remainingLamps, Remaining, walkEnd, walkStart, lampChanged, LampStep}
+use Rattle.lights.proofs.Bits.{mask-max, bits-mask, lowest-inside, lowest-less, lowest-counts}
+use Rattle.lights.proofs.PowerEntries.{first-valid, first-size, valid-prepend, changes-prepend}
+use Rattle.lights.proofs.WellFormed.{entriesIn, bitmap-there, entries-valid, changes-command, changes-well-formed}
 use Rattle.lights.proofs.Replies.{change-applied, known-pcmd}
 use Rattle.lights.proofs.Remaining.{lamps-lowest, lamps-none}
 use Rattle.lights.specs.declared.apply.Command.{Command}
 use Rattle.lights.specs.declared.lamp.Lamp.{Lamp}
 use Rattle.lights.specs.declared.power.LampChange.{LampChange}
 use Rattle.lights.specs.declared.power.PowerEntry.the-variants.{Valid}
+use Rattle.lights.specs.declared.walk.LampWalk.{LampWalk}
 
--- a request that changes lamps, before its first lamp
-module _ (pcmd : ℕ) (src : List ℕ) (h : changesLamps pcmd src ≡ true) (small : Bytes src) where
-  -- its power entries remain
-  pub remaining-start : Remaining (maskOf src) (drop bitmapSize src)
-  remaining-start =
-      record {
-        mask-max = mask-max src small;
-        entries-valid = rw (bits-mask src small) (entries-valid src (changes-well-formed pcmd src h));
-      }
+-- a request that changes lamps, at its start
+module _ (pcmd : ℕ) (src : List ℕ) (start : ℕ) (h : changesLamps pcmd (drop start src) ≡ true) where
+  abbrev pdata : List ℕ
+  pdata = drop start src
 
-  -- and give the lamps after it
-  pub lamps-start : (s : Settings) (ls : List Lamp)
-      → remainingLamps (commandOf pcmd) (s .«lamp_count») (maskOf src) (drop bitmapSize src) ls ≡ lightsRequest s pcmd src ls .after
-  unfolding remainingLamps
-  lamps-start s ls =
-      let n = s .«lamp_count» in
-      let c = commandOf pcmd in
-      let e : lampsAfter c n (bits maxLamps (maskOf src)) (changesOf (remainingEntries (maskOf src) (drop bitmapSize src))) ls
-      ≡ lampsAfter c n (bitmap src) (changesIn src) ls = rw (bits-mask src small) in
-      e ∙ sym (change-applied s c src ls (changes-well-formed pcmd src h))
-      ∙ sym (ap (λ (x : Reply (List Lamp)). x .after) (known-pcmd s pcmd src ls (changes-command pcmd src h)))
+  -- it has a bitmap
+  pub start-room : start + bitmapSize ≤ length src
+  start-room =
+      let z : bitmapSize ≤ length pdata = bitmap-there pdata (changes-well-formed pcmd pdata h) in
+      let n : length pdata ≡ length src - start = length-drop start src in
+      omega arith
 
--- nothing remains
-pub remaining-none : Remaining 0 []
+  module _ (small : Bytes src) where
+    pdata-small : Bytes pdata
+    pdata-small = bytes-drop start src small
+
+    entries-start : remainingEntries src (walkStart pcmd src start) ≡ entriesIn pdata
+    entries-start = rw (bits-mask pdata pdata-small, ← drop-drop bitmapSize start src)
+
+    -- its power entries remain
+    pub start-remains : Remaining src (walkStart pcmd src start)
+    start-remains =
+        record {
+          mask-max = mask-max pdata pdata-small;
+          at-max = start-room;
+          entries-valid = ap areValid entries-start ∙ entries-valid pdata (changes-well-formed pcmd pdata h);
+        }
+
+    -- and give the lamps after it
+    pub start-lamps : (s : Settings) (ls : List Lamp) → remainingLamps (s .«lamp_count») src (walkStart pcmd src start) ls ≡ lightsRequest s pcmd pdata ls .after
+    unfolding remainingLamps
+    start-lamps s ls =
+        let c = commandOf pcmd in
+        ap₂ (λ (bs : List ℕ) (es : PowerEntries). lampsAfter c (s .«lamp_count») bs (changesOf es) ls) (bits-mask pdata pdata-small) entries-start
+        ∙ sym (change-applied s c pdata ls (changes-well-formed pcmd pdata h))
+        ∙ sym (ap (λ (x : Reply (List Lamp)). x .after) (known-pcmd s pcmd pdata ls (changes-command pcmd pdata h)))
+
+-- at the end of a request nothing remains
+pub end-remains : (src : List ℕ) (end : ℕ) → end ≡ length src → Remaining src (walkEnd end)
 unfolding bits
-remaining-none = record { mask-max = omega arith; entries-valid = refl }
+end-remains src end e =
+    record { mask-max = omega arith; at-max = omega arith; entries-valid = ap (λ (xs : List ℕ). areValid (powerEntries 0 xs)) (drop-of-length-le src {i = end} (omega arith)) }
 
--- no selected lamp remains
-pub lamps-end : (c : Command) (n : ℕ) (xs : List ℕ) (ls : List Lamp) → remainingLamps c n 0 xs ls ≡ ls
-unfolding remainingLamps
-lamps-end c n xs ls = lamps-none c maxLamps n (changesOf (remainingEntries 0 xs)) ls
+module _ (n : ℕ) (src : List ℕ) (w : LampWalk) where
+  -- without a remaining lamp the lamps are those at the end
+  pub end-lamps : w .remaining ≡ 0 → (ls : List Lamp) → remainingLamps n src w ls ≡ ls
+  unfolding remainingLamps
+  end-lamps z ls =
+      ap (λ (m : ℕ). lampsAfter (w .command) n (bits maxLamps m) (changesOf (remainingEntries src w)) ls) z
+      ∙ lamps-none (w .command) maxLamps n (changesOf (remainingEntries src w)) ls
 
--- a selected lamp remains: the lowest of them is next
-module _ {m : ℕ} {xs : List ℕ} (w : Remaining m xs) (some : m ≡ 0 → ⊥) where
-  entries-first : remainingEntries m xs ≡ powerEntries (suc (count (bits maxLamps (withoutLowest m)))) xs
-  entries-first = ap (λ (k : ℕ). powerEntries k xs) (lowest-counts maxLamps m some (w .mask-max))
+-- a lamp remains: the lowest of them is next
+module _ {src : List ℕ} {w : LampWalk} (g : Remaining src w) (some : w .remaining ≡ 0 → ⊥) where
+  abbrev bytes : List ℕ
+  bytes = drop (w .at) src
+
+  entries-first : remainingEntries src w ≡ powerEntries (suc (count (bits maxLamps (withoutLowest (w .remaining))))) bytes
+  entries-first = ap (λ (k : ℕ). powerEntries k bytes) (lowest-counts maxLamps (w .remaining) some (g .mask-max))
 
   -- its power entry is valid
-  pub first-remaining-valid : isValid (firstPowerEntry xs) ≡ true
-  first-remaining-valid =
-      first-valid (firstPowerEntry xs) (λ size. remainingEntries (withoutLowest m) (drop size xs)) (ap areValid (sym entries-first) ∙ w .entries-valid)
+  pub next-valid : isValid (firstPowerEntry bytes) ≡ true
+  next-valid =
+      first-valid (firstPowerEntry bytes) (λ size. powerEntries (count (bits maxLamps (withoutLowest (w .remaining)))) (drop size bytes))
+      (ap areValid (sym entries-first) ∙ g .entries-valid)
 
-  module _ (e : LampChange) (size : ℕ) (q : firstPowerEntry xs ≡ Valid e size) where
-    abbrev rest : PowerEntries
-    rest = remainingEntries (withoutLowest m) (drop size xs)
+  module _ (power seconds size : ℕ) (q : firstPowerEntry bytes ≡ Valid (change power seconds) size) where
+    -- it has a byte and ends inside the request
+    pub next-room : (0 < size) × (w .at + size ≤ length src)
+    next-room =
+        let f = first-size bytes (change power seconds) size q in
+        let n : length bytes ≡ length src - w .at = length-drop (w .at) src in
+        (f .0, omega (arith, g .at-max))
 
-    entries-next : remainingEntries m xs ≡ prepend e rest
-    entries-next = entries-first ∙ rw q
+    -- the walk after it
+    abbrev after : LampWalk
+    after = record { command = w .command; remaining = withoutLowest (w .remaining); at = w .at + size }
 
-    next-valid : areValid rest ≡ true
-    next-valid = sym (valid-prepend e rest) ∙ ap areValid (sym entries-next) ∙ w .entries-valid
+    entries-next : remainingEntries src w ≡ prepend (change power seconds) (remainingEntries src after)
+    entries-next = entries-first ∙ rw (q, drop-drop)
 
-    -- the power entries after it remain
-    pub remaining-next : Remaining (withoutLowest m) (drop size xs)
-    remaining-next = record { mask-max = omega (arith, lowest-less maxLamps m some (w .mask-max), w .mask-max); entries-valid = next-valid }
+    after-valid : areValid (remainingEntries src after) ≡ true
+    after-valid = sym (valid-prepend (change power seconds) (remainingEntries src after)) ∙ ap areValid (sym entries-next) ∙ g .entries-valid
 
-    -- it is changed, then the lamps above it
-    pub lamps-next : (c : Command) (n : ℕ) (ls : List Lamp) → length ls ≡ maxLamps
-        → remainingLamps c n m xs ls ≡ remainingLamps c n (withoutLowest m) (drop size xs) (lampChanged c n (lowestLamp m) (e .power) (e .seconds) ls)
+    -- the lamp is changed, then those above it
+    pub next-step : LampStep src w (record { lamp = lowestLamp (w .remaining); power = power; seconds = seconds; rest = after })
     unfolding remainingLamps
-    lamps-next c n ls l =
-        ap (λ (es : List LampChange). lampsAfter c n (bits maxLamps m) es ls) (ap changesOf entries-next ∙ changes-prepend e rest next-valid)
-        ∙ lamps-lowest c maxLamps m some (w .mask-max) n e (changesOf rest) ls l
+    next-step =
+        record {
+          lamp-max = lowest-inside maxLamps (w .remaining) some (g .mask-max);
+          remains = record {
+            mask-max = omega (arith, lowest-less maxLamps (w .remaining) some (g .mask-max), g .mask-max);
+            at-max = next-room .1;
+            entries-valid = after-valid;
+          };
+          further = omega (arith, next-room .0);
+          lamps = λ n ls l.
+              sym
+              (ap (λ (es : List LampChange). lampsAfter (w .command) n (bits maxLamps (w .remaining)) es ls)
+              (ap changesOf entries-next ∙ changes-prepend (change power seconds) (remainingEntries src after) after-valid)
+              ∙ lamps-lowest (w .command) maxLamps (w .remaining) some (g .mask-max) n (change power seconds) (changesOf (remainingEntries src after)) ls l);
+        }
 
 module _ (c : Command) (n i power seconds : ℕ) (ls : List Lamp) where
   -- an implemented lamp is replaced

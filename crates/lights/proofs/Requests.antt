@@ -12,11 +12,11 @@ use Rattle.dpa.specs.Settings.{maxLamps}
 use Rattle.dpa.specs.Reply.{Harmless, Reply, reply, errorReply}
 use Rattle.dpa.proofs.Bool.{both, by-cond, by-test}
 use Rattle.dpa.specs.declared.settings.Settings.{Settings}
-use Rattle.lights.specs.Bits.{bitmapSize, count, bitmap, isOne, selected}
+use Rattle.lights.specs.Bits.{bitmapSize, count, bitmap, selected}
 use Rattle.lights.specs.Lamp.{off, lampFits, LampRule, actualLevel}
 use Rattle.lights.specs.Lights.{commandPcmd, enumeratePcmd, keepPower, PowerEntries, allValid, malformed, powerEntries, malformedError, kept, lampsAfter, levelsBefore, levelsReply, changeLamps, enumerateLamps, lightsRequest, wellFormed, changesOf, changesLamps, commandOf}
 use Rattle.lights.proofs.Lamps.{fits-test, fits-rule, fits-above, zero-facts}
-use Rattle.lights.proofs.Bits.{count-length}
+use Rattle.lights.proofs.Bits.{isSet, count-length}
 use Rattle.lights.proofs.Selected.{bitmap-length, count-selected, rank-selected, selected-bit}
 use Rattle.lights.proofs.PowerEntries.{zeroChange, power-entries-length}
 use Rattle.lights.proofs.WellFormed.{changesIn}
@@ -107,7 +107,7 @@ module _ (s : Settings) (xs : List ℕ) (ls : List Lamp) where
         (λ (x : Reply (List Lamp)). x .error ≡ 0 → getD (x .after) k off ≡ cond (selected xs k && ltb k (s .«lamp_count»)) (lampAfterEntry c l (changeFor xs k)) l)
         (λ z. absurd (omega arith))
         (λ es _ e z.
-        let d : isOne (getD (bitmap xs) k 0) ≡ selected xs k = selected-bit xs k h in
+        let d : isSet (getD (bitmap xs) k 0) ≡ selected xs k = selected-bit xs k h in
         let f : es ≡ changesIn xs = sym (ap changesOf e) in
         let r : count (take k (bitmap xs)) ≡ numberBelow k (selected xs) = rank-selected xs k (omega arith) in
         lamps-after-at c (s .«lamp_count») (bitmap xs) es ls k bitmap-fits (changes-enough es e)
@@ -150,7 +150,7 @@ module _ (s : Settings) (xs : List ℕ) (ls : List Lamp) where
         (λ c es _ e.
         let valid : (i : ℕ) → ChangeRule (getD es i zeroChange) = power-entries-rule (count (bitmap xs)) (drop bitmapSize xs) es e in
         rw (lamps-after-at c n (bitmap xs) es ls k bitmap-fits (changes-enough es e))
-        (by-cond (λ (l : Lamp). LampRule l) (isOne (getD (bitmap xs) k 0) && ltb k n) _ _
+        (by-cond (λ (l : Lamp). LampRule l) (isSet (getD (bitmap xs) k 0) && ltb k n) _ _
         (λ _. lamp-after-rule c (getD ls k off) (getD es (count (take k (bitmap xs))) zeroChange) rule (valid (count (take k (bitmap xs)))))
         (λ _. rule))))
         (λ h. unimplemented-stays p k h ∙ zero-facts (getD ls k off) (sym (fits-above n k (getD ls k off) h) ∙ fit))

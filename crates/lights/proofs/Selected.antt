@@ -13,8 +13,8 @@ use borrow.Author.Tests.{ltb-true, ltb-false}
 use Rattle.dpa.specs.Settings.{maxLamps}
 use Rattle.dpa.specs.Lists.{Bytes, numberBelow}
 use Rattle.dpa.proofs.Bool.{by-test, number-same, number-shift}
-use Rattle.lights.specs.Bits.{bits, count, bitmap, maskOf, isOne, selected}
-use Rattle.lights.proofs.Bits.{bits-length, mask-max, bits-mask, ones-count}
+use Rattle.lights.specs.Bits.{bits, count, bitmap, maskOf, selected}
+use Rattle.lights.proofs.Bits.{isSet, set-exact, bits-length, mask-max, bits-mask, ones-count}
 
 -- bit i of a number
 pub bit-at : (k m i : ℕ) → i < k → getD (bits k m) i 0 ≡ m / 2 ^ i % 2
@@ -66,23 +66,23 @@ bitmap-at xs k h =
     rear-at _ _ (k - 8 - 8) (omega arith) ∙ bit-at 8 _ (k - 8 - 8 - 8) (omega arith) ∙ place 3 (k - 8 - 8 - 8) (omega arith) (omega arith))))
 
 -- lamp k is selected if bit k is 1
-pub selected-bit : (xs : List ℕ) (k : ℕ) → k < maxLamps → isOne (getD (bitmap xs) k 0) ≡ selected xs k
+pub selected-bit : (xs : List ℕ) (k : ℕ) → k < maxLamps → isSet (getD (bitmap xs) k 0) ≡ selected xs k
 unfolding selected
-selected-bit xs k h = ap isOne (bitmap-at xs k h)
+selected-bit xs k h = ap isSet (bitmap-at xs k h) ∙ set-exact (getD xs (k / 8) 0 / 2 ^ (k % 8) % 2) (omega arith)
 
 -- the ones among the first k bits
-number-count : (bs : List ℕ) (k : ℕ) → k ≤ length bs → numberBelow k (λ i. isOne (getD bs i 0)) ≡ count (take k bs)
+number-count : (bs : List ℕ) (k : ℕ) → k ≤ length bs → numberBelow k (λ i. isSet (getD bs i 0)) ≡ count (take k bs)
 unfolding numberBelow
 number-count bs zero h = refl
 number-count [] (suc k) h = absurd (omega arith)
-number-count (zero ∷ bs) (suc k) h = number-shift k (λ i. isOne (getD (zero ∷ bs) i 0)) ∙ omega (arith, number-count bs k (omega arith))
-number-count (suc b ∷ bs) (suc k) h = number-shift k (λ i. isOne (getD (suc b ∷ bs) i 0)) ∙ omega (arith, number-count bs k (omega arith))
+number-count (zero ∷ bs) (suc k) h = number-shift k (λ i. isSet (getD (zero ∷ bs) i 0)) ∙ omega (arith, number-count bs k (omega arith))
+number-count (suc b ∷ bs) (suc k) h = number-shift k (λ i. isSet (getD (suc b ∷ bs) i 0)) ∙ omega (arith, number-count bs k (omega arith))
 
 -- the ones below bit k are the selected lamps below k
 pub rank-selected : (xs : List ℕ) (k : ℕ) → k ≤ maxLamps → count (take k (bitmap xs)) ≡ numberBelow k (selected xs)
 rank-selected xs k h =
     sym (number-count (bitmap xs) k (omega (arith, bitmap-length xs)))
-    ∙ number-same k (λ i. isOne (getD (bitmap xs) i 0)) (selected xs) (λ i l. selected-bit xs i (omega arith))
+    ∙ number-same k (λ i. isSet (getD (bitmap xs) i 0)) (selected xs) (λ i l. selected-bit xs i (omega arith))
 
 -- the number of 1-bits is the number of selected lamps
 pub count-selected : (xs : List ℕ) → count (bitmap xs) ≡ numberBelow maxLamps (selected xs)

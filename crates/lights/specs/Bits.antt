@@ -1,9 +1,10 @@
 -- Document 01, "Lights 71": the bitmap of a request. Bit 0 of byte 0 is lamp 0.
 use Prim.Native.Nat.{ℕ, zero, suc, _+_, _-_, _*_, _/_, _%_, _^_}
 use mathlib.Core.List.{List, [], _∷_, _++_}
-use mathlib.Core.Bool.{Bool, true, false}
+use mathlib.Core.Bool.{Bool}
 use lib.ListN.{getD}
 use lib.Count.{trailingZeros}
+use Rattle.dpa.specs.Lists.{bitAt}
 use Rattle.dpa.specs.Number.{wordAt}
 use Rattle.dpa.specs.Settings.{maxLamps}
 
@@ -37,12 +38,6 @@ lowestLamp m = trailingZeros maxLamps m
 abbrev pub withoutLowest : ℕ → ℕ
 withoutLowest m = m - 2 ^ lowestLamp m
 
--- ---- the same lamp by lamp, for the laws
-
-abbrev pub isOne : ℕ → Bool
-isOne zero = false
-isOne (suc b) = true
-
--- lamp k is selected: bit k mod 8 of byte k / 8 is 1 (proofs/Selected: `bitmap-at`, `count-selected`, `mask-selected`)
+-- the same lamp by lamp: bit k selects lamp k (proofs/Selected: `selected-bit`, `count-selected`, `mask-selected`)
 unfoldable pub selected : List ℕ → ℕ → Bool
-selected xs k = isOne (getD xs (k / 8) 0 / 2 ^ (k % 8) % 2)
+selected xs k = bitAt xs k

@@ -1,6 +1,7 @@
 // The levels that set, raise and lower return, in one loop over the selected lamps from the lowest on.
 use crate::bitmap::lowest_lamp;
 use crate::bitmap::mask_of;
+use crate::bitmap::selected_count;
 use crate::bitmap::without_lowest;
 use crate::lamp::LAMPS;
 use crate::lamp::Lamp;
@@ -24,7 +25,8 @@ pub fn write_levels(settings: Settings, pdata: &[u8], lamps: [Lamp; LAMPS], out:
         × (now (out .exit) ≡ overwriteFront (levelsBefore settings (settings .«lamp_count») (bitmap (now (pdata .entry))) lamps) (now (out .entry))) ⌝ }
 {
     let inverse = step_inverse(settings);
-    let mut remaining = mask_of(pdata);
+    let mask = mask_of(pdata);
+    let mut remaining = mask;
     let mut written: usize = 0;
     while remaining != 0 {
         // An unimplemented lamp is off.
@@ -33,5 +35,5 @@ pub fn write_levels(settings: Settings, pdata: &[u8], lamps: [Lamp; LAMPS], out:
         written = written + 1;
         remaining = without_lowest(remaining);
     }
-    written
+    selected_count(mask)
 }

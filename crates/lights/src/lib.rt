@@ -5,3 +5,4 @@ pub mod lamp;
 pub mod levels;
 pub mod power;
 pub mod request;
+pub mod walk;

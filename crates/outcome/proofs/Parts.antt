@@ -30,7 +30,7 @@ use Rattle.outcome.proofs.Outcomes.{os-cases, execute-cases}
 
 module _ (pnum pcmd : ℕ) (d : List ℕ) (st : State) where
   -- the settings stay
-  peripheral-settings : peripheralRequest pnum pcmd d st .after .node .settings ≡ st .node .settings
+  pub peripheral-settings : peripheralRequest pnum pcmd d st .after .node .settings ≡ st .node .settings
   peripheral-settings = peripheral-cases pnum pcmd d st (λ (x : Reply State). x .after .node .settings ≡ st .node .settings) (λ m. memory m _) refl (λ _. refl)
     where
       memory : (m : Memory) (b : List ℕ) → withMemory m st b .node .settings ≡ st .node .settings
@@ -91,21 +91,25 @@ module _ (i : Request) (st : State) where
 pub sound-sized : (st : State) → SoundState st → Sized (memoriesOf st)
 sound-sized st h = record { ram-size = node-ram (st .node) (h .node-ok); eeprom-size = h .eeprom-size; external-size = h .external-size }
 
--- an entry keeps the sizes of the memories
-pub entry-keeps-sizes : (s : Settings) (i : Request) (ms : Memories) → Sized ms → Sized (entryMemories s i ms)
-unfolding entryMemories peripheralMemories
-entry-keeps-sizes s i ms h =
-    let stays : (m : Memory) (b : List ℕ) → length b ≡ sizeOf m → length (memoryRequest m (i .pcmd) (i .pdata) b .after) ≡ sizeOf m =
-    λ m b e. request-length m (i .pdata) b (i .pcmd) e ∙ e in
-    by-cond Sized (hwpidMatches s (i .hwpid)) _ _
-    (λ _. by-cond Sized (eqb (i .pnum) (memoryPnum Eeprom)) _ _
+-- a request to a peripheral keeps the sizes of the memories
+pub peripheral-keeps-sizes : (pnum pcmd : ℕ) (d : List ℕ) (ms : Memories) → Sized ms → Sized (peripheralMemories pnum pcmd d ms)
+unfolding peripheralMemories
+peripheral-keeps-sizes pnum pcmd d ms h =
+    let stays : (m : Memory) (b : List ℕ) → length b ≡ sizeOf m → length (memoryRequest m pcmd d b .after) ≡ sizeOf m =
+    λ m b e. request-length m d b pcmd e ∙ e in
+    by-cond Sized (eqb pnum (memoryPnum Eeprom)) _ _
     (λ _. record { ram-size = h .ram-size; eeprom-size = stays Eeprom (ms .eeprom) (h .eeprom-size); external-size = h .external-size })
-    (λ _. by-cond Sized (eqb (i .pnum) (memoryPnum External)) _ _
+    (λ _. by-cond Sized (eqb pnum (memoryPnum External)) _ _
     (λ _. record { ram-size = h .ram-size; eeprom-size = h .eeprom-size; external-size = stays External (ms .external) (h .external-size) })
-    (λ _. by-cond Sized (eqb (i .pnum) (memoryPnum Ram)) _ _
+    (λ _. by-cond Sized (eqb pnum (memoryPnum Ram)) _ _
     (λ _. record { ram-size = stays Ram (ms .ram) (h .ram-size); eeprom-size = h .eeprom-size; external-size = h .external-size })
-    (λ _. h))))
-    (λ _. h)
+    (λ _. h)))
+
+-- and so does an entry
+pub entry-keeps-sizes : (s : Settings) (i : Request) (ms : Memories) → Sized ms → Sized (entryMemories s i ms)
+unfolding entryMemories
+entry-keeps-sizes s i ms h =
+    by-cond Sized (hwpidMatches s (i .hwpid)) _ _ (λ _. peripheral-keeps-sizes (i .pnum) (i .pcmd) (i .pdata) ms h) (λ _. h)
 
 -- the state has these settings
 abbrev With : Settings → State → Type 0
@@ -117,6 +121,10 @@ with-kept s i st k = entry-settings i st ∙ k
 module _ (list : List ℕ) (st : State) where
   abbrev settings : Settings
   settings = st .node .settings
+
+  -- a list leaves the settings
+  pub entries-settings : runEntries entryAfter (reading list .entries) st .node .settings ≡ settings
+  entries-settings = entries-keep entryAfter (With settings) (with-kept settings) (reading list .entries) st refl
 
   -- a list changes the memories by themselves
   pub entries-memories : memoriesOf (runEntries entryAfter (reading list .entries) st) ≡ listMemories settings list (memoriesOf st)
@@ -139,5 +147,5 @@ request-settings i st =
     let Kept : Outcome → Type 0 = λ (a : Outcome). With (st .node .settings) (a .after) in
     execute-cases Kept st (λ _. refl) i
     (os-cases Kept st (λ _. refl) (i .pcmd) (i .pdata)
-    (λ list. entries-keep entryAfter (With (st .node .settings)) (with-kept (st .node .settings)) (reading list .entries) st refl) (λ _ _ _. refl) refl refl)
+    (λ list. entries-settings list st) (λ _ _ _. refl) refl refl)
     (peripheral-settings (i .pnum) (i .pcmd) (i .pdata) st)

@@ -1,23 +1,23 @@
 -- `levels::write_levels` meets its contract: proofs/LevelsLoop has the invariant and its laws.
 use borrow.Author.Needs.{needs}
 use native.Mathlib.Omega.{arith}
-use mathlib.Core.Path.{_≡_}
+use mathlib.Core.Path.{_≡_, _∙_}
 use lib.ListN.{length}
 use denote.Ref.{now}
 use Rattle.dpa.specs.Settings.{maxLamps}
 use Rattle.lights.specs.Bits.{bitmap}
 use Rattle.lights.specs.Lights.{levelsBefore}
 use Rattle.lights.proofs.Bits.{lowest-less}
-use Rattle.lights.proofs.LevelsLoop.{LevelsInput, LevelsLoop, levels-start, levels-end, levels-fewer, levels-room, levels-next}
+use Rattle.lights.proofs.LevelsLoop.{LevelsInput, LevelsLoop, levels-start, levels-counted, levels-end, levels-fewer, levels-room, levels-next}
 use Rattle.lights.proofs.levels.write_levels.Statement.{statement}
 use Rattle.lights.proofs.levels.write_levels.Tie as tie
 
 abbrev Inv-loop : tie.InvT-loop
-Inv-loop settings pdata out₀ lamps inverse remaining₀ written₀ out remaining written =
+Inv-loop settings pdata out₀ lamps inverse mask remaining₀ written₀ out remaining written =
     LevelsLoop settings lamps (levelsBefore settings (settings .«lamp_count») (bitmap pdata) lamps) out₀ out remaining written
 
 abbrev μ-loop : tie.MeasureT-loop
-μ-loop settings pdata out₀ lamps inverse remaining₀ written₀ out remaining written = remaining
+μ-loop settings pdata out₀ lamps inverse mask remaining₀ written₀ out remaining written = remaining
 
 lamps-length : (c : tie.Start Inv-loop μ-loop) → length (c .args .t3) ≡ maxLamps
 lamps-length c = search needs
@@ -74,13 +74,19 @@ loop-again c =
     (levels-next (t .before .loop .inv) (t .loop-test .taken) _ (lowest .lowest-lamp .result) (lowest .lowest-lamp .ensures .0) (level .actual-level .ensures))
 
 same-length : tie.Need-same-length Inv-loop μ-loop
-same-length c = c .before .loop .inv .out-length
+same-length c = c .before .before .loop .inv .out-length
 
 returns : tie.Need-returns Inv-loop μ-loop
-returns c = levels-end (c .before .loop .inv) (c .loop-test .left)
+returns c =
+    let l = c .before .before in
+    let s = l .before .before .before .before .before in (
+      c .selected-count .ensures .0
+          ∙ levels-counted _ _ _ _ (lamps-length s) (λ i. l .before .before .before .before .shared-slice-known .given i .fits) (l .before .mask-of .ensures),
+      levels-end (l .loop .inv) (c .before .loop-test .left),
+    )
 
 pub write-levels-spec : {M : Type 1} → statement M
 write-levels-spec =
     tie.close (tie.spec Inv-loop μ-loop (λ c κs. search needs) (λ c κs. search needs) loop-holds lowest-lamp-requires mul-lamp
     array-copy-out-lamp actual-level-requires slice-write-out add-written without-lowest-requires loop-less
-    loop-again same-length returns)
+    loop-again (λ c κs. search needs) same-length returns)

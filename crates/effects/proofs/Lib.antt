@@ -1,0 +1,4 @@
+pub mod Tasks
+pub mod Walks
+pub mod LampChanges
+pub mod Effects

@@ -1,3 +1,0 @@
-pub mod Walks
-pub mod WalkStarts
-pub mod LampChanges

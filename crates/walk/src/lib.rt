@@ -1,2 +1,0 @@
-// The lamps after a request.
-pub mod lamps;
