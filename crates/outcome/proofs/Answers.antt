@@ -4,7 +4,6 @@ use mathlib.Core.List.{List}
 use mathlib.Core.Bool.{Bool, true, false, cond}
 use Prim.Native.Nat.{ℕ}
 use native.Mathlib.Omega.{arith}
-use lib.Dec.{eqb}
 use borrow.Author.Tests.{eq-eqb, ne-eqb}
 use Rattle.dpa.specs.Pnum.{osPnum, lightsPnum}
 use Rattle.dpa.specs.Reply.{Reply, SeenReply, replySeen, replyInBuffer, errorReply}
@@ -22,7 +21,7 @@ use Rattle.node.specs.State.{State, withNode, memoryOf, withMemory}
 use Rattle.outcome.specs.declared.reply.Effect.{Effect}
 use Rattle.outcome.specs.declared.reply.Effect.the-variants.{Nothing, Alone}
 use Rattle.outcome.specs.declared.reply.RequestReply.{RequestReply}
-use Rattle.outcome.specs.Request.{peripheralRequest, hwpidMatches, loadReport, noReport, Outcome, replyOnly, unansweredOutcome, codeCheckRequest, osRequest, execute}
+use Rattle.outcome.specs.Request.{peripheralRequest, hwpidMatches, loadReport, Outcome, replyOnly, unansweredOutcome, codeCheckRequest, osRequest, execute}
 use Rattle.outcome.specs.Effect.{succeeded, onSuccess, osEffect, requestEffect}
 use Rattle.outcome.specs.Seen.{SeenAnswer, answerSeen, answerInBuffer, errorOnly, unansweredOnly, peripheralOnly}
 use Rattle.outcome.proofs.Peripherals.{peripheral-memory, peripheral-lights, peripheral-unknown}

@@ -20,11 +20,10 @@ use Rattle.node.proofs.Nodes.{node-ram}
 use Rattle.batch.specs.Batch.{Request, reading, runEntries}
 use Rattle.batch.proofs.Running.{entries-keep, entries-part}
 use Rattle.node.specs.State.{State, SoundState, withMemory}
-use Rattle.outcome.specs.Request.{peripheralRequest, hwpidMatches, entryAfter, Outcome, codeCheckRequest, execute}
+use Rattle.outcome.specs.Request.{peripheralRequest, hwpidMatches, entryAfter}
 use Rattle.outcome.specs.Seen.{Memories, memoriesOf, Sized, peripheralMemories, peripheralLamps, entryMemories, entryLamps, listMemories, listLamps}
 use Rattle.outcome.proofs.Peripherals.{peripheral-lights, peripheral-cases}
 use Rattle.outcome.proofs.BatchEntries.{entry-match, entry-mismatch, entry-cases}
-use Rattle.outcome.proofs.Outcomes.{os-cases, execute-cases}
 
 -- ---- a request to a peripheral
 
@@ -137,15 +136,3 @@ module _ (list : List ℕ) (st : State) where
   entries-lamps =
       entries-part entryAfter (entryLamps settings) (λ (x : State). x .node .lamps) (With settings) (with-kept settings)
       (λ i x k. entry-lamps i x ∙ ap (λ (s : Settings). entryLamps s i (x .node .lamps)) k) (reading list .entries) st refl
-
--- ---- requests
-
--- no request changes the settings
-pub request-settings : (i : Request) (st : State) → execute i st .after .node .settings ≡ st .node .settings
-unfolding codeCheckRequest
-request-settings i st =
-    let Kept : Outcome → Type 0 = λ (a : Outcome). With (st .node .settings) (a .after) in
-    execute-cases Kept st (λ _. refl) i
-    (os-cases Kept st (λ _. refl) (i .pcmd) (i .pdata)
-    (λ list. entries-settings list st) (λ _ _ _. refl) refl refl)
-    (peripheral-settings (i .pnum) (i .pcmd) (i .pdata) st)

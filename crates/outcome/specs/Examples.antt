@@ -2,8 +2,8 @@
 -- 0x2471 and DpaValue 0x33. Its memories are all zeros, except bytes 0 and 1 of its EEPROM.
 use Prim.Native.Nat.{ℕ}
 use mathlib.Core.Path.{_≡_}
-use mathlib.Core.Bool.{true, false}
-use mathlib.Core.List.{List, [], _∷_, _++_}
+use mathlib.Core.Bool.{true}
+use mathlib.Core.List.{List, [], _∷_}
 use lib.ListN.{replicate, getD, take}
 use Rattle.dpa.specs.declared.settings.Settings.{Settings}
 use Rattle.batch.specs.Batch.{requestOf}

@@ -1,7 +1,6 @@
 -- Document 01, "Taking a request", with document 02, changes 1 and 3: what a request does to a node and its memories, and what is sent back.
 -- From the bottom up: peripherals, batch entries, OS requests, `execute`, and at the end the whole call, `handleRequest`.
 use Prim.Native.Nat.{ℕ, _+_}
-use mathlib.Core.Path.{_≡_}
 use mathlib.Core.List.{List, [], _++_}
 use mathlib.Core.Bool.{Bool, true, false, cond, _||_}
 use lib.ListN.{length, drop}

@@ -1,24 +1,22 @@
 -- How the code's results and buffers show the outcome of a request and the result of a call, and what a request does to the memories and
 -- to the lamps, each by itself.
-use Prim.Native.Nat.{ℕ, _≤_}
+use Prim.Native.Nat.{ℕ}
 use mathlib.Core.Path.{_≡_}
 use mathlib.Core.List.{List}
 use mathlib.Core.Bool.{Bool, true, false, cond}
-use lib.ListN.{length, drop}
+use lib.ListN.{length}
 use lib.Dec.{eqb}
 use Rattle.dpa.specs.declared.frame.Frame.{Frame}
 use Rattle.dpa.specs.declared.settings.Settings.{Settings}
 use Rattle.dpa.specs.Lists.{overwriteFront}
 use Rattle.dpa.specs.Frame.{broadcastNadr}
-use Rattle.dpa.specs.NodeSet.{nodeSetSize}
-use Rattle.dpa.specs.Pnum.{osPnum, lightsPnum}
+use Rattle.dpa.specs.Pnum.{lightsPnum}
 use Rattle.memory.specs.declared.block.Memory.the-variants.{Eeprom, Ram, External}
 use Rattle.memory.specs.Block.{memoryPnum, sizeOf}
 use Rattle.memory.specs.Request.{memoryRequest}
 use Rattle.lights.specs.declared.lamp.Lamp.{Lamp}
-use Rattle.lights.specs.declared.apply.Command.the-variants.{Lower}
-use Rattle.lights.specs.Lights.{commandPcmd, lightsRequest, changesLamps}
-use Rattle.batch.specs.Batch.{Request, reading, runEntries, batchPcmd}
+use Rattle.lights.specs.Lights.{lightsRequest}
+use Rattle.batch.specs.Batch.{Request, reading, runEntries}
 use Rattle.node.specs.declared.record.Node.{Node}
 use Rattle.node.specs.declared.record.ReadOnly.{ReadOnly}
 use Rattle.node.specs.Node.{nodeFromParts}
@@ -26,13 +24,12 @@ use Rattle.outcome.specs.declared.reply.Report.{Report}
 use Rattle.outcome.specs.declared.reply.RequestReply.{RequestReply}
 use Rattle.outcome.specs.declared.answer.RequestAnswer.{RequestAnswer}
 use Rattle.node.specs.State.{State, state}
-use Rattle.batch.specs.Selective.{selectivePcmd}
 use Rattle.outcome.specs.declared.reply.Effect.{Effect}
 use Rattle.outcome.specs.declared.reply.Effect.the-variants.{Nothing, Alone}
 use Rattle.outcome.specs.Effect.{onSuccess}
 use Rattle.outcome.specs.Request.{hwpidMatches, noReport, Outcome, CallResult, unansweredResult, unicastResult}
 
--- ---- inside the handler: the node is split into parts; the lamps change last, apart from the memories
+-- ---- the effect of a request: the node is split into parts, and the lamps change apart from the memories
 
 -- the state, from the read-only part of the node, lamps, RAM, EEPROM and external memory
 abbrev pub stateFromParts : ReadOnly → List Lamp → List ℕ → List ℕ → List ℕ → State
@@ -80,20 +77,6 @@ listMemories s list ms = runEntries (entryMemories s) (reading list .entries) ms
 
 abbrev pub listLamps : Settings → List ℕ → List Lamp → List Lamp
 listLamps s list ls = runEntries (entryLamps s) (reading list .entries) ls
-
--- the lamps after a request that succeeded; any other leaves them (`request-lamps`)
-unfoldable pub lampsAfterSuccess : Settings → Request → List Lamp → List Lamp
-lampsAfterSuccess s i ls =
-    cond (eqb (i .pnum) osPnum)
-    (cond (eqb (i .pcmd) batchPcmd) (listLamps s (i .pdata) ls)
-    (cond (eqb (i .pcmd) selectivePcmd) (listLamps s (drop nodeSetSize (i .pdata)) ls)
-    ls))
-    (peripheralLamps s (i .pnum) (i .pcmd) (i .pdata) ls)
-
--- what is known of a request that succeeded: set, raise and lower change lamps, and a selective batch has a node set
-pub record StartKnown (i : Request) : Type 0 where
-  pub changes : i .pnum ≡ lightsPnum → i .pcmd ≤ commandPcmd Lower → changesLamps (i .pcmd) (i .pdata) ≡ true
-  pub node-set : i .pnum ≡ osPnum → i .pcmd ≡ selectivePcmd → nodeSetSize ≤ length (i .pdata)
 
 -- ---- the answer to a request
 
