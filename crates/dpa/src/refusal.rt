@@ -31,7 +31,7 @@ pub const VIEW: u8 = 10;
 pub const FRAMED: u8 = 11;
 // An address that no node can have, one that is bonded already, or one that is not bonded.
 pub const ADDRESS: u8 = 12;
-// The desk holds as many requests as it can.
+// The send queue holds as many requests as it can.
 pub const FULL: u8 = 13;
 // A time before the last one given, or too late.
 pub const TIME: u8 = 14;

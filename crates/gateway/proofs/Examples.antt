@@ -19,13 +19,13 @@ gateway-examples =
     record {
       second-waits = refl;
       mixed-released = refl;
-      mixed-refused = refl;
-      full-refused = refl;
-      freed-refused = refl;
       freed-released = refl;
-      frames-refused = refl;
-      bonds-refused = refl;
       bonds-left = (refl, refl);
       bonds-counted = (refl, refl, refl, refl, refl, refl);
       broken-refused = (refl, refl);
+      mixed-refused = refl;
+      full-refused = refl;
+      freed-refused = refl;
+      frames-refused = refl;
+      bonds-refused = refl;
     }
