@@ -1,11 +1,11 @@
 // Where a book that is not well formed goes wrong.
-use crate::print::print;
-use crate::print::print_with;
 use book::locations::LOCATION_LENGTH;
 use book::locations::SCENES_MAX;
 use book::locations::scene_location;
 use book::step::STEP_LENGTH;
 use book::step::STEPS_MAX;
+use console::print::print;
+use console::print::print_with;
 use dpa::number::wide;
 use dpa::refusal;
 ghost use Prim.Native.Nat.{_+_, _*_, _≤_};

@@ -1,7 +1,4 @@
 // The list of a book's scenes and their steps.
-use crate::print::print;
-use crate::print::print_bytes;
-use crate::print::print_with;
 use book::kind::WRITE_EEPROM;
 use book::kind::WRITE_RAM;
 use book::kind::is_lamp;
@@ -11,6 +8,9 @@ use book::step::StepsCheck;
 use book::step::check_steps;
 use book::step::step_at;
 use book::step::step_fault;
+use console::print::print;
+use console::print::print_bytes;
+use console::print::print_with;
 use dpa::number::wide;
 use dpa::refusal;
 use dpa::settings::MAX_LAMPS;
