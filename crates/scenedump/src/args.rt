@@ -1,5 +1,6 @@
 // The arguments: options, then the file, then scene numbers.
-use crate::number::number_argument;
+use console::input::NO_FILE;
+use console::number::number_argument;
 use dpa::frame::Frame;
 use dpa::settings::address_ok;
 use libc::STDERR_FILENO;
@@ -24,9 +25,6 @@ const DEFAULTS: Options = Options {
 const HWPID_MAX: usize = 0xFFFF;
 
 const HOPS_MAX: u16 = 255;
-
-// Argument 0 is the program's name, so that no file has this number.
-pub const NO_FILE: usize = 0;
 
 pub enum Arguments {
     // The options, the number of the file's argument, and that of the first scene's.

@@ -1,9 +1,9 @@
 // Where a book that is not well formed goes wrong.
-use crate::print::print;
-use crate::print::print_with;
 use book::check::BookFault;
 use book::locations::SCENES_MAX;
 use book::step::STEPS_MAX;
+use console::print::print;
+use console::print::print_with;
 use dpa::number::wide;
 use dpa::refusal;
 

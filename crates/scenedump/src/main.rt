@@ -23,9 +23,6 @@
 // What keeps the program from its work goes to standard error: a bad argument with the usage, or what failed and the reason.
 mod args;
 mod fault;
-mod input;
-mod number;
-mod print;
 mod requests;
 mod steps;
 
@@ -37,11 +34,11 @@ use args::refuse_argument;
 use book::check::BookCheck;
 use book::check::check_book;
 use book::locations::LONGEST_BOOK;
+use console::input::Input;
+use console::input::read_input;
+use console::print::print_with;
 use fault::print_book_fault;
 use fault::print_not_a_book;
-use input::Input;
-use input::read_input;
-use print::print_with;
 use requests::print_scenes;
 use steps::print_book;
 

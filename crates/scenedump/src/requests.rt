@@ -1,9 +1,9 @@
 // The requests that a scene compiles to, and the time that each takes.
 use crate::args::Options;
-use crate::number::number_argument;
-use crate::print::print;
-use crate::print::print_bytes;
-use crate::print::print_with;
+use console::number::number_argument;
+use console::print::print;
+use console::print::print_bytes;
+use console::print::print_with;
 use dpa::frame::Frame;
 use dpa::number::wide;
 use dpa::number::wide_word;

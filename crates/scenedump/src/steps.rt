@@ -1,10 +1,10 @@
 // The list of a book's scenes and their steps.
-use crate::print::print;
-use crate::print::print_bytes;
-use crate::print::print_with;
 use book::locations::scene_location;
 use book::step::Step;
 use book::step::step_at;
+use console::print::print;
+use console::print::print_bytes;
+use console::print::print_with;
 use dpa::number::wide;
 use dpa::refusal;
 use dpa::settings::MAX_LAMPS;

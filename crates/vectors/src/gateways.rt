@@ -1,4 +1,4 @@
-// A gateway of a STD network with DPA value 7, its bonds and its requests.
+// Histories of a gateway: bonds, requests and releases.
 use crate::print::print_bytes;
 use crate::print::print_number;
 use crate::print::print_text;
@@ -65,8 +65,8 @@ fn run_row(gateway: Gateway, row: &[u8]) -> Gateway {
     print_send(gateway, text, &bytes[..n])
 }
 
-fn run_rows(rows: &[u8]) {
-    let mut gateway = gateway_start(false, 7);
+fn run_rows(started: Gateway, rows: &[u8]) {
+    let mut gateway = started;
     let mut start: usize = 0;
     while start < rows.len() {
         let end = find(rows, start, b'\n');
@@ -75,10 +75,11 @@ fn run_rows(rows: &[u8]) {
     }
 }
 
-pub fn print_gateways() {
-    // The request of the confirmation, twice, with 6 hops each way and a delay of 20 ms, at 1000 ms: the second is released 720 ms after
-    // the first.
+// The request of the confirmation, twice, with 6 hops each way and a delay of 20 ms, at 1000 ms. The second is released 720 ms after the
+// first.
+fn print_guide() {
     run_rows(
+        gateway_start(false, 7),
         b"bonds: 0A
 : 06 06 14 00 E8 03 0A 00 07 01 FF FF
 : 06 06 14 00 E8 03 0A 00 07 01 FF FF
@@ -87,34 +88,50 @@ release at 1719: B7 06
 release at 1720: B8 06
 ",
     );
-    // 2 hops and response hops 3, to a node and to all nodes: the wait after the second one has no response.
+}
+
+// A request to node 5, one to all nodes, and one to node 5, with 2 hops, response hops 3 and a delay of 20 ms. After a request to all
+// nodes, no response is waited for.
+fn print_waits() {
     run_rows(
+        gateway_start(false, 7),
         b"bonds: 05
 : 02 03 14 00 84 03 05 00 71 00 FF FF 01 00 00 00 64
-: 02 03 14 00 B6 03 FF 00 05 01 FF FF 00 00 00 00 00 00 00 00 00 00 00 00 00 00 00 00 00
-: 02 03 14 00 B6 03 05 00 07 01 FF FF
+: 02 03 14 00 B6 03 FF 00 71 00 FF FF 01 00 00 00 64
+: 02 03 14 00 B6 03 05 00 71 00 FF FF 01 00 00 00 64
 release at 1000: E8 03
 release at 1379: 63 05
 release at 1380: 64 05
-release at 1549: 0D 06
-release at 1550: 0E 06
+release at 1519: EF 05
+release at 1520: F0 05
 ",
     );
-    // Refusal 12 comes before 13, and 13 before 14.
+}
+
+// Eight requests to node 1, the only bonded one, at 1000 ms. Then requests at 999 ms: to another node, to a full queue, and after a
+// release.
+fn print_refusals() {
     run_rows(
+        gateway_start(true, 0),
         b"bonds: 01
-: 00 00 00 00 E8 03 01 00 07 01 FF FF
-: 00 00 00 00 E8 03 01 00 07 01 FF FF
-: 00 00 00 00 E8 03 01 00 07 01 FF FF
-: 00 00 00 00 E8 03 01 00 07 01 FF FF
-: 00 00 00 00 E8 03 01 00 07 01 FF FF
-: 00 00 00 00 E8 03 01 00 07 01 FF FF
-: 00 00 00 00 E8 03 01 00 07 01 FF FF
-: 00 00 00 00 E8 03 01 00 07 01 FF FF
-no bond, no place, too early: 00 00 00 00 E7 03 02 00 07 01 FF FF
-no place, too early: 00 00 00 00 E7 03 01 00 07 01 FF FF
+: 02 03 14 00 E8 03 01 00 71 00 FF FF 01 00 00 00 64
+: 02 03 14 00 E8 03 01 00 71 00 FF FF 01 00 00 00 64
+: 02 03 14 00 E8 03 01 00 71 00 FF FF 01 00 00 00 64
+: 02 03 14 00 E8 03 01 00 71 00 FF FF 01 00 00 00 64
+: 02 03 14 00 E8 03 01 00 71 00 FF FF 01 00 00 00 64
+: 02 03 14 00 E8 03 01 00 71 00 FF FF 01 00 00 00 64
+: 02 03 14 00 E8 03 01 00 71 00 FF FF 01 00 00 00 64
+: 02 03 14 00 E8 03 01 00 71 00 FF FF 01 00 00 00 64
+no bond, no place, time 999, refusal: 02 03 14 00 E7 03 02 00 71 00 FF FF 01 00 00 00 64
+no place, time 999, refusal: 02 03 14 00 E7 03 01 00 71 00 FF FF 01 00 00 00 64
 release at 1000: E8 03
-too early: 00 00 00 00 E7 03 01 00 07 01 FF FF
+time 999, refusal: 02 03 14 00 E7 03 01 00 71 00 FF FF 01 00 00 00 64
 ",
     );
+}
+
+pub fn print_gateways() {
+    print_guide();
+    print_waits();
+    print_refusals();
 }

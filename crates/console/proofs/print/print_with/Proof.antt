@@ -4,8 +4,8 @@ use mathlib.Core.Logic.{⊎-elim}
 use native.Mathlib.Omega.{arith}
 use Prim.Native.Nat.{_-_, _≤_}
 use lib.ListN.{length}
-use Rattle.scenedump.proofs.print.print_with.Statement.{statement}
-use Rattle.scenedump.proofs.print.print_with.Tie as tie
+use Rattle.console.proofs.print.print_with.Statement.{statement}
+use Rattle.console.proofs.print.print_with.Tie as tie
 
 abbrev Inv-loop : tie.InvT-loop
 Inv-loop ok text first second third ok₀ value₀ next₀ start₀ i₀ ok' value next start i = (start ≤ i) × (i ≤ length text)

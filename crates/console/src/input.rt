@@ -1,6 +1,8 @@
 // Reading the book.
-use crate::args::NO_FILE;
 use libc::STDIN_FILENO;
+
+// Argument 0 is the program's name, so that no file has this number.
+pub const NO_FILE: usize = 0;
 
 pub enum Input {
     // The number of bytes that were read.

@@ -3,8 +3,8 @@ use borrow.Author.Needs.{needs}
 use native.Mathlib.Omega.{arith}
 use Prim.Native.Nat.{_-_, _≤_}
 use lib.ListN.{length}
-use Rattle.scenedump.proofs.print.print_bytes.Statement.{statement}
-use Rattle.scenedump.proofs.print.print_bytes.Tie as tie
+use Rattle.console.proofs.print.print_bytes.Statement.{statement}
+use Rattle.console.proofs.print.print_bytes.Tie as tie
 
 abbrev Inv-loop : tie.InvT-loop
 Inv-loop ok bytes ok₀ i₀ t5 ok' i = i ≤ length bytes

@@ -3,8 +3,8 @@ use borrow.Author.Needs.{needs}
 use mathlib.Core.Path.{_≡_}
 use Prim.Native.Nat.{_-_, _≤_}
 use lib.ListN.{length}
-use Rattle.scenedump.proofs.input.read_all.Statement.{statement}
-use Rattle.scenedump.proofs.input.read_all.Tie as tie
+use Rattle.console.proofs.input.read_all.Statement.{statement}
+use Rattle.console.proofs.input.read_all.Tie as tie
 
 abbrev Inv-loop : tie.InvT-loop
 Inv-loop file name book₀ n₀ book n = (n ≤ length book) × (length book ≡ length book₀)

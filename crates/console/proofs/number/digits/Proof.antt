@@ -2,9 +2,9 @@
 use native.Mathlib.Omega.{arith}
 use Prim.Native.Nat.{_+_, _*_, _-_, _≤_}
 use lib.ListN.{length}
-use Rattle.scenedump.proofs.Numbers.{next-within}
-use Rattle.scenedump.proofs.number.digits.Statement.{statement}
-use Rattle.scenedump.proofs.number.digits.Tie as tie
+use Rattle.console.proofs.Numbers.{next-within}
+use Rattle.console.proofs.number.digits.Statement.{statement}
+use Rattle.console.proofs.number.digits.Tie as tie
 
 abbrev Inv-loop : tie.InvT-loop
 Inv-loop text base most value₀ i₀ value i = (i ≤ length text) × (value ≤ most)

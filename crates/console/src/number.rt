@@ -1,5 +1,4 @@
 // Numbers in the arguments.
-use dpa::number::wide;
 ghost use Prim.Native.Nat.{_<_, _≤_};
 
 // `value` is 0 if the text is not a number.
@@ -19,9 +18,9 @@ const NO_DIGIT: usize = 16;
 // The value of a decimal or hexadecimal digit.
 fn digit_of(byte: u8) -> usize {
     match byte {
-        b'0'..=b'9' => wide(byte - b'0'),
-        b'a'..=b'f' => wide(byte - b'a') + 10,
-        b'A'..=b'F' => wide(byte - b'A') + 10,
+        b'0'..=b'9' => (byte - b'0') as usize,
+        b'a'..=b'f' => (byte - b'a') as usize + 10,
+        b'A'..=b'F' => (byte - b'A') as usize + 10,
         _ => NO_DIGIT,
     }
 }
