@@ -4,3 +4,4 @@ pub mod EntryGroups
 pub mod FirstEntry
 pub mod EntryWritable
 pub mod Writing
+pub mod Examples

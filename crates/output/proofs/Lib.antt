@@ -5,3 +5,4 @@ pub mod Remaining
 pub mod Progress
 pub mod Spans
 pub mod CompleteOutputs
+pub mod Examples
