@@ -2,7 +2,7 @@
 -- 0x2471 and DpaValue 0x33. Its memories are all zeros, except bytes 0 and 1 of its EEPROM.
 use Prim.Native.Nat.{ℕ}
 use mathlib.Core.Path.{_≡_}
-use mathlib.Core.Bool.{true}
+use mathlib.Core.Bool.{true, false}
 use mathlib.Core.List.{List, [], _∷_}
 use lib.ListN.{replicate, getD, take}
 use Rattle.dpa.specs.declared.settings.Settings.{Settings}
@@ -47,12 +47,15 @@ refuse frame eeprom external response = requestRefusal (fresh settings) frame ee
 pub record RequestExamples : Type 0 where
   -- the HWPID comes before the PNUM, the PNUM before the PCMD, the PCMD before the length of PData
   pub hwpid-first : ask 0x20 0x7F 0x1234 [] .error ≡ 7
+  pub hwpid-first-os : ask 0x02 0x05 0x1234 [] .error ≡ 7
+  pub hwpid-first-selective : ask 0x02 0x0B 0x1234 (replicate 31 0x00) .answered ≡ true
   pub pnum-second : ask 0x20 0x7F 0x2471 [] .error ≡ 3
   pub eeprom-pcmd : ask 0x03 0x02 0x2471 [] .error ≡ 2
   pub external-pcmd : ask 0x04 0x01 0x2471 [] .error ≡ 2
   pub lights-pcmd : ask 0x71 0x03 0x2471 [] .error ≡ 2
   pub os-pcmd : ask 0x02 0x00 0x2471 [] .error ≡ 2
   pub wildcard-accepted : ask 0x03 0x00 0xFFFF [] .error ≡ 5
+  pub not-selected : ask 0x02 0x0B 0x2471 (replicate 31 0x00) .answered ≡ false
   -- a batch without PData is not a list without its closing zero
   pub batch-empty : ask 0x02 0x05 0x2471 [] .error ≡ 5
   pub batch-unreported : ask 0x02 0x05 0x2471 [] .report ≡ noReport
