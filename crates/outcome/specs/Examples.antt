@@ -2,14 +2,14 @@
 -- 0x2471 and DpaValue 0x33. Its memories are all zeros, except bytes 0 and 1 of its EEPROM.
 use Prim.Native.Nat.{ℕ}
 use mathlib.Core.Path.{_≡_}
-use mathlib.Core.Bool.{true}
+use mathlib.Core.Bool.{true, false}
 use mathlib.Core.List.{List, [], _∷_}
 use lib.ListN.{replicate, getD, take}
 use Rattle.dpa.specs.declared.settings.Settings.{Settings}
 use Rattle.batch.specs.Batch.{requestOf}
 use Rattle.node.specs.Node.{fresh, blank}
 use Rattle.node.specs.State.{State, state}
-use Rattle.outcome.specs.Request.{loadReport, faultReport, noReport, Outcome, execute, CallResult, unhandledResult, requestRefusal, handleRequest}
+use Rattle.outcome.specs.Request.{loadReport, faultReport, noReport, Outcome, execute, CallResult, requestRefusal, handleRequest}
 
 abbrev pub settings : Settings
 settings = record { address = 7; hwpid = 0x2471; «dpa_value» = 0x33; «lamp_count» = 3; step = 10 }
@@ -35,10 +35,14 @@ buffer = replicate 64 0xEE
 abbrev pub call : List ℕ → CallResult
 call frame = handleRequest frame given buffer
 
--- the result of a call that changes nothing, with these bytes at the front of the buffer
+-- the result of a call that changes nothing and reports nothing, with this length of the response and these bytes in the buffer
 abbrev pub answered : (size : ℕ) → List ℕ → CallResult
 answered size bytes =
     record { after = given; refusal = 0; length = size; report = noReport; addressed = true; response = bytes }
+
+-- the result of a frame for another node
+abbrev pub notMine : CallResult
+notMine = record { after = given; refusal = 0; length = 0; report = noReport; addressed = false; response = buffer }
 
 -- the refusal for this node and the lengths of frame, EEPROM, external memory and buffer
 abbrev pub refuse : (frame eeprom external response : ℕ) → ℕ
@@ -47,12 +51,15 @@ refuse frame eeprom external response = requestRefusal (fresh settings) frame ee
 pub record RequestExamples : Type 0 where
   -- the HWPID comes before the PNUM, the PNUM before the PCMD, the PCMD before the length of PData
   pub hwpid-first : ask 0x20 0x7F 0x1234 [] .error ≡ 7
+  pub hwpid-first-os : ask 0x02 0x05 0x1234 [] .error ≡ 7
+  pub hwpid-first-selective : ask 0x02 0x0B 0x1234 (replicate 31 0x00) .answered ≡ true
   pub pnum-second : ask 0x20 0x7F 0x2471 [] .error ≡ 3
   pub eeprom-pcmd : ask 0x03 0x02 0x2471 [] .error ≡ 2
   pub external-pcmd : ask 0x04 0x01 0x2471 [] .error ≡ 2
   pub lights-pcmd : ask 0x71 0x03 0x2471 [] .error ≡ 2
   pub os-pcmd : ask 0x02 0x00 0x2471 [] .error ≡ 2
   pub wildcard-accepted : ask 0x03 0x00 0xFFFF [] .error ≡ 5
+  pub not-selected : ask 0x02 0x0B 0x2471 (replicate 31 0x00) .answered ≡ false
   -- a batch without PData is not a list without its closing zero
   pub batch-empty : ask 0x02 0x05 0x2471 [] .error ≡ 5
   pub batch-unreported : ask 0x02 0x05 0x2471 [] .report ≡ noReport
@@ -79,8 +86,8 @@ pub record CallExamples : Type 0 where
   pub broadcast-error : call (0xFF ∷ 0x00 ∷ 0x03 ∷ 0x00 ∷ 0xFF ∷ 0xFF ∷ 0xBF ∷ 0x02 ∷ []) ≡ answered 0 buffer
   pub broadcast-fault : call (0xFF ∷ 0x00 ∷ 0x02 ∷ 0x05 ∷ 0xFF ∷ 0xFF ∷ 0x04 ∷ 0x00 ∷ []) .report ≡ faultReport 1 0
   -- to another node; NADR has two bytes
-  pub other-node : call (0x08 ∷ 0x00 ∷ 0x03 ∷ 0x00 ∷ 0xFF ∷ 0xFF ∷ 0x00 ∷ 0x02 ∷ []) ≡ unhandledResult given 0 buffer
-  pub other-high-byte : call (0x07 ∷ 0x01 ∷ 0x03 ∷ 0x00 ∷ 0xFF ∷ 0xFF ∷ 0x00 ∷ 0x02 ∷ []) ≡ unhandledResult given 0 buffer
+  pub other-node : call (0x08 ∷ 0x00 ∷ 0x03 ∷ 0x00 ∷ 0xFF ∷ 0xFF ∷ 0x00 ∷ 0x02 ∷ []) ≡ notMine
+  pub other-high-byte : call (0x07 ∷ 0x01 ∷ 0x03 ∷ 0x00 ∷ 0xFF ∷ 0xFF ∷ 0x00 ∷ 0x02 ∷ []) ≡ notMine
   -- refusals: 1 the node, 2 the frame, 3 the buffer, 4 a memory, in this order
   pub refused-node : requestRefusal blank 5 191 16383 63 ≡ 1
   pub refused-frame : refuse 5 191 16383 63 ≡ 2
