@@ -71,10 +71,7 @@ fn respond(
 fn addressed(nadr: u16, address: u16) -> bool
     ensures { λ r. ⌜ r ≡ (eqb nadr broadcastNadr || eqb nadr address) ⌝ }
 {
-    if nadr == Frame::BROADCAST {
-        return true;
-    }
-    nadr == address
+    (nadr == Frame::BROADCAST) | (nadr == address)
 }
 
 // Handles a frame that was not refused. Lamps and memories change last, in one call.

@@ -50,10 +50,7 @@ fn bit_set(mask: u32, bit: u32) -> bool
 fn is_command(command: u8) -> bool
     ensures { λ r. ⌜ r ≡ isCommand command ⌝ }
 {
-    if command == ON {
-        return true;
-    }
-    command == ALARM
+    (command == ON) | (command == ALARM)
 }
 
 // Returns whether the command asks about one of this node's lamps. User data is PNUM, then the lamp in the low five bits of a byte.

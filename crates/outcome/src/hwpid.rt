@@ -8,8 +8,5 @@ ghost use Rattle.outcome.specs.Request.{hwpidMatches};
 pub fn hwpid_matches(settings: Settings, hwpid: u16) -> bool
     ensures { λ r. ⌜ r ≡ hwpidMatches settings hwpid ⌝ }
 {
-    if hwpid == settings.hwpid {
-        return true;
-    }
-    hwpid == Frame::ANY_HWPID
+    (hwpid == settings.hwpid) | (hwpid == Frame::ANY_HWPID)
 }

@@ -72,10 +72,7 @@ pub fn new_receiver(gateway: bool) -> Receiver
 fn limit_ok(limit: u8) -> bool
     ensures { λ r. ⌜ r ≡ limitOk limit ⌝ }
 {
-    if limit == NODE_LIMIT {
-        return true;
-    }
-    limit == GATEWAY_LIMIT
+    (limit == NODE_LIMIT) | (limit == GATEWAY_LIMIT)
 }
 
 // Returns whether a record follows the receiver rule.
