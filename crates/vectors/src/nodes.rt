@@ -18,9 +18,6 @@ use memory::view::view;
 use memory::view::view_status;
 use node::record::Node;
 use node::start::start;
-ghost use Prim.Native.Nat.{_≤_};
-ghost use lib.ListN.{length};
-ghost use mathlib.Core.Path.{_≡_};
 
 const SETTINGS: Settings = Settings {
     address: 1,
@@ -110,6 +107,7 @@ fn run_rows(rows: &[u8]) {
     }
 }
 
+// Rows without a name: the first three fill the memories, and the one after the keep examples sets the lamps back.
 pub fn print_nodes() {
     run_rows(
         b": 01 00 03 01 FF FF BE E1 E2

@@ -1,8 +1,6 @@
 // Writing to standard output.
 use dpa::number::wide;
 use libc::STDOUT_FILENO;
-ghost use Prim.Native.Nat.{_≤_};
-ghost use lib.ListN.{length};
 
 pub fn print_text(s: &[u8]) {
     io::write_all(STDOUT_FILENO, s);
