@@ -11,14 +11,14 @@ use Rattle.node.specs.Node.{fresh, blank}
 use Rattle.node.specs.State.{State, state}
 use Rattle.outcome.specs.Request.{loadReport, faultReport, noReport, Outcome, execute, CallResult, requestRefusal, handleRequest}
 
-abbrev pub settings : Settings
-settings = record { address = 7; hwpid = 0x2471; «dpa_value» = 0x33; «lamp_count» = 3; step = 10 }
+abbrev pub settings7 : Settings
+settings7 = record { address = 7; hwpid = 0x2471; «dpa_value» = 0x33; «lamp_count» = 3; step = 10 }
 
 abbrev pub eeprom : List ℕ
 eeprom = 0x11 ∷ 0x22 ∷ replicate 190 0x00
 
 abbrev pub given : State
-given = state (fresh settings) eeprom (replicate 16384 0x00)
+given = state (fresh settings7) eeprom (replicate 16384 0x00)
 
 -- a request
 abbrev pub ask : (pnum pcmd hwpid : ℕ) → List ℕ → Outcome
@@ -46,7 +46,7 @@ notMine = record { after = given; refusal = 0; length = 0; report = noReport; ad
 
 -- the refusal for this node and the lengths of frame, EEPROM, external memory and buffer
 abbrev pub refuse : (frame eeprom external response : ℕ) → ℕ
-refuse frame eeprom external response = requestRefusal (fresh settings) frame eeprom external response
+refuse frame eeprom external response = requestRefusal (fresh settings7) frame eeprom external response
 
 pub record RequestExamples : Type 0 where
   -- the HWPID comes before the PNUM, the PNUM before the PCMD, the PCMD before the length of PData
@@ -65,7 +65,7 @@ pub record RequestExamples : Type 0 where
   pub batch-unreported : ask 0x02 0x05 0x2471 [] .report ≡ noReport
   -- a write to each memory, by its PNUM
   pub eeprom-written : ask 0x03 0x01 0x2471 (0x02 ∷ 0xAB ∷ []) .after
-      ≡ state (fresh settings) (0x11 ∷ 0x22 ∷ 0xAB ∷ replicate 189 0x00) (replicate 16384 0x00)
+      ≡ state (fresh settings7) (0x11 ∷ 0x22 ∷ 0xAB ∷ replicate 189 0x00) (replicate 16384 0x00)
   pub ram-written : take 3 (ask 0x05 0x01 0x2471 (0x02 ∷ 0xAB ∷ []) .after .node .ram) ≡ 0x00 ∷ 0x00 ∷ 0xAB ∷ []
   pub external-written : getD (ask 0x04 0x03 0x2471 (0x02 ∷ 0x01 ∷ 0xAB ∷ []) .after .external) 0x0102 0 ≡ 0xAB
   -- the load mark is set on a match, with flag bit 0

@@ -203,7 +203,7 @@ handleFrame frame st buffer =
 
 -- The refusal, from the node and the lengths of the frame, the memories and the response buffer, in this order:
 -- 1 the node is not sound, 2 the frame's length, 3 the buffer is too short, 4 a memory's size; 0 for none.
-unfoldable pub requestRefusal : Node → ℕ → ℕ → ℕ → ℕ → ℕ
+unfoldable pub requestRefusal : Node → (frameLength eepromLength externalLength responseLength : ℕ) → ℕ
 requestRefusal node frameLength eepromLength externalLength responseLength =
     cond (nodeOk node)
     (cond (frameFits frameLength)
