@@ -11,21 +11,21 @@ use Rattle.dpa.specs.declared.settings.Settings.{Settings}
 use Rattle.dpa.specs.Frame.{longestResponse, broadcastNadr, frame}
 use Rattle.dpa.specs.NodeSet.{nodeSetSize, selects}
 use Rattle.dpa.specs.Pnum.{osPnum}
-use Rattle.batch.specs.Batch.{Request, requestOf, listBytes}
 use Rattle.dpa.specs.Lists.{All}
+use Rattle.batch.specs.Batch.{Request, requestOf, listBytes}
+use Rattle.batch.specs.Selective.{selectivePcmd}
 use Rattle.batch.proofs.RoundTrip.{list-nonempty}
 use Rattle.node.specs.State.{State, SoundState}
-use Rattle.batch.specs.Selective.{selectivePcmd}
 use Rattle.outcome.specs.Request.{hwpidMatches, batchRequest, execute, handleRequest}
 use Rattle.outcome.proofs.SelectiveBatches.{not-selected-stays}
 use Rattle.book.specs.declared.step.Step.{Step}
-use Rattle.entries.specs.Group.{concat}
 use Rattle.step.specs.Machine.{machine}
-use Rattle.output.specs.Requests.{Limits, joinedEntries, batchesOf, requestBytes, requestsOf, selectedEntryLimit, selectedListLimit, selectedRequests}
-use Rattle.entries.proofs.Groups.{concat-append}
 use Rattle.step.proofs.MachineLaws.{machine-append, machine-stays}
 use Rattle.step.proofs.Faults.{Good}
+use Rattle.entries.specs.Group.{concat}
+use Rattle.entries.proofs.Groups.{concat-append}
 use Rattle.entries.proofs.EntryGroups.{EntryGroup, joining-keeps}
+use Rattle.output.specs.Requests.{Limits, joinedEntries, batchesOf, requestBytes, requestsOf, selectedEntryLimit, selectedListLimit, selectedRequests}
 use Rattle.output.proofs.Batches.{BatchRule, batches-rule, selected-limits, filling-keeps}
 use Rattle.output.proofs.Sizes.{batch-fits}
 use Rattle.acceptance.specs.SceneTheorem.{Success, AllSucceed, afterCalls, MatchesMachine, Ignored, AllIgnored, StaysUnchanged}

@@ -6,19 +6,19 @@ use Prim.Native.Nat.{ℕ}
 use native.Mathlib.Omega.{arith}
 use Rattle.dpa.specs.Reply.{reply}
 use Rattle.dpa.specs.declared.settings.Settings.{Settings}
-use Rattle.batch.specs.Batch.{listBytes, Reading, runEntries, errorsOf}
 use Rattle.dpa.specs.Lists.{All}
+use Rattle.batch.specs.Batch.{listBytes, Reading, runEntries, errorsOf}
 use Rattle.batch.proofs.RoundTrip.{round-trip, list-nonempty}
 use Rattle.node.specs.State.{State, SoundState}
 use Rattle.outcome.specs.Request.{hwpidMatches, executeEntry, entryAfter, entryError, noReport, Outcome, outcome, batchOutcome, batchRequest}
 use Rattle.outcome.proofs.Soundness.{entry-sound}
 use Rattle.outcome.proofs.Outcomes.{batch-runs}
 use Rattle.book.specs.declared.step.Step.{Step}
-use Rattle.entries.specs.Group.{concat}
 use Rattle.step.specs.Machine.{machine}
+use Rattle.step.proofs.MachineLaws.{machine-append, machine-stays}
+use Rattle.entries.specs.Group.{concat}
 use Rattle.entries.specs.Entry.{joinedEntry}
 use Rattle.output.specs.Requests.{joinedEntries}
-use Rattle.step.proofs.MachineLaws.{machine-append, machine-stays}
 
 -- an outcome without an error, data or a report
 abbrev pub noErrorOutcome : State → List ℕ → Outcome

@@ -14,15 +14,15 @@ use Rattle.memory.specs.declared.block.Memory.{Memory}
 use Rattle.memory.specs.declared.block.Memory.the-variants.{Eeprom, Ram}
 use Rattle.memory.specs.Block.{sizeOf}
 use Rattle.node.specs.State.{State, SoundState, memoryOf}
-use Rattle.outcome.specs.Request.{hwpidMatches, peripheralRequest, executeEntry}
 use Rattle.node.proofs.Nodes.{node-lamps, node-ram}
+use Rattle.outcome.specs.Request.{hwpidMatches, peripheralRequest, executeEntry}
 use Rattle.outcome.proofs.BatchEntries.{entry-match}
 use Rattle.book.specs.declared.step.Step.{Step}
 use Rattle.step.specs.Step.{ramKind, eepromKind}
 use Rattle.step.specs.Machine.{machine}
+use Rattle.step.proofs.Faults.{eeprom-good}
 use Rattle.entries.specs.Entry.{entryData, pnumOf, pcmdOf, joinedEntry}
 use Rattle.entries.specs.Join.{follows}
-use Rattle.step.proofs.Faults.{eeprom-good}
 use Rattle.entries.proofs.EntryGroups.{Linked, EntryGroup}
 use Rattle.output.specs.Requests.{Limits}
 use Rattle.acceptance.proofs.Lamps.{LampGroup, entry-lamp-group}

@@ -6,10 +6,10 @@ use Rattle.dpa.specs.Frame.{frameFits}
 use Rattle.dpa.specs.Lists.{allBelow}
 use Rattle.dpa.specs.Settings.{stepOk, addressOk, settingsOk}
 use Rattle.dpa.specs.NodeSet.{selects, selectsAny, nodeSetOk, byteOf, tabulate}
+use Rattle.checksum.specs.Sums.{addWithCarry, addByte, sums}
 use Rattle.lights.specs.Bits.{bits, bitmap}
 use Rattle.lights.specs.Lamp.{actualLevel, lampOk, lampZero, lampFits}
 use Rattle.lights.specs.Lights.{powerOk, timeOk, secondsOf, lampAfter, lampsAfter, levelsBefore, changeLamps, lightsRequest}
-use Rattle.checksum.specs.Sums.{addWithCarry, addByte, sums}
 use Rattle.batch.specs.Batch.{entryBytes, entriesBytes, nextEntry, readingFrom, runEntries, errorsOf}
 use Rattle.batch.specs.Selective.{selectionOf}
 use Rattle.timing.specs.Slot.{baseSlot, networkExtra, slotOf, directionTime, earliestOf, sendOf}

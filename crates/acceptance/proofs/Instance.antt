@@ -14,13 +14,13 @@ use Rattle.dpa.specs.NodeSet.{nodeSetSize, selects, byteOf, tabulate, nodeSetOf
 use Rattle.dpa.specs.Settings.{stepOk, settingsOk}
 use Rattle.memory.specs.declared.block.Memory.the-variants.{External}
 use Rattle.memory.specs.Block.{sizeOf}
-use Rattle.batch.specs.Batch.{entryBytes, entriesBytes, batchPcmd}
 use Rattle.lights.specs.declared.lamp.Lamp.{Lamp}
 use Rattle.lights.specs.Lamp.{lamp, off, lampOk, lampZero, lampFits}
 use Rattle.lights.specs.Lights.{timeOk}
+use Rattle.batch.specs.Batch.{entryBytes, entriesBytes, batchPcmd}
+use Rattle.batch.specs.Selective.{selectivePcmd}
 use Rattle.node.specs.Node.{shapeOk, lampsOk, nodeOk}
 use Rattle.node.specs.State.{State, state, SoundState}
-use Rattle.batch.specs.Selective.{selectivePcmd}
 use Rattle.book.specs.Book.{chained, bookOk, sceneOf}
 use Rattle.step.specs.Step.{stepTimeOk, lampFault, byteFault, stepFault}
 use Rattle.step.specs.Machine.{timeFormed, stepFormed, machineLevel, machineSeconds, machineLamps, machineEffect, machineStep, machine}
@@ -30,8 +30,8 @@ use Rattle.output.specs.Requests.{batchesOf, entryLimit, listLimit, sceneReques
 use Rattle.output.specs.Output.{minOutput, requestsIn}
 use Rattle.scene.specs.Call.{outputOf, compileFor, compileSelected}
 use Rattle.scene.specs.Refusals.{Addressable, SceneRule}
-use Rattle.acceptance.specs.SceneTheorem.{Given, MatchesMachine, afterCalls, StaysUnchanged}
 use Rattle.scene.proofs.Refusals.{compile-refusals, selected-refusals}
+use Rattle.acceptance.specs.SceneTheorem.{Given, MatchesMachine, afterCalls, StaysUnchanged}
 use Rattle.acceptance.proofs.Scenes.{condition-3}
 
 -- five lamps, step 10; the parameters are what the scene changes

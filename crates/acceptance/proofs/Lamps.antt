@@ -19,11 +19,11 @@ use Rattle.dpa.proofs.Bool.{by-test}
 use Rattle.lights.specs.Bits.{bitmapSize, bits, count, bitmap}
 use Rattle.lights.specs.Lamp.{maxLevel, off}
 use Rattle.lights.specs.Lights.{bit7, keepPower, powerOk, timeOk, secondsOf, change, allValid, powerEntries, newLevel, lampAfter, lampsAfter, levelsBefore, changeLamps, lightsRequest}
-use Rattle.lights.proofs.Bits.{bits-mask}
 use Rattle.lights.specs.declared.apply.Command.{Command}
 use Rattle.lights.specs.declared.apply.Command.the-variants.{Set, Raise, Lower}
 use Rattle.lights.specs.declared.lamp.Lamp.{Lamp}
 use Rattle.lights.specs.declared.power.LampChange.{LampChange}
+use Rattle.lights.proofs.Bits.{bits-mask}
 use Rattle.node.specs.Node.{withLamps}
 use Rattle.node.specs.State.{State, withNode}
 use Rattle.outcome.specs.Request.{peripheralRequest}
@@ -31,8 +31,8 @@ use Rattle.outcome.proofs.Peripherals.{peripheral-lights}
 use Rattle.book.specs.declared.step.Step.{Step}
 use Rattle.step.specs.Step.{ramKind, stepTimeOk}
 use Rattle.step.specs.Machine.{machineLevel, machineSeconds, machineLamp, machineLamps, machineEffect, machineStep, machine}
-use Rattle.entries.specs.Entry.{bitmapOf, bitmapBytes, powerBytes, powersBytes, pnumOf, pcmdOf}
 use Rattle.step.proofs.Faults.{Good, LampGood, lamp-good, good-formed}
+use Rattle.entries.specs.Entry.{bitmapOf, bitmapBytes, powerBytes, powersBytes, pnumOf, pcmdOf}
 
 -- ---- binary digits
 

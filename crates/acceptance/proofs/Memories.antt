@@ -18,9 +18,9 @@ use Rattle.outcome.proofs.Peripherals.{memory-same, peripheral-memory}
 use Rattle.book.specs.declared.step.Step.{Step}
 use Rattle.step.specs.Step.{ramKind, eepromKind}
 use Rattle.step.specs.Machine.{machineEffect, machineStep, machine}
+use Rattle.step.proofs.Faults.{Good, ram-good, eeprom-good, good-formed}
 use Rattle.entries.specs.Entry.{values, pnumOf, pcmdOf}
 use Rattle.entries.specs.EntrySize.{addressLength}
-use Rattle.step.proofs.Faults.{Good, ram-good, eeprom-good, good-formed}
 
 -- the bytes that were put into a memory
 bytes-with : (m : Memory) (st : State) (bytes : List ℕ) → memoryOf m (withMemory m st bytes) ≡ bytes

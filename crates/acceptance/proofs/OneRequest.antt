@@ -21,8 +21,8 @@ use Rattle.memory.specs.declared.block.Memory.the-variants.{Eeprom, External}
 use Rattle.memory.specs.Block.{sizeOf}
 use Rattle.batch.specs.Batch.{Request, requestOf}
 use Rattle.node.specs.State.{State, SoundState}
-use Rattle.outcome.specs.Request.{frameRequest, noReport, Outcome, execute, CallResult, unansweredResult, unicastResult, requestRefusal, callRefusal, handleRequest}
 use Rattle.node.proofs.Nodes.{node-settings}
+use Rattle.outcome.specs.Request.{frameRequest, noReport, Outcome, execute, CallResult, unansweredResult, unicastResult, requestRefusal, callRefusal, handleRequest}
 use Rattle.outcome.proofs.Calls.{frame-broadcast, frame-unicast, call-accepted}
 use Rattle.outcome.proofs.Soundness.{execute-sound}
 use Rattle.acceptance.specs.SceneTheorem.{Success, Ignored}

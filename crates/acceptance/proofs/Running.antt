@@ -19,9 +19,9 @@ use Rattle.book.specs.Book.{sceneOf}
 use Rattle.step.specs.Machine.{machine}
 use Rattle.output.specs.Output.{output, requestsIn, CompleteOutput}
 use Rattle.scene.specs.Call.{CompileResult, outputOf, compileFor}
+use Rattle.scene.proofs.Refusals.{compile-refusals, output-inside, output-whole}
 use Rattle.acceptance.specs.SceneTheorem.{Given, afterCalls}
 use Rattle.acceptance.specs.RunScene.{zeroBuffer, SceneResult, result, afterCompile, runScene}
-use Rattle.scene.proofs.Refusals.{compile-refusals, output-inside, output-whole}
 use Rattle.acceptance.proofs.Scenes.{addressed-theorem}
 
 -- the assumptions of the theorem hold for a sound state, its own address and its own profile

@@ -14,9 +14,9 @@ use Rattle.dpa.specs.declared.settings.Settings.{Settings}
 use Rattle.dpa.specs.Settings.{addressOk}
 use Rattle.dpa.proofs.NodeSets.{set-ok-exact}
 use Rattle.batch.specs.Batch.{requestOf, listBytes, Reading, batchPcmd}
+use Rattle.batch.specs.Selective.{selectivePcmd}
 use Rattle.batch.proofs.RoundTrip.{round-trip, list-nonempty}
 use Rattle.node.specs.State.{State}
-use Rattle.batch.specs.Selective.{selectivePcmd}
 use Rattle.outcome.specs.Request.{hwpidMatches, batchRequest, execute}
 use Rattle.outcome.proofs.Outcomes.{execute-os, os-batch}
 use Rattle.outcome.proofs.SelectiveBatches.{selected-as-batch}
@@ -26,14 +26,14 @@ use Rattle.step.specs.Step.{noFault, stepFault}
 use Rattle.step.specs.Machine.{stepFormed}
 use Rattle.step.proofs.Faults.{fault-meaning, good-formed}
 use Rattle.output.specs.Requests.{sceneRequests, selectedRequests}
-use Rattle.scene.specs.Call.{compileTo}
 use Rattle.output.proofs.Batches.{batch-limits, selected-limits}
-use Rattle.scene.proofs.Calls.{buffer-back}
+use Rattle.scene.specs.Call.{compileTo}
 use Rattle.scene.specs.Refusals.{Addressable, NoFault, SceneRule}
+use Rattle.scene.proofs.Calls.{buffer-back}
+use Rattle.scene.proofs.Refusals.{addressable, no-fault-good, rule-faultless, target-refusals, compile-refusals, selected-refusals}
 use Rattle.acceptance.specs.SceneTheorem.{MatchesMachine, StaysUnchanged, ClaimOfScene, AddressedTheorem, SelectedTheorem, NotSelectedTheorem, Condition3}
 use Rattle.acceptance.proofs.Entries.{group-performs}
 use Rattle.acceptance.proofs.AllRequests.{steps-done, steps-ignored}
-use Rattle.scene.proofs.Refusals.{addressable, no-fault-good, rule-faultless, target-refusals, compile-refusals, selected-refusals}
 
 -- a node accepts its own profile and the one for all nodes
 own-profile : (s : Settings) (h : ℕ) → (h ≡ s .hwpid) ⊎ (h ≡ anyHwpid) → hwpidMatches s h ≡ true

@@ -9,18 +9,18 @@ use lib.Dec.{eqb}
 use Rattle.dpa.specs.Frame.{anyHwpid, frame, headerBytes}
 use Rattle.dpa.specs.NodeSet.{nodeSetOf}
 use Rattle.dpa.specs.Pnum.{osPnum, lightsPnum}
-use Rattle.lights.specs.Lamp.{lamp, off, actualLevel}
 use Rattle.checksum.specs.Sums.{sums, start, checksum}
+use Rattle.lights.specs.Lamp.{lamp, off, actualLevel}
 use Rattle.batch.specs.Batch.{requestOf, batchPcmd}
+use Rattle.batch.specs.Selective.{selectivePcmd}
 use Rattle.timing.specs.declared.slot.Network.the-variants.{Std}
 use Rattle.timing.specs.Slot.{sendOf}
 use Rattle.node.specs.State.{State}
-use Rattle.batch.specs.Selective.{selectivePcmd}
+use Rattle.node.specs.Examples.{settings, freshState}
 use Rattle.outcome.specs.Request.{faultReport, Outcome, unansweredOutcome, execute, CallResult, unansweredResult, handleRequest}
 use Rattle.book.specs.declared.step.Step.{Step}
-use Rattle.entries.specs.Join.{entriesOf}
-use Rattle.node.specs.Examples.{settings, freshState}
 use Rattle.book.specs.Examples.{book}
+use Rattle.entries.specs.Join.{entriesOf}
 use Rattle.output.specs.Requests.{selectedEntryLimit}
 use Rattle.output.specs.Output.{minOutput}
 use Rattle.scene.specs.Call.{outputInBuffer, compileFor, compileSelected}

@@ -13,11 +13,11 @@
 -- Proved in proofs/Scenes (`condition-3`). proofs/Instance gives nodes and a book that meet all assumptions.
 --
 -- Sources: document 01, "Frames", "Scenes" and "Strength of the contracts"; document 02, changes 1 and 3. The statement is about what
--- the contracts say that the calls compute: `compileFor`, `compileSelected`, `outputOf` and `requestsIn` (scene/specs/Call),
--- `handleRequest` and `execute` (outcome/specs/Request); about the refusals of compiling (`Refusals`, `SceneRule`, scene/specs/Refusals);
--- and about the rules of a node set (`selects`, dpa/specs/NodeSet), of the book (`bookOk`, book/specs/Book), of a step (`stepFault`,
--- step/specs/Step), of compiling (`sceneRequests`, `selectedRequests`, scene/specs/Compile) and of the step machine (`stepFormed`,
--- `machine`, step/specs/Machine).
+-- the contracts say that the calls compute: `compileFor`, `compileSelected`, `outputOf` (scene/specs/Call) and `requestsIn`
+-- (output/specs/Output), `handleRequest` and `execute` (outcome/specs/Request); about the refusals of compiling (`Refusals`,
+-- `SceneRule`, scene/specs/Refusals); and about the rules of a node set (`selects`, dpa/specs/NodeSet), of the book (`bookOk`,
+-- book/specs/Book), of a step (`stepFault`, step/specs/Step), of compiling (`sceneRequests`, `selectedRequests`, output/specs/Requests)
+-- and of the step machine (`stepFormed`, `machine`, step/specs/Machine).
 use Prim.Native.Nat.{ℕ, suc, _≤_}
 use mathlib.Core.Path.{_≡_}
 use mathlib.Core.Logic.{_⊎_, _↔_}
@@ -30,17 +30,17 @@ use Rattle.dpa.specs.Lists.{overwriteFront, All}
 use Rattle.dpa.specs.Frame.{responseHeaderSize, longestResponse, broadcastNadr, anyHwpid, responseHeader}
 use Rattle.dpa.specs.NodeSet.{nodeSetSize, selects, Selectable}
 use Rattle.dpa.specs.Pnum.{osPnum}
-use Rattle.node.specs.State.{State, SoundState}
 use Rattle.batch.specs.Batch.{batchPcmd}
 use Rattle.batch.specs.Selective.{selectivePcmd}
+use Rattle.node.specs.State.{State, SoundState}
 use Rattle.outcome.specs.Request.{frameRequest, noReport, execute, handleRequest}
 use Rattle.book.specs.declared.step.Step.{Step}
 use Rattle.book.specs.Book.{sceneOf}
 use Rattle.step.specs.Step.{FaultMeaning}
 use Rattle.step.specs.Machine.{stepFormed, machine}
 use Rattle.output.specs.Requests.{sceneRequests, selectedRequests}
-use Rattle.scene.specs.Refusals.{Addressable, NoFault, SceneRule, Refusals}
 use Rattle.output.specs.Output.{requestsIn}
+use Rattle.scene.specs.Refusals.{Addressable, NoFault, SceneRule, Refusals}
 use Rattle.scene.specs.Call.{CompileResult, outputOf, compileFor, compileSelected}
 
 -- ---- the requests of a scene, handled by a node

@@ -11,9 +11,9 @@ use scene::compile::compile;
 ghost use mathlib.Core.Path.{_≡_};
 ghost use Prim.Native.Nat.{_≤_};
 ghost use lib.ListN.{length};
-ghost use Rattle.output.specs.Output.{splitBy, requestsIn, totalLength, CompleteOutput};
 ghost use Rattle.node.specs.State.{state};
 ghost use Rattle.outcome.specs.Request.{handleRequest};
+ghost use Rattle.output.specs.Output.{splitBy, requestsIn, totalLength, CompleteOutput};
 ghost use Rattle.acceptance.specs.SceneTheorem.{afterCalls};
 ghost use Rattle.acceptance.specs.RunScene.{zeroBuffer, runScene, sceneResult};
 

@@ -7,16 +7,16 @@ use native.Mathlib.Omega.{arith}
 use lib.Dec.{eqb}
 use lib.ListN.{length}
 use borrow.Author.Tests.{leb-true}
-use Rattle.dpa.proofs.Bool.{by-test, and-left, and-right}
 use Rattle.dpa.specs.Lists.{All}
+use Rattle.dpa.proofs.Bool.{by-test, and-left, and-right}
 use Rattle.book.specs.declared.step.Step.{Step}
 use Rattle.step.specs.Step.{isLamp}
+use Rattle.step.proofs.Faults.{Good}
 use Rattle.entries.specs.Entry.{powerBytes, entryData}
 use Rattle.entries.specs.Join.{lastOf, follows, joins, entriesOf}
 use Rattle.entries.specs.EntrySize.{oneStepMax}
 use Rattle.entries.specs.Group.{concat}
 use Rattle.entries.proofs.Groups.{all-group, concat-group}
-use Rattle.step.proofs.Faults.{Good}
 
 -- each step is good and follows the one before; the first follows p
 abbrev pub Linked : Step → List Step → Type 0

@@ -5,21 +5,21 @@ use Prim.Native.Nat.{ℕ, zero, suc, _+_, _*_, _≤_, _<_}
 use native.Mathlib.Omega.{arith}
 use lib.ListN.{length, getD, take, drop}
 use borrow.Author.Tests.{eqb-true, ltb-true}
-use Rattle.lights.specs.Lamp.{maxLevel}
 use Rattle.dpa.specs.Settings.{maxLamps}
-use Rattle.dpa.proofs.Bool.{and-left}
 use Rattle.dpa.specs.Lists.{All}
+use Rattle.dpa.proofs.Bool.{and-left}
+use Rattle.dpa.proofs.All.{all-drop}
+use Rattle.lights.specs.Lamp.{maxLevel}
 use Rattle.book.specs.declared.step.Step.{Step}
 use Rattle.book.specs.Book.{stepLength, stepsIn}
+use Rattle.book.proofs.Positions.{steps-length, zeroStep, steps-at, steps-slice}
 use Rattle.step.specs.Step.{ramKind, AllStepsGood}
+use Rattle.step.proofs.Faults.{Good, lamp-good}
+use Rattle.step.proofs.GoodSteps.{good-steps}
 use Rattle.entries.specs.Join.{follows, entriesOf}
 use Rattle.entries.specs.EntrySize.{oneStepMax, FirstEntry}
 use Rattle.entries.specs.Writing.{EntryWritable}
-use Rattle.step.proofs.Faults.{Good, lamp-good}
-use Rattle.dpa.proofs.All.{all-drop}
 use Rattle.entries.proofs.EntryGroups.{Linked, EntryGroup, entry-groups}
-use Rattle.book.proofs.Positions.{steps-length, zeroStep, steps-at, steps-slice}
-use Rattle.step.proofs.GoodSteps.{good-steps}
 
 -- lamp steps that follow a lamp step are in range
 linked-lamps : (p : Step) (ss : List Step) → Linked p ss → p .kind < ramKind

@@ -14,16 +14,16 @@ use Rattle.dpa.proofs.Bool.{by-test, by-cond, and-right}
 use Rattle.dpa.proofs.Lists.{slice-to-end}
 use Rattle.book.specs.declared.step.Step.{Step}
 use Rattle.book.specs.Book.{stepLength, stepOf, stepsIn}
+use Rattle.book.specs.Positions.{stepAt}
+use Rattle.book.proofs.Records.{records-drop, records-end}
+use Rattle.book.proofs.Positions.{zeroStep, steps-length, steps-at}
 use Rattle.step.specs.Step.{isLamp}
 use Rattle.entries.specs.Group.{grow}
 use Rattle.entries.specs.Entry.{groupData, entryData, powerBytes}
 use Rattle.entries.specs.Join.{joins, entriesOf, follows, lastOf}
-use Rattle.book.specs.Positions.{stepAt}
 use Rattle.entries.specs.EntrySize.{stepSize, powerSize, firstSize, oneStepMax, joinedSize, FirstEntry}
 use Rattle.entries.proofs.EntrySize.{data-length}
 use Rattle.entries.proofs.Groups.{group-start, take-fits, take-not-fits}
-use Rattle.book.proofs.Records.{records-drop, records-end}
-use Rattle.book.proofs.Positions.{zeroStep, steps-length, steps-at}
 
 -- ---- joining along a list of steps
 

@@ -6,8 +6,8 @@ use Prim.Native.Nat.{ℕ, suc, _≤_, _<_}
 use native.Mathlib.Omega.{arith}
 use lib.ListN.{length, getD, take, drop}
 use lib.Seq.{take-suc, drop-cons}
-use Rattle.dpa.proofs.Bool.{by-cond}
 use Rattle.dpa.specs.Lists.{All}
+use Rattle.dpa.proofs.Bool.{by-cond}
 use Rattle.entries.specs.Group.{concat, grow, group}
 
 module _ {A : Type 0} where

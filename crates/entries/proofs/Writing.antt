@@ -8,16 +8,16 @@ use lib.ListN.{length, take, drop, length-append, take-append-drop}
 use lib.Seq.{sets, length-sets}
 use borrow.Author.Tests.{eq-eqb, ne-eqb}
 use Rattle.dpa.proofs.Lists.{sets-append}
+use Rattle.lights.specs.Lights.{bit7}
 use Rattle.batch.specs.Batch.{entryBytes}
 use Rattle.book.specs.declared.step.Step.{Step}
 use Rattle.book.specs.Book.{stepLength, stepOf, stepsIn}
-use Rattle.step.specs.Step.{isLamp}
-use Rattle.lights.specs.Lights.{bit7}
-use Rattle.entries.specs.Entry.{bytesOf, powerBytes, powersBytes, values, bitmapOf, bitmapBytes, joinedEntry, entryData, groupData}
 use Rattle.book.specs.Positions.{stepAt}
-use Rattle.entries.specs.Writing.{lampBitBound, entryHeadBytes}
 use Rattle.book.proofs.Records.{records-next, records-taken, records-all}
 use Rattle.book.proofs.Positions.{steps-length}
+use Rattle.step.specs.Step.{isLamp}
+use Rattle.entries.specs.Entry.{bytesOf, powerBytes, powersBytes, values, bitmapOf, bitmapBytes, joinedEntry, entryData, groupData}
+use Rattle.entries.specs.Writing.{lampBitBound, entryHeadBytes}
 
 -- ---- bytes after bytes
 

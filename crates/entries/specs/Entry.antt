@@ -5,9 +5,9 @@ use Prim.Native.Nat.{ℕ, _+_, _^_}
 use lib.Dec.{eqb}
 use Rattle.dpa.specs.Number.{low, high}
 use Rattle.dpa.specs.Pnum.{lightsPnum}
-use Rattle.lights.specs.Lights.{bit7}
 use Rattle.memory.specs.declared.block.Memory.the-variants.{Eeprom, Ram}
 use Rattle.memory.specs.Block.{memoryPnum, writeCommand}
+use Rattle.lights.specs.Lights.{bit7}
 use Rattle.batch.specs.Batch.{Request, requestOf}
 use Rattle.book.specs.declared.step.Step.{Step}
 use Rattle.step.specs.Step.{ramKind, isLamp}

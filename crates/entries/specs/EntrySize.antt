@@ -5,8 +5,8 @@ use mathlib.Core.Path.{_≡_}
 use Prim.Native.Nat.{ℕ, _+_, _≤_}
 use lib.Dec.{leb, eqb}
 use lib.ListN.{length, take, drop}
-use Rattle.lights.specs.Bits.{bitmapSize}
 use Rattle.dpa.specs.Frame.{pdataMax}
+use Rattle.lights.specs.Bits.{bitmapSize}
 use Rattle.book.specs.declared.step.Step.{Step}
 use Rattle.step.specs.Step.{isLamp}
 use Rattle.entries.specs.Entry.{groupData}

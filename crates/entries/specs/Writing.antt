@@ -3,12 +3,12 @@ use mathlib.Core.Bool.{true}
 use mathlib.Core.List.{List}
 use mathlib.Core.Path.{_≡_}
 use Prim.Native.Nat.{ℕ, _^_, _≤_, _<_}
-use Rattle.batch.specs.Batch.{headBytes}
-use Rattle.lights.specs.Lamp.{maxLevel}
 use Rattle.dpa.specs.Settings.{maxLamps}
+use Rattle.lights.specs.Lamp.{maxLevel}
+use Rattle.batch.specs.Batch.{headBytes}
+use Rattle.book.specs.Positions.{stepAt}
 use Rattle.step.specs.Step.{isLamp}
 use Rattle.entries.specs.Entry.{pnumOf, pcmdOf}
-use Rattle.book.specs.Positions.{stepAt}
 
 -- the value and the target of each of the n steps are in range for a lamp step
 abbrev pub LampStepsInRange : List ℕ → ℕ → Type 0

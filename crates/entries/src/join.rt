@@ -9,9 +9,9 @@ ghost use mathlib.Core.Path.{_≡_};
 ghost use Prim.Native.Nat.{_+_, _*_, _-_, _≤_, _<_};
 ghost use lib.ListN.{length, drop};
 ghost use Rattle.book.specs.Book.{stepsMax, stepLength, stepsIn};
+ghost use Rattle.book.specs.Positions.{stepAt};
 ghost use Rattle.entries.specs.Join.{follows};
 ghost use Rattle.entries.specs.EntrySize.{oneStepMax, EntryLimit, stepSize, firstSize, joinedSize, FirstEntry};
-ghost use Rattle.book.specs.Positions.{stepAt};
 
 // The size of the address in front of the values: RAM and EEPROM have one-byte addresses.
 const ADDRESS_LENGTH: usize = 1;

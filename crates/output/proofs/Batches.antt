@@ -6,16 +6,16 @@ use Prim.Native.Nat.{ℕ, _≤_}
 use native.Mathlib.Omega.{arith}
 use lib.ListN.{length, length-append}
 use borrow.Author.Tests.{leb-true}
-use Rattle.batch.specs.Batch.{entriesBytes, entryBytes}
 use Rattle.dpa.specs.Lists.{All}
 use Rattle.dpa.specs.NodeSet.{nodeSetSize}
+use Rattle.dpa.proofs.All.{all-snoc}
+use Rattle.batch.specs.Batch.{entriesBytes, entryBytes}
 use Rattle.book.specs.declared.step.Step.{Step}
+use Rattle.step.proofs.Faults.{Good}
 use Rattle.entries.specs.Join.{entriesOf}
 use Rattle.entries.specs.EntrySize.{EntryLimit}
 use Rattle.entries.specs.Group.{concat}
 use Rattle.entries.proofs.Groups.{all-group, concat-group}
-use Rattle.dpa.proofs.All.{all-snoc}
-use Rattle.step.proofs.Faults.{Good}
 use Rattle.entries.proofs.EntryGroups.{EntryGroup, entry-groups}
 use Rattle.output.specs.Requests.{Limits, fitsBatch, listOf, batchesOf, entryLimit, listLimit, selectedEntryLimit, selectedListLimit}
 

@@ -9,10 +9,10 @@ use Rattle.dpa.specs.declared.frame.Frame.{Frame}
 use Rattle.dpa.specs.Frame.{longestFrame}
 use Rattle.dpa.specs.Lists.{All}
 use Rattle.book.specs.declared.step.Step.{Step}
-use Rattle.entries.specs.Group.{concat}
-use Rattle.entries.specs.Join.{joins, entriesOf}
 use Rattle.book.specs.Book.{stepsMax}
 use Rattle.step.proofs.Faults.{Good}
+use Rattle.entries.specs.Group.{concat}
+use Rattle.entries.specs.Join.{joins, entriesOf}
 use Rattle.entries.proofs.Groups.{length-group}
 use Rattle.output.specs.declared.fill.SizeLimits.{SizeLimits}
 use Rattle.output.specs.Requests.{Limits, fitsBatch, batchesOf, requestWith}

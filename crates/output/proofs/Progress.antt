@@ -5,20 +5,20 @@ use Prim.Native.Nat.{ℕ, suc, _+_, _≤_}
 use native.Mathlib.Omega.{arith}
 use lib.ListN.{length, take, drop, set, length-append, length-drop, drop-of-length-le}
 use lib.Seq.{sets, length-sets, set-comm}
+use Rattle.dpa.specs.declared.frame.Frame.{Frame}
+use Rattle.dpa.proofs.Lists.{sets-append}
 use Rattle.batch.specs.Batch.{entryHeadSize, entryBytes}
 use Rattle.batch.proofs.RoundTrip.{entry-length}
-use Rattle.dpa.specs.declared.frame.Frame.{Frame}
 use Rattle.book.specs.declared.step.Step.{Step}
 use Rattle.book.specs.Book.{stepsMax, stepsIn}
+use Rattle.book.proofs.Positions.{steps-length}
+use Rattle.step.specs.Step.{AllStepsGood}
+use Rattle.step.proofs.GoodSteps.{good-steps}
 use Rattle.entries.specs.Group.{concat}
 use Rattle.entries.specs.Entry.{joinedEntry}
 use Rattle.entries.specs.Join.{entriesOf}
 use Rattle.entries.specs.EntrySize.{FirstEntry}
-use Rattle.step.specs.Step.{AllStepsGood}
-use Rattle.dpa.proofs.Lists.{sets-append}
 use Rattle.entries.proofs.Writing.{two-writes}
-use Rattle.book.proofs.Positions.{steps-length}
-use Rattle.step.proofs.GoodSteps.{good-steps}
 use Rattle.output.specs.declared.fill.SizeLimits.{SizeLimits}
 use Rattle.output.specs.Requests.{Limits, emptyListSize}
 use Rattle.output.specs.Output.{lengths, output, minOutput}

@@ -8,15 +8,15 @@ use lib.Dec.{leb}
 use lib.ListN.{length, take, drop, length-append}
 use lib.Seq.{drop-drop}
 use borrow.Author.Tests.{le-leb, lt-leb, leb-true}
+use Rattle.dpa.specs.Lists.{All}
 use Rattle.dpa.proofs.Bool.{by-test, by-cond}
 use Rattle.batch.specs.Batch.{closingZero, entryBytes, entriesBytes}
-use Rattle.dpa.specs.Lists.{All}
 use Rattle.book.specs.declared.step.Step.{Step}
+use Rattle.step.proofs.Faults.{Good}
 use Rattle.entries.specs.Group.{concat, grow, group}
 use Rattle.entries.specs.Entry.{groupData, joinedEntry}
 use Rattle.entries.specs.Join.{entriesOf}
 use Rattle.entries.specs.EntrySize.{FirstEntry}
-use Rattle.step.proofs.Faults.{Good}
 use Rattle.entries.proofs.Groups.{grow-fits, grow-not-fits}
 use Rattle.entries.proofs.EntryGroups.{EntryGroup, entry-groups, joining-keeps}
 use Rattle.output.specs.Requests.{Limits, joinedEntries, listOf, entrySize, emptyListSize, fitsBatch, batchesOf}

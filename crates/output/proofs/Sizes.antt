@@ -6,12 +6,12 @@ use native.Mathlib.Omega.{arith}
 use lib.ListN.{length, length-append}
 use Rattle.dpa.specs.declared.frame.Frame.{Frame}
 use Rattle.dpa.specs.Frame.{headerSize, longestFrame}
-use Rattle.batch.specs.Batch.{closingZero, entryBytes, entriesBytes}
 use Rattle.dpa.specs.Lists.{All}
+use Rattle.batch.specs.Batch.{closingZero, entryBytes, entriesBytes}
 use Rattle.batch.proofs.RoundTrip.{entry-length}
 use Rattle.book.specs.declared.step.Step.{Step}
-use Rattle.entries.specs.Entry.{groupData, joinedEntry}
 use Rattle.step.proofs.Faults.{Good}
+use Rattle.entries.specs.Entry.{groupData, joinedEntry}
 use Rattle.output.specs.Requests.{Limits, joinedEntries, listOf, entrySize, emptyListSize, batchesOf, requestWith}
 use Rattle.output.proofs.Batches.{BatchRule, batches-rule}
 

@@ -8,14 +8,14 @@ use native.Mathlib.Numerals.{add-one}
 use native.Mathlib.Omega.{arith}
 use lib.ListN.{length, getD, take, drop, set, length-drop, drop-of-length-le, length-append, take-append-drop}
 use lib.Seq.{sets, sets-eq, drop-drop, getD-drop, length-take-le}
-use Rattle.dpa.proofs.Bool.{by-cond}
 use Rattle.dpa.specs.Lists.{All}
+use Rattle.dpa.proofs.Bool.{by-cond}
 use Rattle.book.specs.declared.step.Step.{Step}
+use Rattle.step.proofs.Faults.{Good}
 use Rattle.entries.specs.Group.{concat, grow, group}
 use Rattle.entries.specs.Entry.{groupData}
 use Rattle.entries.specs.Join.{joins, entriesOf}
 use Rattle.entries.specs.EntrySize.{oneStepMax, FirstEntry}
-use Rattle.step.proofs.Faults.{Good}
 use Rattle.entries.proofs.Groups.{length-group}
 use Rattle.entries.proofs.EntryGroups.{EntryGroup, entry-groups, joining-keeps}
 use Rattle.output.specs.Fill.{spanLength, spanBytes, StartsWithSpans}

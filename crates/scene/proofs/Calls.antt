@@ -10,13 +10,13 @@ use borrow.Author.Tests.{lt-leb, le-ltb}
 use Rattle.dpa.proofs.Bool.{by-cond}
 use Rattle.dpa.proofs.Lists.{sets-front}
 use Rattle.book.specs.declared.step.Step.{Step}
+use Rattle.book.specs.Book.{sceneCount, bookOk, sceneOf}
 use Rattle.step.specs.declared.fault.StepsCheck.{StepsCheck}
 use Rattle.step.specs.declared.fault.StepsCheck.the-variants.{AllGood, Bad}
-use Rattle.book.specs.Book.{sceneCount, bookOk, sceneOf}
 use Rattle.step.specs.Step.{firstBadFrom}
 use Rattle.output.specs.Output.{output, requestsIn, minOutput}
-use Rattle.scene.specs.Call.{CompileResult, outputOf, refusedWith, outputInBuffer, compileSteps, compileScene, compileTo}
 use Rattle.output.proofs.Outputs.{requests-back}
+use Rattle.scene.specs.Call.{CompileResult, outputOf, refusedWith, outputInBuffer, compileSteps, compileScene, compileTo}
 
 -- a well-formed book that has the scene, and no bad step in it
 pub record Faultless (b : List ℕ) (k : ℕ) : Type 0 where

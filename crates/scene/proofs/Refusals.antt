@@ -12,22 +12,22 @@ use borrow.Author.Tests.{eq-eqb, ne-eqb, eqb-true, eqb-false, le-leb, lt-leb, le
 use Rattle.dpa.specs.Frame.{broadcastNadr}
 use Rattle.dpa.specs.NodeSet.{nodeSetOk, Selectable}
 use Rattle.dpa.specs.Settings.{lastAddress, nodeAddress, addressOk}
+use Rattle.dpa.specs.Lists.{All}
 use Rattle.dpa.proofs.NodeSets.{set-ok-exact}
 use Rattle.dpa.proofs.Bool.{and-left, and-right, by-cond, by-test}
-use Rattle.dpa.specs.Lists.{All}
+use Rattle.dpa.proofs.All.{all-weaken}
 use Rattle.book.specs.declared.step.Step.{Step}
+use Rattle.book.specs.Book.{sceneCount, bookOk, sceneOf}
 use Rattle.step.specs.declared.fault.StepsCheck.{StepsCheck}
 use Rattle.step.specs.declared.fault.StepsCheck.the-variants.{AllGood, Bad}
-use Rattle.book.specs.Book.{sceneCount, bookOk, sceneOf}
 use Rattle.step.specs.Step.{stepFault, goodStep, firstBadFrom}
-use Rattle.dpa.proofs.All.{all-weaken}
 use Rattle.step.proofs.Faults.{Good, no-bad, fault-range}
 use Rattle.output.specs.Requests.{sceneRequests, selectedRequests}
 use Rattle.output.specs.Output.{output, CompleteOutput, minOutput}
-use Rattle.scene.specs.Call.{CompileResult, outputOf, refusedWith, outputInBuffer, compileSteps, compileScene, compileTo, compileFor, compileSelected}
-use Rattle.scene.proofs.Calls.{Faultless, target-refused, target-valid, compile-written, compile-refused}
 use Rattle.output.proofs.CompleteOutputs.{output-complete}
+use Rattle.scene.specs.Call.{CompileResult, outputOf, refusedWith, outputInBuffer, compileSteps, compileScene, compileTo, compileFor, compileSelected}
 use Rattle.scene.specs.Refusals.{Addressable, NoFault, SceneRule, StepRefusal, FirstBad, Refusals}
+use Rattle.scene.proofs.Calls.{Faultless, target-refused, target-valid, compile-written, compile-refused}
 
 -- ---- the faults, and the tests of the call
 

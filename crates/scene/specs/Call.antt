@@ -8,13 +8,13 @@ use Rattle.dpa.specs.Lists.{overwriteFront}
 use Rattle.dpa.specs.NodeSet.{nodeSetOk}
 use Rattle.dpa.specs.Settings.{addressOk}
 use Rattle.book.specs.declared.step.Step.{Step}
+use Rattle.book.specs.Book.{sceneCount, bookOk, sceneOf}
 use Rattle.step.specs.declared.fault.StepsCheck.{StepsCheck}
 use Rattle.step.specs.declared.fault.StepsCheck.the-variants.{AllGood, Bad}
-use Rattle.book.specs.Book.{sceneCount, bookOk, sceneOf}
 use Rattle.step.specs.Step.{firstBadFrom}
-use Rattle.scene.specs.declared.compile.CompileAnswer.{CompileAnswer}
 use Rattle.output.specs.Requests.{sceneRequests, selectedRequests}
 use Rattle.output.specs.Output.{output, minOutput}
+use Rattle.scene.specs.declared.compile.CompileAnswer.{CompileAnswer}
 
 -- the result of a call: the refusal, the number of a bad step, the length of the output, and the buffer afterwards
 pub record CompileResult : Type 0 where

@@ -22,8 +22,8 @@ ghost use Rattle.dpa.specs.Frame.{anyHwpid};
 ghost use Rattle.book.specs.Book.{stepsMax, stepLength, stepsIn};
 ghost use Rattle.step.specs.Step.{firstBadFrom};
 ghost use Rattle.output.specs.Requests.{Limits};
-ghost use Rattle.scene.specs.Call.{compileSteps, compileScene, compileFor, compileSelected, compileResult};
 ghost use Rattle.output.specs.Fill.{requestsWith};
+ghost use Rattle.scene.specs.Call.{compileSteps, compileScene, compileFor, compileSelected, compileResult};
 
 // Maximum size of the PData of a batch entry.
 const ENTRY_LIMIT: usize = 50;

@@ -4,14 +4,14 @@ use mathlib.Core.Path.{_≡_, refl}
 use Prim.Native.Nat.{ℕ}
 use lib.ListN.{getD, take}
 use Rattle.lights.specs.Lamp.{lamp, off}
+use Rattle.lights.specs.Lights.{timeOk}
 use Rattle.node.specs.State.{State}
+use Rattle.node.specs.Examples.{freshState}
 use Rattle.book.specs.declared.step.Step.{Step}
 use Rattle.book.specs.Book.{sceneOf}
-use Rattle.lights.specs.Lights.{timeOk}
+use Rattle.book.specs.Examples.{book}
 use Rattle.step.specs.Step.{setKind, raiseKind, lowerKind, stepTimeOk, lampFault, byteFault, stepFault}
 use Rattle.step.specs.Machine.{timeFormed, stepFormed, machineLevel, machineSeconds, machineLamps, machineEffect, machineStep, machine}
-use Rattle.node.specs.Examples.{freshState}
-use Rattle.book.specs.Examples.{book}
 
 abbrev step : (kind target value time : ℕ) → Step
 step kind target value time = record { kind = kind; target = target; value = value; time = time }

@@ -7,13 +7,13 @@ use Prim.Native.Nat.{ℕ, suc, _≤_, _<_, _%_}
 use native.Mathlib.Omega.{arith}
 use lib.Dec.{ltb, leb, eqb}
 use borrow.Author.Tests.{eqb-true, eqb-false, eq-eqb, ne-eqb, ltb-true, ltb-false, leb-true, leb-false, lt-ltb, le-ltb, lt-leb, le-leb}
-use Rattle.lights.specs.Lamp.{maxLevel}
-use Rattle.lights.specs.Lights.{timeOk}
 use Rattle.dpa.specs.Settings.{maxLamps}
+use Rattle.dpa.specs.Lists.{All}
 use Rattle.dpa.proofs.Bool.{by-cond, by-test, both, and-left, and-right, else-taken, then-taken}
 use Rattle.memory.specs.Block.{sizeOf}
 use Rattle.memory.specs.declared.block.Memory.the-variants.{Eeprom, Ram}
-use Rattle.dpa.specs.Lists.{All}
+use Rattle.lights.specs.Lamp.{maxLevel}
+use Rattle.lights.specs.Lights.{timeOk}
 use Rattle.book.specs.declared.step.Step.{Step}
 use Rattle.step.specs.declared.fault.StepsCheck.the-variants.{AllGood, Bad}
 use Rattle.step.specs.Step.{ramKind, eepromKind, isLamp, noFault, kindFault, targetFault, valueFault, timeFault, stepTimeOk, lampFault, byteFault, stepFault, goodStep, firstBadFrom, targetLimit, BadKind, BadTarget, BadValue, BadTime, FaultMeaning}

@@ -8,11 +8,11 @@ use native.Mathlib.Omega.{arith}
 use lib.ListN.{drop}
 use Rattle.dpa.specs.Lists.{All}
 use Rattle.book.specs.declared.step.Step.{Step}
-use Rattle.step.specs.declared.fault.StepsCheck.the-variants.{AllGood, Bad}
 use Rattle.book.specs.Book.{stepLength, stepOf, stepsIn}
-use Rattle.step.specs.Step.{stepFault, goodStep, firstBadFrom, AllStepsGood}
 use Rattle.book.specs.Positions.{stepAt}
 use Rattle.book.proofs.Records.{drop-record, records-next, records-end}
+use Rattle.step.specs.declared.fault.StepsCheck.the-variants.{AllGood, Bad}
+use Rattle.step.specs.Step.{stepFault, goodStep, firstBadFrom, AllStepsGood}
 use Rattle.step.proofs.Faults.{Good, no-bad}
 
 -- ---- the loop of check_steps: x is step i

@@ -6,10 +6,10 @@ use mathlib.Core.Path.{_≡_}
 use Prim.Native.Nat.{ℕ, suc, _≤_, _<_}
 use lib.Dec.{ltb, leb, eqb}
 use Rattle.dpa.specs.Settings.{maxLamps}
-use Rattle.lights.specs.Lamp.{maxLevel}
-use Rattle.lights.specs.Lights.{timeOk}
 use Rattle.memory.specs.Block.{sizeOf}
 use Rattle.memory.specs.declared.block.Memory.the-variants.{Eeprom, Ram}
+use Rattle.lights.specs.Lamp.{maxLevel}
+use Rattle.lights.specs.Lights.{timeOk}
 use Rattle.book.specs.declared.step.Step.{Step}
 use Rattle.book.specs.Positions.{stepAt}
 use Rattle.step.specs.declared.fault.StepsCheck.{StepsCheck}

@@ -7,6 +7,7 @@ use lib.ListN.{length, length-drop, length-take}
 use lib.Seq.{length-take-le}
 use borrow.Fn.Kinds.{In}
 use borrow.Fn.PlainCycle.{Measures, is, falls, and}
+use Rattle.dpa.proofs.number.wide.Reads as wide-reads
 use Rattle.node.specs.State.{state}
 use Rattle.output.proofs.CompleteOutputs.{first-covered, rest-covered}
 use Rattle.acceptance.proofs.OutputRequests.{none-handled, one-handled}
@@ -14,7 +15,6 @@ use Rattle.acceptance.proofs.run.handle_all.Reads as handle-all
 use Rattle.acceptance.proofs.run.handle_all.Kinds as handle-all-kinds
 use Rattle.acceptance.proofs.run.+handle_all.Lts-handle_all as handle-all-lts
 use Rattle.acceptance.proofs.run.handle_one.Reads as handle-one-reads
-use Rattle.dpa.proofs.number.wide.Reads as wide-reads
 use Rattle.acceptance.proofs.run.+handle_all.{statement}
 use Rattle.acceptance.proofs.run.+handle_all.Tie.{close}
 

@@ -4,9 +4,9 @@ use mathlib.Core.Path.{ap, _∙_}
 use mathlib.Core.List.{List}
 use Prim.Native.Nat.{ℕ}
 use Rattle.node.specs.State.{state}
+use Rattle.output.proofs.CompleteOutputs.{parts-covered, parts-requests}
 use Rattle.acceptance.specs.SceneTheorem.{afterCalls}
 use Rattle.acceptance.specs.RunScene.{zeroBuffer}
-use Rattle.output.proofs.CompleteOutputs.{parts-covered, parts-requests}
 use Rattle.acceptance.proofs.run.handle_output.Statement.{statement}
 use Rattle.acceptance.proofs.run.handle_output.Tie as tie
 

@@ -6,8 +6,8 @@ use lib.Seq.{sets}
 use borrow.Author.Needs.{needs}
 use Rattle.book.specs.declared.step.Step.{Step}
 use Rattle.book.specs.Book.{stepsIn}
-use Rattle.entries.specs.Entry.{groupData}
 use Rattle.book.specs.Positions.{stepAt}
+use Rattle.entries.specs.Entry.{groupData}
 use Rattle.entries.specs.Writing.{entryHeadBytes}
 use Rattle.entries.proofs.Writing.{two-writes, entry-split}
 use Rattle.entries.proofs.entry.write_entry.Statement.{statement}

@@ -9,9 +9,9 @@ use lib.Seq.{sets}
 use borrow.Author.Needs.{needs}
 use Rattle.book.specs.declared.step.Step.{Step}
 use Rattle.book.specs.Book.{stepsIn}
+use Rattle.book.specs.Positions.{stepAt}
 use Rattle.step.specs.Step.{isLamp}
 use Rattle.entries.specs.Entry.{bitmapOf, powersBytes, values, bitmapBytes}
-use Rattle.book.specs.Positions.{stepAt}
 use Rattle.entries.proofs.Writing.{two-writes, sets-length, data-lamp, data-memory, values-count}
 use Rattle.entries.proofs.entry.write_pdata.Statement.{statement}
 use Rattle.entries.proofs.entry.write_pdata.Tie as tie

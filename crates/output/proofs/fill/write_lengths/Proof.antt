@@ -8,9 +8,9 @@ use Rattle.dpa.specs.declared.frame.Frame.{Frame}
 use Rattle.dpa.specs.Frame.{frame, headerBytes, headerSize, pdataMax}
 use Rattle.book.specs.declared.step.Step.{Step}
 use Rattle.book.specs.Book.{stepsIn}
-use Rattle.entries.specs.Join.{entriesOf}
 use Rattle.book.proofs.Positions.{steps-length}
 use Rattle.step.proofs.GoodSteps.{good-steps}
+use Rattle.entries.specs.Join.{entriesOf}
 use Rattle.output.specs.Requests.{emptyListSize}
 use Rattle.output.specs.Output.{lengths}
 use Rattle.output.specs.Fill.{requestsWith, spanLength, maxSpanBytes}

@@ -7,8 +7,8 @@ use lib.ListN.{length, length-set}
 use borrow.Author.Needs.{needs}
 use Rattle.dpa.specs.declared.frame.Frame.{Frame}
 use Rattle.book.specs.Book.{stepsIn}
-use Rattle.entries.specs.Group.{concat}
 use Rattle.book.proofs.Positions.{steps-length}
+use Rattle.entries.specs.Group.{concat}
 use Rattle.output.specs.Fill.{requestsWith}
 use Rattle.output.proofs.Outputs.{output-length, request-count}
 use Rattle.output.proofs.Progress.{steps-fit, output-written}

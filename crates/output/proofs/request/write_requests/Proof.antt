@@ -7,19 +7,19 @@ use lib.ListN.{length, drop, length-append, length-drop, length-set}
 use lib.Seq.{sets, drop-drop}
 use borrow.Author.Needs.{needs}
 use Rattle.dpa.specs.Frame.{headerBytes, pdataMax}
+use Rattle.dpa.specs.Lists.{All}
+use Rattle.dpa.proofs.All.{all-drop}
 use Rattle.batch.specs.Batch.{closingZero, entryBytes}
 use Rattle.book.specs.declared.step.Step.{Step}
 use Rattle.book.specs.Book.{stepsIn}
+use Rattle.book.proofs.Positions.{steps-length, steps-slice}
+use Rattle.step.proofs.Faults.{Good}
+use Rattle.step.proofs.GoodSteps.{good-steps}
 use Rattle.entries.specs.Group.{concat}
 use Rattle.entries.specs.Entry.{groupData, joinedEntry}
 use Rattle.entries.specs.Join.{entriesOf}
 use Rattle.entries.specs.EntrySize.{FirstEntry}
-use Rattle.book.proofs.Positions.{steps-length, steps-slice}
 use Rattle.entries.proofs.Writing.{two-writes}
-use Rattle.step.proofs.Faults.{Good}
-use Rattle.dpa.specs.Lists.{All}
-use Rattle.dpa.proofs.All.{all-drop}
-use Rattle.step.proofs.GoodSteps.{good-steps}
 use Rattle.entries.proofs.EntryWritable.{entry-writable}
 use Rattle.output.specs.Requests.{emptyListSize}
 use Rattle.output.specs.Fill.{requestsWith, StartsWithSpans}

@@ -4,16 +4,16 @@ use native.Mathlib.Omega.{arith}
 use lib.ListN.{length}
 use borrow.Author.Needs.{needs}
 use borrow.Author.Tests.{lt-ltb, le-ltb}
-use Rattle.step.specs.declared.fault.StepsCheck.the-variants.{AllGood}
 use Rattle.book.specs.Book.{stepsIn}
+use Rattle.step.specs.declared.fault.StepsCheck.the-variants.{AllGood}
 use Rattle.step.specs.Step.{firstBadFrom, AllStepsGood}
 use Rattle.step.proofs.GoodSteps.{good-index}
-use Rattle.scene.specs.declared.compile.CompileAnswer.{CompileAnswer}
 use Rattle.output.specs.Output.{output, minOutput}
-use Rattle.scene.specs.Call.{compileResult}
 use Rattle.output.specs.Fill.{requestsWith}
-use Rattle.scene.proofs.Calls.{result-written}
 use Rattle.output.proofs.Progress.{steps-fit}
+use Rattle.scene.specs.declared.compile.CompileAnswer.{CompileAnswer}
+use Rattle.scene.specs.Call.{compileResult}
+use Rattle.scene.proofs.Calls.{result-written}
 use Rattle.scene.proofs.compile.compile_steps.Statement.{statement}
 use Rattle.scene.proofs.compile.compile_steps.Tie as tie
 

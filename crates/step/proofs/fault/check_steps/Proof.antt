@@ -5,8 +5,8 @@ use native.Mathlib.Omega.{arith}
 use lib.ListN.{drop}
 use borrow.Author.Needs.{needs}
 use borrow.Author.Tests.{eq-eqb, ne-eqb}
-use Rattle.step.specs.declared.fault.StepsCheck.the-variants.{Bad}
 use Rattle.book.specs.Book.{stepsIn}
+use Rattle.step.specs.declared.fault.StepsCheck.the-variants.{Bad}
 use Rattle.step.specs.Step.{firstBadFrom}
 use Rattle.step.proofs.GoodSteps.{first-bad-next, first-bad-found, first-bad-none}
 use Rattle.step.proofs.fault.check_steps.Statement.{statement}
