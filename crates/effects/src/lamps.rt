@@ -96,8 +96,7 @@ pub fn change_lamps(
             if !next.found {
                 return after;
             }
-            let task = next.task;
-            walk = run_task(task, bytes, ram, eeprom, external);
+            walk = run_task(next.task, bytes, ram, eeprom, external);
         } else {
             let alone = walk.alone;
             let next = walk.next;

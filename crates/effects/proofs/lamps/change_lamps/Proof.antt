@@ -63,7 +63,7 @@ next : (c : tie.Else2 Inv-loop μ-loop) →
 next c = c .before .before .next-task .ensures .some (not-false _ (c .if2 .left))
 
 run-task-requires : tie.Need-run-task-requires Inv-loop μ-loop
-run-task-requires c κs = let e = c .before .before .before .before in (next e .ok, at-task (e .before .before) .loop .inv .sized)
+run-task-requires c κs = let e = c .before .before .before in (next e .ok, at-task (e .before .before) .loop .inv .sized)
 
 -- the bytes are bytes
 small : (c : tie.At-loop Inv-loop μ-loop) → Bytes (start c .args .bytes .now)
@@ -74,7 +74,7 @@ abbrev run-call : tie.After-slice-known6 Inv-loop μ-loop → tie.After-run-task
 run-call c = c .before .before .before .before .before .before
 
 abbrev found : tie.After-run-task Inv-loop μ-loop → tie.Else2 Inv-loop μ-loop
-found c = c .before .before .before .before .before
+found c = c .before .before .before .before
 
 loop-less : tie.Need-loop-less Inv-loop μ-loop
 loop-less c =
