@@ -9,14 +9,12 @@ use Rattle.dpa.specs.NodeSet.{nodeSetSize}
 use Rattle.lights.specs.declared.lamp.Lamp.{Lamp}
 use Rattle.lights.proofs.RemainingLamps.{end-lamps}
 use Rattle.batch.specs.Batch.{Request}
-use Rattle.node.specs.declared.record.Node.{Node}
 use Rattle.node.specs.declared.record.ReadOnly.{ReadOnly}
-use Rattle.node.specs.Node.{readOnlyOf, nodeFromParts}
-use Rattle.node.specs.State.{State, state}
+use Rattle.node.specs.State.{State}
 use Rattle.outcome.specs.declared.reply.Effect.{Effect}
 use Rattle.outcome.specs.declared.reply.Effect.the-variants.{Nothing, Alone, Batch, Selective}
 use Rattle.outcome.specs.Effect.{afterEffect, EffectKnown}
-use Rattle.outcome.specs.Seen.{Memories, memoriesOf}
+use Rattle.outcome.specs.Seen.{stateFromParts, Memories, memoriesOf}
 use Rattle.outcome.proofs.Calls.{state-together}
 use Rattle.outcome.proofs.Parts.{peripheral-settings, peripheral-lamps, peripheral-memories, entries-settings, entries-lamps, entries-memories}
 use Rattle.effects.specs.declared.walk.Rest.{Rest}
@@ -62,15 +60,12 @@ effect-memories Alone i st = sym (peripheral-memories (i .pnum) (i .pcmd) (i .pd
 effect-memories Batch i st = sym (entries-memories (i .pdata) st)
 effect-memories Selective i st = sym (entries-memories (drop nodeSetSize (i .pdata)) st)
 
--- the state after an effect, from the node that is put together
-pub effect-done : (effect : Effect) (i : Request) (st : State) (k : ReadOnly) (ls : List Lamp) (ns : Memories) (r : Node) → k ≡ readOnlyOf (st .node)
-    → ls ≡ walkLamps (k .settings) i (startWalk effect) (st .node .lamps) → ns ≡ walkMemories (k .settings) i (startWalk effect) (memoriesOf st)
-    → r ≡ nodeFromParts k ls (ns .ram) → state r (ns .eeprom) (ns .external) ≡ afterEffect effect i st
-effect-done effect i st k ls ns r e p q t =
-    ap (λ (n : Node). state n (ns .eeprom) (ns .external)) t
-    ∙ state-together k ls ns (afterEffect effect i st) (ap (λ (x : ReadOnly). x .settings) e ∙ sym (effect-settings effect i st))
-    (p ∙ ap (λ (x : ReadOnly). walkLamps (x .settings) i (startWalk effect) (st .node .lamps)) e ∙ effect-lamps effect i st)
-    (q ∙ ap (λ (x : ReadOnly). walkMemories (x .settings) i (startWalk effect) (memoriesOf st)) e ∙ effect-memories effect i st)
+-- the state after an effect, in its parts
+pub effect-done : (effect : Effect) (i : Request) (k : ReadOnly) (st : State) (ls : List Lamp) (ns : Memories) → k .settings ≡ st .node .settings
+    → ls ≡ walkLamps (st .node .settings) i (startWalk effect) (st .node .lamps) → ns ≡ walkMemories (st .node .settings) i (startWalk effect) (memoriesOf st)
+    → stateFromParts k ls (ns .ram) (ns .eeprom) (ns .external) ≡ afterEffect effect i st
+effect-done effect i k st ls ns e p q =
+    state-together k ls ns (afterEffect effect i st) (e ∙ sym (effect-settings effect i st)) (p ∙ effect-lamps effect i st) (q ∙ effect-memories effect i st)
 
 -- the walk at the start can go on
 pub start-ok : (effect : Effect) (i : Request) → EffectKnown effect i → WalkOk i (startWalk effect)

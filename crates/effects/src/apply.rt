@@ -1,18 +1,19 @@
-// The node after the effect of a request.
+// The lamps and the memories after the effect of a request.
 use crate::lamps::change_lamps;
 use crate::walk::Rest;
 use crate::walk::Walk;
 use crate::walk::walk_at;
 use dpa::frame::Frame;
 use dpa::node_set::NODE_SET_SIZE;
-use node::record::Node;
-use node::record::node_from_parts;
-use node::record::read_only;
+use lights::lamp::LAMPS;
+use lights::lamp::Lamp;
+use node::record::ReadOnly;
 use outcome::reply::Effect;
 ghost use mathlib.Core.Path.{_≡_};
-ghost use Rattle.node.specs.State.{state, SoundState};
+ghost use Rattle.node.specs.State.{SoundState};
 ghost use Rattle.outcome.specs.Request.{headerRequest};
 ghost use Rattle.outcome.specs.Effect.{afterEffect, EffectKnown};
+ghost use Rattle.outcome.specs.Seen.{stateFromParts};
 ghost use Rattle.effects.specs.Walk.{startWalk};
 
 // The walk at the start of an effect.
@@ -27,32 +28,24 @@ fn start_walk(effect: Effect) -> Walk
     }
 }
 
-// The node after the effect of a request; the memories change in place.
+// The lamps after the effect of a request; the memories change in place. The node comes in its parts, because a record that is passed whole
+// is copied.
 pub fn apply(
-    node: Node,
+    fixed: ReadOnly,
+    lamps: [Lamp; LAMPS],
     effect: Effect,
     header: Frame,
     pdata: &[u8],
+    ram: &mut [u8],
     eeprom: &mut [u8],
     external: &mut [u8],
-) -> Node
-    requires { ⌜ SoundState (state node (now eeprom) (now external)) × EffectKnown effect (headerRequest header (now pdata)) ⌝ }
-    ensures { λ r. ⌜ state r (now (eeprom .exit)) (now (external .exit))
-        ≡ afterEffect effect (headerRequest header (now (pdata .entry))) (state node (now (eeprom .entry)) (now (external .entry))) ⌝ }
+) -> [Lamp; LAMPS]
+    requires { ⌜ SoundState (stateFromParts fixed lamps (now ram) (now eeprom) (now external)) × EffectKnown effect (headerRequest header (now pdata)) ⌝ }
+    ensures { λ r. ⌜ stateFromParts fixed r (now (ram .exit)) (now (eeprom .exit)) (now (external .exit))
+        ≡ afterEffect effect (headerRequest header (now (pdata .entry)))
+        (stateFromParts fixed lamps (now (ram .entry)) (now (eeprom .entry)) (now (external .entry))) ⌝ }
 {
-    let fixed = read_only(node);
-    let lamps = node.lamps;
-    let mut ram = node.ram;
+    let settings = fixed.settings;
     let start = start_walk(effect);
-    let after = change_lamps(
-        fixed.settings,
-        header,
-        lamps,
-        pdata,
-        start,
-        &mut ram,
-        eeprom,
-        external,
-    );
-    node_from_parts(fixed, after, ram)
+    change_lamps(settings, header, lamps, pdata, start, ram, eeprom, external)
 }
