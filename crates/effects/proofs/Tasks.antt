@@ -16,13 +16,13 @@ use Rattle.dpa.proofs.Bytes.{bytes-take}
 use Rattle.lights.specs.declared.lamp.Lamp.{Lamp}
 use Rattle.lights.specs.declared.apply.Command.the-variants.{Lower}
 use Rattle.lights.specs.Lights.{commandPcmd, lightsRequest, changesLamps}
-use Rattle.lights.specs.Remaining.{walkEnd, walkStart}
+use Rattle.lights.specs.Remaining.{Remaining, walkEnd, walkStart}
 use Rattle.lights.proofs.RemainingLamps.{start-remains, start-lamps, end-remains, end-lamps}
 use Rattle.lights.proofs.Requests.{unchanged}
 use Rattle.outcome.specs.Seen.{Memories, peripheralMemories, peripheralLamps}
 use Rattle.effects.specs.declared.walk.Task.{Task}
 use Rattle.effects.specs.declared.walk.Walk.{Walk}
-use Rattle.effects.specs.Walk.{taskData, taskLamps, taskMemories, TaskOk, walkAt, lightsWalk, taskWalk, WalkOk, currentLamps}
+use Rattle.effects.specs.Walk.{taskData, taskLamps, taskMemories, TaskOk, walkAt, lightsWalk, taskWalk, currentLamps}
 
 -- a part of the first bytes is a slice
 drop-take : (n m : ℕ) (l : List ℕ) → drop n (take m l) ≡ slice l n (m - n)
@@ -36,11 +36,11 @@ pub task-data : (bytes : List ℕ) (t : Task) → drop (t .start) (take (t .end)
 task-data bytes t = drop-take (t .start) (t .end) bytes
 
 module _ (bytes : List ℕ) (t : Task) where
-  -- the answer to a request alone has tested the power entries, so PCMD says whether it changes lamps
-  pub tested-changes : TaskOk bytes t → t .alone ≡ true → t .pnum ≡ lightsPnum → leb (t .pcmd) (commandPcmd Lower) ≡ changesLamps (t .pcmd) (taskData bytes t)
+  -- after a test of the power entries, PCMD says whether a request changes lamps
+  pub tested-changes : TaskOk bytes t → t .tested ≡ true → t .pnum ≡ lightsPnum → leb (t .pcmd) (commandPcmd Lower) ≡ changesLamps (t .pcmd) (taskData bytes t)
   unfolding changesLamps
   tested-changes good a l =
-      by-test (leb (t .pcmd) (commandPcmd Lower)) (λ e. e ∙ sym (good .tested a l (leb-true _ _ e))) (λ e. rw e)
+      by-test (leb (t .pcmd) (commandPcmd Lower)) (λ e. e ∙ sym (good .valid a l (leb-true _ _ e))) (λ e. rw e)
 
   -- the walk of a task for the lights
   pub walk-lights : t .accepted ≡ true → t .pnum ≡ lightsPnum → lightsWalk bytes t ≡ taskWalk bytes t
@@ -48,11 +48,11 @@ module _ (bytes : List ℕ) (t : Task) where
   walk-lights a e = rw (a, eq-eqb (t .pnum) lightsPnum e)
 
   -- the walk of one that is not accepted, and of one for another peripheral
-  pub walk-rejected : t .accepted ≡ false → walkAt (t .alone) (t .end) ≡ taskWalk bytes t
+  pub walk-rejected : t .accepted ≡ false → walkAt (t .rest) (t .end) ≡ taskWalk bytes t
   unfolding taskWalk
   walk-rejected a = rw a
 
-  pub walk-elsewhere : (t .pnum ≡ lightsPnum → ⊥) → walkAt (t .alone) (t .end) ≡ taskWalk bytes t
+  pub walk-elsewhere : (t .pnum ≡ lightsPnum → ⊥) → walkAt (t .rest) (t .end) ≡ taskWalk bytes t
   unfolding taskWalk
   walk-elsewhere n = rw (ne-eqb (t .pnum) lightsPnum n, and-false (t .accepted))
 
@@ -65,14 +65,14 @@ module _ (bytes : List ℕ) (t : Task) where
   unfolding taskMemories
   memories-rejected ms a = rw a
 
--- a walk at the end of a request can go on
-pub walk-at-ok : (bytes : List ℕ) (alone : Bool) (next : ℕ) → next ≤ length bytes → (alone ≡ true → next ≡ length bytes) → WalkOk bytes (walkAt alone next)
-walk-at-ok bytes alone next h e =
-    record { next-max = h; alone-end = e; remains = end-remains (take next bytes) next (sym (length-take-le next bytes h)) }
+-- nothing remains at the end of a request
+pub at-end-remains : (bytes : List ℕ) (next : ℕ) → next ≤ length bytes → Remaining (take next bytes) (walkEnd next)
+at-end-remains bytes next h = end-remains (take next bytes) next (sym (length-take-le next bytes h))
 
 -- r is a walk of the task t; f is what its rest does to the lamps
 pub record TaskWalk (s : Settings) (bytes : List ℕ) (t : Task) (f : List Lamp → List Lamp) (r : Walk) : Type 0 where
-  pub ok : WalkOk bytes r
+  pub remains : Remaining (take (r .next) bytes) (r .lamps)
+  pub follows : r .rest ≡ t .rest
   pub ends : r .next ≡ t .end
   pub further : t .start ≤ r .lamps .at
   pub lamps : (ls : List Lamp) → currentLamps s bytes r ls ≡ f ls
@@ -85,13 +85,14 @@ module _ (s : Settings) (bytes : List ℕ) (t : Task) (good : TaskOk bytes t) wh
   pdata = taskData bytes t
 
   same-walk : {f g : List Lamp → List Lamp} {r : Walk} → ((ls : List Lamp) → f ls ≡ g ls) → TaskWalk s bytes t f r → TaskWalk s bytes t g r
-  same-walk e w = record { ok = w .ok; ends = w .ends; further = w .further; lamps = λ ls. w .lamps ls ∙ e ls }
+  same-walk e w = record { remains = w .remains; follows = w .follows; ends = w .ends; further = w .further; lamps = λ ls. w .lamps ls ∙ e ls }
 
   -- nothing remains of a request that leaves the lamps
-  nothing-remains : (f : List Lamp → List Lamp) → ((ls : List Lamp) → f ls ≡ ls) → TaskWalk s bytes t f (walkAt (t .alone) (t .end))
+  nothing-remains : (f : List Lamp → List Lamp) → ((ls : List Lamp) → f ls ≡ ls) → TaskWalk s bytes t f (walkAt (t .rest) (t .end))
   nothing-remains f e =
       record {
-        ok = walk-at-ok bytes (t .alone) (t .end) (good .end-max) (good .alone-end);
+        remains = at-end-remains bytes (t .end) (good .end-max);
+        follows = refl;
         ends = refl;
         further = good .start-max;
         lamps = λ ls. end-lamps (s .«lamp_count») front (walkEnd (t .end)) refl ls ∙ sym (e ls);
@@ -100,11 +101,12 @@ module _ (s : Settings) (bytes : List ℕ) (t : Task) (good : TaskOk bytes t) wh
   module _ (small : Bytes bytes) where
     -- a request that changes lamps
     changing : changesLamps (t .pcmd) pdata ≡ true
-        → TaskWalk s bytes t (λ ls. lightsRequest s (t .pcmd) pdata ls .after) (record { alone = t .alone; next = t .end; lamps = walkStart (t .pcmd) front (t .start) })
+        → TaskWalk s bytes t (λ ls. lightsRequest s (t .pcmd) pdata ls .after) (record { rest = t .rest; next = t .end; lamps = walkStart (t .pcmd) front (t .start) })
     changing e =
         let h : changesLamps (t .pcmd) (drop (t .start) front) ≡ true = ap (changesLamps (t .pcmd)) (task-data bytes t) ∙ e in
         record {
-          ok = record { next-max = good .end-max; alone-end = good .alone-end; remains = start-remains (t .pcmd) front (t .start) h (bytes-take (t .end) bytes small) };
+          remains = start-remains (t .pcmd) front (t .start) h (bytes-take (t .end) bytes small);
+          follows = refl;
           ends = refl;
           further = omega arith;
           lamps = λ ls. start-lamps (t .pcmd) front (t .start) h (bytes-take (t .end) bytes small) s ls
@@ -123,7 +125,7 @@ module _ (s : Settings) (bytes : List ℕ) (t : Task) (good : TaskOk bytes t) wh
     task-walk = go (t .accepted) (eqb (t .pnum) lightsPnum) refl refl
       where
         go : (a b : Bool) → t .accepted ≡ a → eqb (t .pnum) lightsPnum ≡ b
-            → TaskWalk s bytes t (taskLamps s bytes t) (cond (a && b) (lightsWalk bytes t) (walkAt (t .alone) (t .end)))
+            → TaskWalk s bytes t (taskLamps s bytes t) (cond (a && b) (lightsWalk bytes t) (walkAt (t .rest) (t .end)))
         go true true p q = same-walk (λ ls. rw (p, q)) lights-walk
         go true false p q = nothing-remains (taskLamps s bytes t) (λ ls. rw (p, q))
         go false b p q = nothing-remains (taskLamps s bytes t) (λ ls. rw p)

@@ -14,12 +14,12 @@ ghost use Rattle.lights.specs.Lights.{changesLamps};
 ghost use Rattle.outcome.specs.Seen.{memories, Sized};
 ghost use Rattle.effects.specs.Walk.{TaskOk, taskData, taskMemories, lightsWalk, taskWalk};
 
-// Whether a request to the lights changes lamps. The answer to a request alone has tested its power entries, so they are not tested again.
+// Whether a request to the lights changes lamps. Power entries that the answer has tested are not tested again.
 fn changes(task: Task, bytes: &[u8]) -> bool
     requires { ⌜ TaskOk (now bytes) task × (task .pnum ≡ lightsPnum) ⌝ }
     ensures { λ r. ⌜ r ≡ changesLamps (task .pcmd) (taskData (now (bytes .entry)) task) ⌝ }
 {
-    if task.alone {
+    if task.tested {
         return task.pcmd <= LOWER;
     }
     let start = task.start;
@@ -32,12 +32,13 @@ fn lights_walk(task: Task, bytes: &[u8]) -> Walk
     requires { ⌜ TaskOk (now bytes) task × (task .pnum ≡ lightsPnum) ⌝ }
     ensures { λ r. ⌜ r ≡ lightsWalk (now (bytes .entry)) task ⌝ }
 {
-    if !changes(task, bytes) {
-        return walk_at(task.alone, task.end);
-    }
+    let rest = task.rest;
     let end = task.end;
+    if !changes(task, bytes) {
+        return walk_at(rest, end);
+    }
     Walk {
-        alone: task.alone,
+        rest,
         next: end,
         lamps: walk_start(task.pcmd, &bytes[..end], task.start),
     }
@@ -58,7 +59,8 @@ pub fn run_task(
 {
     let start = task.start;
     let end = task.end;
-    let done = walk_at(task.alone, end);
+    let rest = task.rest;
+    let done = walk_at(rest, end);
     if !task.accepted {
         return done;
     }

@@ -4,23 +4,25 @@ use borrow.Author.Tests.{not-true, not-false}
 use native.Mathlib.Omega.{arith}
 use mathlib.Core.Path.{_≡_, sym, _∙_}
 use mathlib.Core.Bool.{true}
-use Prim.Native.Nat.{_-_, _<_}
+use Prim.Native.Nat.{_<_}
 use lib.ListN.{length}
 use lib.Seq.{length-take-le}
 use Rattle.dpa.specs.Lists.{Bytes}
 use Rattle.dpa.specs.Settings.{maxLamps}
+use Rattle.outcome.specs.Request.{headerRequest}
 use Rattle.outcome.specs.Seen.{memories}
-use Rattle.effects.specs.Walk.{EntryTask}
-use Rattle.effects.proofs.LampChanges.{PartlyDone, done-start, done-end, done-entry, entry-less, lamp-less, done-implemented, done-unimplemented}
+use Rattle.effects.specs.Walk.{Follows}
+use Rattle.effects.proofs.Walks.{left}
+use Rattle.effects.proofs.LampChanges.{PartlyDone, done-start, done-end, done-task, task-less, lamp-less, done-implemented, done-unimplemented}
 use Rattle.effects.proofs.lamps.change_lamps.Statement.{statement}
 use Rattle.effects.proofs.lamps.change_lamps.Tie as tie
 
 abbrev Inv-loop : tie.InvT-loop
-Inv-loop settings bytes ram₀ eeprom₀ external₀ implemented after₀ walk₀ ram eeprom external after walk =
-    PartlyDone settings bytes walk₀ after₀ (memories ram₀ eeprom₀ external₀) walk after (memories ram eeprom external)
+Inv-loop settings header bytes ram₀ eeprom₀ external₀ implemented after₀ walk₀ ram eeprom external after walk =
+    PartlyDone settings (headerRequest header bytes) walk₀ after₀ (memories ram₀ eeprom₀ external₀) walk after (memories ram eeprom external)
 
 abbrev μ-loop : tie.MeasureT-loop
-μ-loop settings bytes ram₀ eeprom₀ external₀ implemented after₀ walk₀ ram eeprom external after walk = length bytes - walk .lamps .at
+μ-loop settings header bytes ram₀ eeprom₀ external₀ implemented after₀ walk₀ ram eeprom external after walk = left (headerRequest header bytes) walk
 
 -- the start, from the loop
 abbrev start : tie.At-loop Inv-loop μ-loop → tie.Start Inv-loop μ-loop
@@ -55,11 +57,11 @@ returns c =
     let k = c .before .before in
     done-end (at-task k .loop .inv) (k .before .if1 .taken) _ (k .next-task .ensures) (not-true _ (c .if2 .taken))
 
--- the next task is an entry
+-- the next task follows
 next : (c : tie.Else2 Inv-loop μ-loop) →
     let k = c .before .before in
     let l = at-task k in
-    EntryTask (start l .args .settings) (start l .args .bytes .now) (l .loop .walk) (k .next-task .result .task)
+    Follows (start l .args .settings) (headerRequest (start l .args .header) (start l .args .bytes .now)) (l .loop .walk) (k .next-task .result .task)
 next c = c .before .before .next-task .ensures .some (not-false _ (c .if2 .left))
 
 run-task-requires : tie.Need-run-task-requires Inv-loop μ-loop
@@ -81,14 +83,14 @@ loop-less c =
     let call = run-call c in
     let k = found call .before .before in
     let l = at-task k in
-    entry-less (l .loop .inv) (k .before .if1 .taken) (small l) _ (next (found call)) _ _ (call .run-task .ensures .0) (call .run-task .ensures .1)
+    task-less (l .loop .inv) (k .before .if1 .taken) (small l) _ (next (found call)) _ _ (call .run-task .ensures .0) (call .run-task .ensures .1)
 
 loop-again : tie.Need-loop-again Inv-loop μ-loop
 loop-again c =
     let call = run-call c in
     let k = found call .before .before in
     let l = at-task k in
-    done-entry (l .loop .inv) (k .before .if1 .taken) (small l) _ (next (found call)) _ _ (call .run-task .ensures .0) (call .run-task .ensures .1)
+    done-task (l .loop .inv) (k .before .if1 .taken) (small l) _ (next (found call)) _ _ (call .run-task .ensures .0) (call .run-task .ensures .1)
 
 -- ---- the next lamp
 
@@ -104,9 +106,10 @@ next-lamp-requires : tie.Need-next-lamp-requires Inv-loop μ-loop
 next-lamp-requires c κs = (c .before .before .before .loop .inv .ok .remains, c .before .if1 .left)
 
 less : (c : tie.After-next-lamp Inv-loop μ-loop) →
-    let l = at-lamp c in
-    let bytes = start l .args .bytes .now in
-    length bytes - c .next-lamp .result .rest .at < length bytes - l .loop .walk .lamps .at
+    let w = at-lamp c .loop .walk in
+    let a = start (at-lamp c) .args in
+    let i = headerRequest (a .header) (a .bytes .now) in
+    left i (record { rest = w .rest; next = w .next; lamps = c .next-lamp .result .rest }) < left i w
 less c = lamp-less (at-lamp c .loop .inv) _ (c .next-lamp .ensures)
 
 -- an implemented lamp

@@ -34,7 +34,7 @@ unfolding lightsWalk
 returns-2 c =
     let t = c .before .before in
     let a = t .before .before .before .args in
-    rw (changing t) (ap {B = Walk} (λ (l : LampWalk). record { alone = a .task .alone; next = a .task .end; lamps = l }) (c .walk-start .ensures))
+    rw (changing t) (ap {B = Walk} (λ (l : LampWalk). record { rest = a .task .rest; next = a .task .end; lamps = l }) (c .walk-start .ensures))
 
 pub lights-walk-spec : {M : Type 1} → statement M
 lights-walk-spec =

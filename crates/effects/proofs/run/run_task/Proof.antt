@@ -92,5 +92,7 @@ returns-6 c =
 pub run-task-spec : {M : Type 1} → statement M
 run-task-spec =
     tie.close (tie.spec (λ c κs. search needs) returns (λ c κs. search needs) returns-2 (λ c. search needs) (λ c. search needs) (λ c. search needs)
-    (λ c κs. search needs) (λ c. search needs) returns-3 (λ c κs. search needs) (λ c. search needs) returns-4
-    (λ c κs. search needs) (λ c. search needs) returns-5 returns-6)
+    (λ c κs. start (c .before .before .before .before .before .before .before .before) .pre .1 .eeprom-size) (λ c. search needs) returns-3
+    (λ c κs. start (c .before .before .before .before .before .before .before .before .before .before) .pre .1 .external-size) (λ c. search needs) returns-4
+    (λ c κs. start (c .before .before .before .before .before .before .before .before .before .before .before .before) .pre .1 .ram-size) (λ c. search needs)
+    returns-5 returns-6)

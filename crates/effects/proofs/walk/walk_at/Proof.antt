@@ -9,7 +9,7 @@ use Rattle.effects.proofs.walk.walk_at.Tie as tie
 returns : tie.Need-returns
 returns c =
     let a = c .before .args in
-    ap {B = Walk} (λ (l : LampWalk). record { alone = a .alone; next = a .next; lamps = l }) (c .walk-end .ensures)
+    ap {B = Walk} (λ (l : LampWalk). record { rest = a .rest; next = a .next; lamps = l }) (c .walk-end .ensures)
 
 pub walk-at-spec : {M : Type 1} → statement M
 walk-at-spec = tie.close (tie.spec (λ c κs. search needs) returns)
