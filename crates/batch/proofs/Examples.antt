@@ -2,7 +2,7 @@
 use mathlib.Core.Path.{_≡_, refl}
 use mathlib.Core.List.{[], _∷_}
 use Rattle.batch.specs.declared.list.ListCheck.the-variants.{Sound, Broken}
-use Rattle.batch.specs.Batch.{closingZero, shortReason, pastEndReason, unclosedReason, trailingReason, nextEntry, readingFrom, reading}
+use Rattle.batch.specs.Batch.{closingZero, shortReason, pastEndReason, unclosedReason, trailingReason, nextEntry, requestOf, readingFrom, reading}
 
 -- `00` has no entries
 pub zero-alone : reading (closingZero ∷ []) ≡ record { entries = []; check = Sound }
@@ -38,3 +38,9 @@ zero-zero = refl
 pub no-bytes : (reading []) .check ≡ Broken unclosedReason 0
 unfolding readingFrom
 no-bytes = refl
+
+-- `06 71 3E 34 12 AA 03` is an entry with PNUM, PCMD, HWPID low byte first and a byte of PData; a fault follows at position 6
+pub entry-then-fault : reading (0x06 ∷ 0x71 ∷ 0x3E ∷ 0x34 ∷ 0x12 ∷ 0xAA ∷ 0x03 ∷ [])
+    ≡ record { entries = requestOf 0x71 0x3E 0x1234 (0xAA ∷ []) ∷ []; check = Broken shortReason 6 }
+unfolding nextEntry readingFrom
+entry-then-fault = refl

@@ -25,8 +25,8 @@ use Rattle.outcome.proofs.Calls.{state-together}
 use Rattle.outcome.proofs.Parts.{peripheral-settings, peripheral-lamps, peripheral-memories, entries-settings, entries-lamps, entries-memories, peripheral-keeps-sizes}
 use Rattle.effects.specs.declared.walk.Task.{Task}
 use Rattle.effects.specs.declared.walk.Walk.{Walk}
-use Rattle.effects.specs.Walk.{TaskOk, taskData, walkAt, requestWalk, WalkOk, walkLamps, currentLamps, isNothing, effectLamps, effectMemories, StartWalk}
-use Rattle.effects.proofs.Tasks.{TaskWalk, walk-at-ok, request-walk}
+use Rattle.effects.specs.Walk.{TaskOk, taskData, taskLamps, taskMemories, walkAt, taskWalk, WalkOk, walkLamps, currentLamps, isNothing, effectLamps, effectMemories, StartWalk}
+use Rattle.effects.proofs.Tasks.{TaskWalk, walk-at-ok, task-walk}
 use Rattle.effects.proofs.Walks.{none-after-end, lamps-last, memories-last, walk-list, walk-last}
 
 -- no effect
@@ -115,7 +115,7 @@ module _ (p c h : ℕ) (d : List ℕ) (ms : Memories) (k : Sized ms) where
   -- a request alone
   module _ (known : EffectKnown Alone request) where
     abbrev task : Task
-    task = record { pnum = p; pcmd = c; hwpid = h; start = 0; end = length d; alone = true }
+    task = record { pnum = p; pcmd = c; accepted = true; start = 0; end = length d; alone = true }
 
     whole : taskData d task ≡ d
     whole = slice-to-end 0 d
@@ -131,9 +131,10 @@ module _ (p c h : ℕ) (d : List ℕ) (ms : Memories) (k : Sized ms) where
         }
 
     -- it is executed, and nothing follows it
-    pub start-alone : Bytes d → (r : Walk) (ns : Memories) → r ≡ requestWalk d task → ns ≡ peripheralMemories p c (taskData d task) ms → StartWalk Alone request ms r ns
+    pub start-alone : Bytes d → (r : Walk) (ns : Memories) → r ≡ taskWalk d task → ns ≡ taskMemories d task ms → StartWalk Alone request ms r ns
+    unfolding taskMemories taskLamps
     start-alone small r ns e q =
-        let walk : (s : Settings) → TaskWalk s d task (peripheralLamps s p c (taskData d task)) r = λ s. subst (TaskWalk s d task (peripheralLamps s p c (taskData d task))) (sym e) (request-walk s d task alone-ok small) in
+        let walk : (s : Settings) → TaskWalk s d task (taskLamps s d task) r = λ s. subst (TaskWalk s d task (taskLamps s d task)) (sym e) (task-walk s d task alone-ok small) in
         let same : ns ≡ peripheralMemories p c d ms = q ∙ ap (λ (x : List ℕ). peripheralMemories p c x ms) whole in
         let any : Settings = record { address = 0; hwpid = 0; «dpa_value» = 0; «lamp_count» = 0; step = 0 } in
         let last = none-after-end d (r .next) (walk any .ends) in

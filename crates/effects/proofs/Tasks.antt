@@ -1,7 +1,7 @@
 -- The walk of a request, alone or in a list: it can go on, it ends where the request does, and it gives the lamps after the request.
 use mathlib.Core.Path.{_≡_, refl, sym, ap, _∙_}
 use mathlib.Core.List.{List, [], _∷_}
-use mathlib.Core.Bool.{Bool, true, false}
+use mathlib.Core.Bool.{Bool, true, false, cond, _&&_, and-false}
 use Prim.Native.Nat.{ℕ, zero, suc, _-_, _≤_}
 use native.Mathlib.Omega.{arith}
 use lib.Dec.{leb, eqb}
@@ -19,11 +19,10 @@ use Rattle.lights.specs.Lights.{commandPcmd, lightsRequest, changesLamps}
 use Rattle.lights.specs.Remaining.{walkEnd, walkStart}
 use Rattle.lights.proofs.RemainingLamps.{start-remains, start-lamps, end-remains, end-lamps}
 use Rattle.lights.proofs.Requests.{unchanged}
-use Rattle.outcome.specs.Request.{hwpidMatches}
-use Rattle.outcome.specs.Seen.{peripheralLamps, entryLamps}
+use Rattle.outcome.specs.Seen.{Memories, peripheralMemories, peripheralLamps}
 use Rattle.effects.specs.declared.walk.Task.{Task}
 use Rattle.effects.specs.declared.walk.Walk.{Walk}
-use Rattle.effects.specs.Walk.{taskData, taskRequest, TaskOk, walkAt, lightsWalk, requestWalk, entryWalk, WalkOk, currentLamps}
+use Rattle.effects.specs.Walk.{taskData, taskLamps, taskMemories, TaskOk, walkAt, lightsWalk, taskWalk, WalkOk, currentLamps}
 
 -- a part of the first bytes is a slice
 drop-take : (n m : ℕ) (l : List ℕ) → drop n (take m l) ≡ slice l n (m - n)
@@ -43,14 +42,28 @@ module _ (bytes : List ℕ) (t : Task) where
   tested-changes good a l =
       by-test (leb (t .pcmd) (commandPcmd Lower)) (λ e. e ∙ sym (good .tested a l (leb-true _ _ e))) (λ e. rw e)
 
-  -- the walk by the PNUM
-  pub walk-lights : t .pnum ≡ lightsPnum → lightsWalk bytes t ≡ requestWalk bytes t
-  unfolding requestWalk
-  walk-lights e = rw (eq-eqb (t .pnum) lightsPnum e)
+  -- the walk of a task for the lights
+  pub walk-lights : t .accepted ≡ true → t .pnum ≡ lightsPnum → lightsWalk bytes t ≡ taskWalk bytes t
+  unfolding taskWalk
+  walk-lights a e = rw (a, eq-eqb (t .pnum) lightsPnum e)
 
-  pub walk-elsewhere : (t .pnum ≡ lightsPnum → ⊥) → walkAt (t .alone) (t .end) ≡ requestWalk bytes t
-  unfolding requestWalk
-  walk-elsewhere n = rw (ne-eqb (t .pnum) lightsPnum n)
+  -- the walk of one that is not accepted, and of one for another peripheral
+  pub walk-rejected : t .accepted ≡ false → walkAt (t .alone) (t .end) ≡ taskWalk bytes t
+  unfolding taskWalk
+  walk-rejected a = rw a
+
+  pub walk-elsewhere : (t .pnum ≡ lightsPnum → ⊥) → walkAt (t .alone) (t .end) ≡ taskWalk bytes t
+  unfolding taskWalk
+  walk-elsewhere n = rw (ne-eqb (t .pnum) lightsPnum n, and-false (t .accepted))
+
+  -- the memories after a task that is accepted, and after one that is not
+  pub memories-accepted : (ms : Memories) → t .accepted ≡ true → taskMemories bytes t ms ≡ peripheralMemories (t .pnum) (t .pcmd) (taskData bytes t) ms
+  unfolding taskMemories
+  memories-accepted ms a = rw a
+
+  pub memories-rejected : (ms : Memories) → t .accepted ≡ false → taskMemories bytes t ms ≡ ms
+  unfolding taskMemories
+  memories-rejected ms a = rw a
 
 -- a walk at the end of a request can go on
 pub walk-at-ok : (bytes : List ℕ) (alone : Bool) (next : ℕ) → next ≤ length bytes → (alone ≡ true → next ≡ length bytes) → WalkOk bytes (walkAt alone next)
@@ -104,16 +117,13 @@ module _ (s : Settings) (bytes : List ℕ) (t : Task) (good : TaskOk bytes t) wh
         by-cond (λ (r : Walk). TaskWalk s bytes t (λ ls. lightsRequest s (t .pcmd) pdata ls .after) r) (changesLamps (t .pcmd) pdata) _ _ changing
         (λ e. nothing-remains (λ ls. lightsRequest s (t .pcmd) pdata ls .after) (λ ls. unchanged s (t .pcmd) pdata ls e))
 
-    -- a request to a peripheral
-    pub request-walk : TaskWalk s bytes t (peripheralLamps s (t .pnum) (t .pcmd) pdata) (requestWalk bytes t)
-    unfolding requestWalk peripheralLamps
-    request-walk =
-        by-cond (λ (r : Walk). TaskWalk s bytes t (peripheralLamps s (t .pnum) (t .pcmd) pdata) r) (eqb (t .pnum) lightsPnum) _ _
-        (λ e. same-walk (λ ls. rw e) lights-walk) (λ e. nothing-remains (peripheralLamps s (t .pnum) (t .pcmd) pdata) (λ ls. rw e))
-
-    -- an entry
-    pub entry-walk : TaskWalk s bytes t (entryLamps s (taskRequest bytes t)) (entryWalk s bytes t)
-    unfolding entryWalk entryLamps
-    entry-walk =
-        by-cond (λ (r : Walk). TaskWalk s bytes t (entryLamps s (taskRequest bytes t)) r) (hwpidMatches s (t .hwpid)) _ _
-        (λ e. same-walk (λ ls. rw e) request-walk) (λ e. nothing-remains (entryLamps s (taskRequest bytes t)) (λ ls. rw e))
+    -- any task
+    pub task-walk : TaskWalk s bytes t (taskLamps s bytes t) (taskWalk bytes t)
+    unfolding taskWalk taskLamps peripheralLamps
+    task-walk = go (t .accepted) (eqb (t .pnum) lightsPnum) refl refl
+      where
+        go : (a b : Bool) → t .accepted ≡ a → eqb (t .pnum) lightsPnum ≡ b
+            → TaskWalk s bytes t (taskLamps s bytes t) (cond (a && b) (lightsWalk bytes t) (walkAt (t .alone) (t .end)))
+        go true true p q = same-walk (λ ls. rw (p, q)) lights-walk
+        go true false p q = nothing-remains (taskLamps s bytes t) (λ ls. rw (p, q))
+        go false b p q = nothing-remains (taskLamps s bytes t) (λ ls. rw p)

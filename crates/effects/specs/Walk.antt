@@ -1,36 +1,40 @@
 -- The walk over the effect of a request: the requests that it executes, what its rest does to the lamps and to the memories, and what the
 -- steps of the code leave.
-use Prim.Native.Nat.{ℕ, _-_, _≤_}
+use Prim.Native.Nat.{ℕ, _-_, _≤_, _<_}
 use mathlib.Core.Path.{_≡_}
-use mathlib.Core.List.{List, []}
-use mathlib.Core.Bool.{Bool, true, false, cond, _&&_, _||_}
+use mathlib.Core.List.{List, [], _∷_}
+use mathlib.Core.Bool.{Bool, true, false, cond, _&&_}
 use lib.Dec.{eqb}
 use lib.ListN.{length, take, drop}
 use Rattle.dpa.specs.declared.settings.Settings.{Settings}
 use Rattle.dpa.specs.Lists.{slice}
 use Rattle.dpa.specs.NodeSet.{nodeSetSize}
 use Rattle.dpa.specs.Pnum.{lightsPnum}
-use Rattle.dpa.specs.Settings.{maxLamps}
 use Rattle.lights.specs.declared.apply.Command.the-variants.{Lower}
 use Rattle.lights.specs.declared.lamp.Lamp.{Lamp}
 use Rattle.lights.specs.Lights.{commandPcmd, changesLamps}
 use Rattle.lights.specs.Remaining.{remainingLamps, Remaining, walkEnd, walkStart}
-use Rattle.batch.specs.Batch.{Request, requestOf, atEnd, reading}
+use Rattle.batch.specs.Batch.{Request, requestOf, reading}
 use Rattle.outcome.specs.declared.reply.Effect.{Effect}
 use Rattle.outcome.specs.declared.reply.Effect.the-variants.{Nothing, Alone, Batch, Selective}
 use Rattle.outcome.specs.Request.{hwpidMatches}
 use Rattle.outcome.specs.Seen.{Memories, Sized, peripheralMemories, peripheralLamps, listMemories, listLamps}
+use Rattle.effects.specs.declared.lamps.NextTask.{NextTask}
 use Rattle.effects.specs.declared.walk.Task.{Task}
 use Rattle.effects.specs.declared.walk.Walk.{Walk}
 
 -- ---- requests to execute; bytes is PData of the frame
 
--- PData of a task, and the task as a request
+-- PData of a task
 abbrev pub taskData : List ℕ → Task → List ℕ
 taskData bytes t = slice bytes (t .start) (t .end - t .start)
 
-abbrev pub taskRequest : List ℕ → Task → Request
-taskRequest bytes t = requestOf (t .pnum) (t .pcmd) (t .hwpid) (taskData bytes t)
+-- the lamps and the memories after a task
+unfoldable pub taskLamps : Settings → List ℕ → Task → List Lamp → List Lamp
+taskLamps s bytes t ls = cond (t .accepted) (peripheralLamps s (t .pnum) (t .pcmd) (taskData bytes t) ls) ls
+
+unfoldable pub taskMemories : List ℕ → Task → Memories → Memories
+taskMemories bytes t ms = cond (t .accepted) (peripheralMemories (t .pnum) (t .pcmd) (taskData bytes t) ms) ms
 
 -- a task that can be executed: it lies in the bytes; alone it ends with them, and its answer has tested the power entries
 pub record TaskOk (bytes : List ℕ) (t : Task) : Type 0 where
@@ -45,18 +49,15 @@ pub record TaskOk (bytes : List ℕ) (t : Task) : Type 0 where
 abbrev pub walkAt : Bool → ℕ → Walk
 walkAt alone next = record { alone = alone; next = next; lamps = walkEnd next }
 
--- the walk of a request to the lights, of one to a peripheral, and of an entry (proofs/Tasks: `request-walk`, `entry-walk`)
+-- the walk of a task for the lights, and of any task (proofs/Tasks: `task-walk`)
 unfoldable pub lightsWalk : List ℕ → Task → Walk
 lightsWalk bytes t =
     cond (changesLamps (t .pcmd) (taskData bytes t))
     (record { alone = t .alone; next = t .end; lamps = walkStart (t .pcmd) (take (t .end) bytes) (t .start) })
     (walkAt (t .alone) (t .end))
 
-unfoldable pub requestWalk : List ℕ → Task → Walk
-requestWalk bytes t = cond (eqb (t .pnum) lightsPnum) (lightsWalk bytes t) (walkAt (t .alone) (t .end))
-
-unfoldable pub entryWalk : Settings → List ℕ → Task → Walk
-entryWalk s bytes t = cond (hwpidMatches s (t .hwpid)) (requestWalk bytes t) (walkAt (t .alone) (t .end))
+unfoldable pub taskWalk : List ℕ → Task → Walk
+taskWalk bytes t = cond (t .accepted && eqb (t .pnum) lightsPnum) (lightsWalk bytes t) (walkAt (t .alone) (t .end))
 
 -- a walk that can go on
 pub record WalkOk (bytes : List ℕ) (w : Walk) : Type 0 where
@@ -75,24 +76,20 @@ walkLamps s bytes w ls = listLamps s (drop (w .next) bytes) (currentLamps s byte
 abbrev pub walkMemories : Settings → List ℕ → Walk → Memories → Memories
 walkMemories s bytes w ms = listMemories s (drop (w .next) bytes) ms
 
--- no entry follows the current request: it is alone, or the closing zero follows
-abbrev pub noneFollows : List ℕ → Walk → Bool
-noneFollows bytes w = w .alone || atEnd (drop (w .next) bytes)
+-- ---- the next request
 
--- ---- steps of a walk
+-- the task t is the entry after the current request
+pub record EntryTask (s : Settings) (bytes : List ℕ) (w : Walk) (t : Task) : Type 0 where
+  pub ok : TaskOk bytes t
+  pub later : w .next < t .start
+  pub hwpid : ℕ
+  pub accepts : t .accepted ≡ hwpidMatches s hwpid
+  pub entries : reading (drop (w .next) bytes) .entries ≡ requestOf (t .pnum) (t .pcmd) hwpid (taskData bytes t) ∷ reading (drop (t .end) bytes) .entries
 
--- r with the memories ns is further on than w with the memories ms, and gives the same lamps and memories at the end
-pub record Onward (s : Settings) (bytes : List ℕ) (w : Walk) (ms : Memories) (r : Walk) (ns : Memories) : Type 0 where
-  pub ok : WalkOk bytes r
-  pub sized : Sized ns
-  pub further : w .lamps .at ≤ r .lamps .at
-  pub same-lamps : (ls : List Lamp) → length ls ≡ maxLamps → walkLamps s bytes r ls ≡ walkLamps s bytes w ls
-  pub same-memories : walkMemories s bytes r ns ≡ walkMemories s bytes w ms
-
--- and it stops without a remaining lamp only where no entry follows
-pub record CurrentWalk (s : Settings) (bytes : List ℕ) (w : Walk) (ms : Memories) (r : Walk) (ns : Memories) : Type 0 where
-  pub onward : Onward s bytes w ms r ns
-  pub last : r .lamps .remaining ≡ 0 → reading (drop (r .next) bytes) .entries ≡ []
+-- the next task, if an entry follows
+pub record TaskAfter (s : Settings) (bytes : List ℕ) (w : Walk) (x : NextTask) : Type 0 where
+  pub some : x .found ≡ true → EntryTask s bytes w (x .task)
+  pub none : x .found ≡ false → reading (drop (w .next) bytes) .entries ≡ []
 
 -- ---- the effect of a request
 

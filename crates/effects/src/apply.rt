@@ -1,6 +1,6 @@
 // The node after the effect of a request.
 use crate::lamps::change_lamps;
-use crate::run::run_request;
+use crate::run::run_task;
 use crate::walk::Task;
 use crate::walk::Walk;
 use crate::walk::walk_at;
@@ -48,12 +48,12 @@ fn start_walk(
             let task = Task {
                 pnum: header.pnum,
                 pcmd: header.pcmd,
-                hwpid: header.hwpid,
+                accepted: true,
                 start: 0,
                 end,
                 alone: true,
             };
-            run_request(task, pdata, ram, eeprom, external)
+            run_task(task, pdata, ram, eeprom, external)
         }
         Effect::Batch => walk_at(false, 0),
         Effect::Selective => walk_at(false, NODE_SET_SIZE),

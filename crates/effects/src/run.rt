@@ -3,18 +3,16 @@ use crate::walk::Task;
 use crate::walk::Walk;
 use crate::walk::walk_at;
 use dpa::pnum;
-use dpa::settings::Settings;
 use lights::request::LOWER;
 use lights::request::changes_lamps;
 use lights::walk::walk_start;
 use memory::block::Memory;
-use outcome::hwpid::hwpid_matches;
 ghost use mathlib.Core.Path.{_≡_};
 ghost use mathlib.Core.Bool.{true};
 ghost use Rattle.dpa.specs.Pnum.{lightsPnum};
 ghost use Rattle.lights.specs.Lights.{changesLamps};
-ghost use Rattle.outcome.specs.Seen.{memories, Sized, peripheralMemories, entryMemories};
-ghost use Rattle.effects.specs.Walk.{TaskOk, taskData, taskRequest, lightsWalk, requestWalk, entryWalk};
+ghost use Rattle.outcome.specs.Seen.{memories, Sized};
+ghost use Rattle.effects.specs.Walk.{TaskOk, taskData, taskMemories, lightsWalk, taskWalk};
 
 // Whether a request to the lights changes lamps. The answer to a request alone has tested its power entries, so they are not tested again.
 fn changes(task: Task, bytes: &[u8]) -> bool
@@ -45,8 +43,8 @@ fn lights_walk(task: Task, bytes: &[u8]) -> Walk
     }
 }
 
-// Executes a request to a peripheral, by its PNUM. Any other PNUM changes nothing.
-pub fn run_request(
+// Executes a request, by its PNUM. Any PNUM other than those of the peripherals changes nothing.
+pub fn run_task(
     task: Task,
     bytes: &[u8],
     ram: &mut [u8],
@@ -54,17 +52,20 @@ pub fn run_request(
     external: &mut [u8],
 ) -> Walk
     requires { ⌜ TaskOk (now bytes) task × Sized (memories (now ram) (now eeprom) (now external)) ⌝ }
-    ensures { λ r. ⌜ (r ≡ requestWalk (now (bytes .entry)) task)
+    ensures { λ r. ⌜ (r ≡ taskWalk (now (bytes .entry)) task)
         × (memories (now (ram .exit)) (now (eeprom .exit)) (now (external .exit))
-        ≡ peripheralMemories (task .pnum) (task .pcmd) (taskData (now (bytes .entry)) task) (memories (now (ram .entry)) (now (eeprom .entry)) (now (external .entry)))) ⌝ }
+        ≡ taskMemories (now (bytes .entry)) task (memories (now (ram .entry)) (now (eeprom .entry)) (now (external .entry)))) ⌝ }
 {
+    let start = task.start;
+    let end = task.end;
+    let done = walk_at(task.alone, end);
+    if !task.accepted {
+        return done;
+    }
     if task.pnum == pnum::LIGHTS {
         return lights_walk(task, bytes);
     }
-    let start = task.start;
-    let end = task.end;
     let pdata = &bytes[start..end];
-    let done = walk_at(task.alone, end);
     if task.pnum == pnum::EEPROM {
         memory::request::change(Memory::Eeprom, eeprom, task.pcmd, pdata);
         return done;
@@ -78,24 +79,4 @@ pub fn run_request(
         return done;
     }
     done
-}
-
-// Executes an entry of a list. One with another HWPID changes nothing.
-pub fn run_entry(
-    settings: Settings,
-    task: Task,
-    bytes: &[u8],
-    ram: &mut [u8],
-    eeprom: &mut [u8],
-    external: &mut [u8],
-) -> Walk
-    requires { ⌜ TaskOk (now bytes) task × Sized (memories (now ram) (now eeprom) (now external)) ⌝ }
-    ensures { λ r. ⌜ (r ≡ entryWalk settings (now (bytes .entry)) task)
-        × (memories (now (ram .exit)) (now (eeprom .exit)) (now (external .exit))
-        ≡ entryMemories settings (taskRequest (now (bytes .entry)) task) (memories (now (ram .entry)) (now (eeprom .entry)) (now (external .entry)))) ⌝ }
-{
-    if !hwpid_matches(settings, task.hwpid) {
-        return walk_at(task.alone, task.end);
-    }
-    run_request(task, bytes, ram, eeprom, external)
 }

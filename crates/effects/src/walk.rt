@@ -8,7 +8,8 @@ ghost use Rattle.effects.specs.Walk.{walkAt};
 pub struct Task {
     pub pnum: u8,
     pub pcmd: u8,
-    pub hwpid: u16,
+    // Whether its HWPID is accepted. If not, it changes nothing.
+    pub accepted: bool,
     // Its PData is from start to end.
     pub start: usize,
     pub end: usize,

@@ -19,8 +19,8 @@ known c =
     let s = start (c .before .before) in
     subst (λ (e : Effect). EffectKnown e (headerRequest (s .args .header) (s .args .pdata .now))) (c .enum-told2 .given .1) (s .pre .0)
 
-run-request-requires : tie.Need-run-request-requires
-run-request-requires c κs =
+run-task-requires : tie.Need-run-task-requires
+run-task-requires c κs =
     let t = c .before .before .before in
     let s = start (t .before .before) in
     (alone-ok _ _ _ _ _ (s .pre .1) (known t), s .pre .1)
@@ -36,7 +36,7 @@ returns-2 c =
     let t = call .before .before .before .before in
     let s = start (t .before .before) in
     rw (t .enum-told2 .given .1)
-    (start-alone _ _ _ _ _ (s .pre .1) (known t) (λ i. t .before .before .before .before .before .shared-slice-known .given i .fits) _ _ (call .run-request .ensures .0) (call .run-request .ensures .1))
+    (start-alone _ _ _ _ _ (s .pre .1) (known t) (λ i. t .before .before .before .before .before .shared-slice-known .given i .fits) _ _ (call .run-task .ensures .0) (call .run-task .ensures .1))
 
 returns-3 : tie.Need-returns-3
 returns-3 c =
@@ -51,6 +51,6 @@ returns-4 c =
 
 pub start-walk-spec : {M : Type 1} → statement M
 start-walk-spec =
-    tie.close (tie.spec (λ c. search needs) (λ c κs. search needs) (λ c. search needs) run-request-requires (λ c. search needs)
+    tie.close (tie.spec (λ c. search needs) (λ c κs. search needs) (λ c. search needs) run-task-requires (λ c. search needs)
     (λ c κs. search needs) (λ c. search needs) (λ c κs. search needs) returns (λ c. search needs) (λ c. search needs) (λ c. search needs)
     returns-2 returns-3 returns-4)
