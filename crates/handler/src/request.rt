@@ -3,7 +3,11 @@ use dpa::frame::Frame;
 use dpa::frame::write_response_header;
 use dpa::refusal;
 use effects::apply::apply;
+use lights::lamp::LAMPS;
+use lights::lamp::Lamp;
 use node::record::Node;
+use node::record::ReadOnly;
+use node::record::read_only;
 use outcome::answer::RequestAnswer;
 use outcome::answer::answer_handled;
 use outcome::answer::answer_unhandled;
@@ -19,36 +23,51 @@ ghost use Rattle.dpa.specs.Frame.{headerSize, longestFrame, longestResponse, br
 ghost use Rattle.node.specs.State.{state, SoundState};
 ghost use Rattle.outcome.specs.Request.{execute, headerRequest, handleFrame, handleRequest};
 ghost use Rattle.outcome.specs.Effect.{requestEffect};
-ghost use Rattle.outcome.specs.Seen.{answerSeen, addressedResult, answerInResponse, callResult};
+ghost use Rattle.outcome.specs.Seen.{stateFromParts, answerSeen, addressedResult, answerInResponse, callResult};
 
 // Answers a request to all nodes or to this one; node and memories are only read. The data of a broadcast goes to a scratch buffer, because
 // it gets no response. The data for this node is written after the response header, then the header in front of it. A request that is not
 // answered leaves the buffer as it is.
 fn respond(
-    node: Node,
+    fixed: ReadOnly,
+    lamps: [Lamp; LAMPS],
     header: Frame,
     pdata: &[u8],
+    ram: &[u8],
     eeprom: &[u8],
     external: &[u8],
     response: &mut [u8],
 ) -> RequestReply
-    requires { ⌜ SoundState (state node (now eeprom) (now external)) × (longestResponse ≤ length (now response)) ⌝ }
+    requires { ⌜ SoundState (stateFromParts fixed lamps (now ram) (now eeprom) (now external)) × (longestResponse ≤ length (now response)) ⌝ }
     ensures { λ r. ⌜ answerSeen r (now (response .exit))
-        ≡ answerInResponse (execute (headerRequest header (now (pdata .entry))) (state node (now (eeprom .entry)) (now (external .entry))))
+        ≡ answerInResponse (execute (headerRequest header (now (pdata .entry)))
+        (stateFromParts fixed lamps (now (ram .entry)) (now (eeprom .entry)) (now (external .entry))))
         (requestEffect (headerRequest header (now (pdata .entry))))
-        (addressedResult (node .settings) header (headerRequest header (now (pdata .entry)))
-        (execute (headerRequest header (now (pdata .entry))) (state node (now (eeprom .entry)) (now (external .entry)))) (now (response .entry))) ⌝ }
+        (addressedResult (fixed .settings) header (headerRequest header (now (pdata .entry)))
+        (execute (headerRequest header (now (pdata .entry)))
+        (stateFromParts fixed lamps (now (ram .entry)) (now (eeprom .entry)) (now (external .entry)))) (now (response .entry))) ⌝ }
 {
     if header.nadr == Frame::BROADCAST {
         let mut scratch = [0u8; Frame::PDATA_MAX];
-        let mut done = answer(node, header, pdata, eeprom, external, &mut scratch);
+        let mut done = answer(
+            fixed,
+            lamps,
+            header,
+            pdata,
+            ram,
+            eeprom,
+            external,
+            &mut scratch,
+        );
         done.length = 0;
         return done;
     }
     let mut done = answer(
-        node,
+        fixed,
+        lamps,
         header,
         pdata,
+        ram,
         eeprom,
         external,
         &mut response[Frame::RESPONSE_HEADER..],
@@ -58,7 +77,7 @@ fn respond(
     }
     write_response_header(
         response,
-        node.settings,
+        fixed.settings,
         header.pnum,
         header.pcmd,
         done.error,
@@ -92,7 +111,19 @@ fn handle_frame(
         return answer_unhandled(node, refusal::NONE);
     }
     let pdata = &frame[Frame::HEADER..];
-    let done = respond(node, header, pdata, eeprom, external, response);
+    let fixed = read_only(node);
+    let lamps = node.lamps;
+    let ram = node.ram;
+    let done = respond(
+        fixed,
+        lamps,
+        header,
+        pdata,
+        &ram,
+        eeprom,
+        external,
+        response,
+    );
     let effect = done.effect;
     let after = apply(node, effect, header, pdata, eeprom, external);
     answer_handled(after, done)

@@ -6,10 +6,10 @@ use mathlib.Core.Path.{ap}
 use Prim.Native.Nat.{_≤_}
 use Rattle.dpa.specs.Frame.{pdataMax}
 use Rattle.batch.specs.Batch.{Request}
-use Rattle.node.specs.State.{State, state}
+use Rattle.node.specs.State.{State}
 use Rattle.outcome.specs.Request.{Outcome, headerRequest, execute}
 use Rattle.outcome.specs.Effect.{requestEffect}
-use Rattle.outcome.specs.Seen.{SeenAnswer}
+use Rattle.outcome.specs.Seen.{stateFromParts, SeenAnswer}
 use Rattle.outcome.proofs.Sizes.{execute-fits, unanswered-empty}
 use Rattle.outcome.proofs.Responses.{broadcast-response, unanswered-response, answered-response}
 use Rattle.handler.proofs.request.respond.Statement.{statement}
@@ -17,14 +17,14 @@ use Rattle.handler.proofs.request.respond.Tie as tie
 
 -- the start, from the test of the NADR
 abbrev start : tie.Else1 → tie.Start
-start c = c .before .before .before .before .before .before
+start c = c .before .before .before .before .before .before .before
 
 -- the request, the state and the outcome
 abbrev request : tie.Start → Request
 request s = headerRequest (s .args .header) (s .args .pdata .now)
 
 abbrev given : tie.Start → State
-given s = state (s .args .node) (s .args .eeprom .now) (s .args .external .now)
+given s = stateFromParts (s .args .fixed) (s .args .lamps) (s .args .ram .now) (s .args .eeprom .now) (s .args .external .now)
 
 abbrev done : tie.Start → Outcome
 done s = execute (request s) (given s)
@@ -39,14 +39,14 @@ answered c = c .before .before .before .before .before .before .before .before .
 returns : tie.Need-returns
 returns c =
     let call = c .before in
-    let s = call .before .before .before .before .before .before .before .before in
-    broadcast-response (s .args .node .settings) (s .args .header) (s .args .pdata .now) (done s) (requestEffect (request s)) (s .args .response .now) _ (call .before .before .if1 .taken) (call .answer .ensures)
+    let s = call .before .before .before .before .before .before .before .before .before in
+    broadcast-response (s .args .fixed .settings) (s .args .header) (s .args .pdata .now) (done s) (requestEffect (request s)) (s .args .response .now) _ (call .before .before .if1 .taken) (call .answer .ensures)
 
 returns-2 : tie.Need-returns-2
 returns-2 c =
     let call = c .before .before .before .before in
     let s = start (unicast call) in
-    unanswered-response (s .args .node .settings) (s .args .header) (s .args .pdata .now) (done s) (requestEffect (request s)) (s .args .response .now) (unicast call .if1 .left) (call .answer2 .ensures) (not-true _ (c .if2 .taken)) (unanswered-empty (request s) (given s))
+    unanswered-response (s .args .fixed .settings) (s .args .header) (s .args .pdata .now) (done s) (requestEffect (request s)) (s .args .response .now) (unicast call .if1 .left) (call .answer2 .ensures) (not-true _ (c .if2 .taken)) (unanswered-empty (request s) (given s))
 
 -- the data fits a frame
 fits : (c : tie.After-answer2) → c .answer2 .result .length ≤ pdataMax
@@ -59,7 +59,7 @@ returns-3 : tie.Need-returns-3
 returns-3 c =
     let call = answered c in
     let s = start (unicast call) in
-    answered-response (s .args .node .settings) (s .args .header) (s .args .pdata .now) (done s) (requestEffect (request s)) (s .args .response .now) (unicast call .if1 .left) (call .answer2 .ensures) (omega (arith, s .pre .1))
+    answered-response (s .args .fixed .settings) (s .args .header) (s .args .pdata .now) (done s) (requestEffect (request s)) (s .args .response .now) (unicast call .if1 .left) (call .answer2 .ensures) (omega (arith, s .pre .1))
     (not-false _ (c .before .before .before .before .before .if2 .left)) (c .before .before .before .write-response-header .ensures)
 
 pub respond-spec : {M : Type 1} → statement M
