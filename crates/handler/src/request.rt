@@ -7,6 +7,7 @@ use lights::lamp::LAMPS;
 use lights::lamp::Lamp;
 use node::record::Node;
 use node::record::ReadOnly;
+use node::record::node_from_parts;
 use node::record::read_only;
 use outcome::answer::RequestAnswer;
 use outcome::answer::answer_handled;
@@ -113,7 +114,7 @@ fn handle_frame(
     let pdata = &frame[Frame::HEADER..];
     let fixed = read_only(node);
     let lamps = node.lamps;
-    let ram = node.ram;
+    let mut ram = node.ram;
     let done = respond(
         fixed,
         lamps,
@@ -125,8 +126,17 @@ fn handle_frame(
         response,
     );
     let effect = done.effect;
-    let after = apply(node, effect, header, pdata, eeprom, external);
-    answer_handled(after, done)
+    let after = apply(
+        fixed,
+        lamps,
+        effect,
+        header,
+        pdata,
+        &mut ram,
+        eeprom,
+        external,
+    );
+    answer_handled(node_from_parts(fixed, after, ram), done)
 }
 
 // Handles a request. A refused call changes nothing.
