@@ -12,7 +12,7 @@ use Rattle.batch.specs.Batch.{Request}
 use Rattle.node.specs.declared.record.ReadOnly.{ReadOnly}
 use Rattle.node.specs.State.{State}
 use Rattle.outcome.specs.declared.reply.Effect.{Effect}
-use Rattle.outcome.specs.declared.reply.Effect.the-variants.{Nothing, Alone, Batch, Selective}
+use Rattle.outcome.specs.declared.reply.Effect.the-variants.{Nothing, Lamps, Alone, Batch, Selective}
 use Rattle.outcome.specs.Effect.{afterEffect, EffectKnown}
 use Rattle.outcome.specs.Seen.{stateFromParts, Memories, memoriesOf}
 use Rattle.outcome.proofs.Calls.{state-together}
@@ -26,6 +26,7 @@ use Rattle.effects.proofs.Tasks.{at-end-remains}
 -- the settings are unchanged
 pub effect-settings : (effect : Effect) (i : Request) (st : State) → afterEffect effect i st .node .settings ≡ st .node .settings
 effect-settings Nothing i st = refl
+effect-settings Lamps i st = peripheral-settings (i .pnum) (i .pcmd) (i .pdata) st
 effect-settings Alone i st = peripheral-settings (i .pnum) (i .pcmd) (i .pdata) st
 effect-settings Batch i st = entries-settings (i .pdata) st
 effect-settings Selective i st = entries-settings (drop nodeSetSize (i .pdata)) st
@@ -42,12 +43,14 @@ effect-lamps effect i st = at (startWalk effect) (started effect) (st .node .set
 
     started : (e : Effect) → startWalk e .lamps .remaining ≡ 0
     started Nothing = refl
+    started Lamps = refl
     started Alone = refl
     started Batch = refl
     started Selective = refl
 
     by : (e : Effect) → restLamps (startWalk e .rest) (st .node .settings) i (startWalk e .next) (st .node .lamps) ≡ afterEffect e i st .node .lamps
     by Nothing = refl
+    by Lamps = sym (peripheral-lamps (i .pnum) (i .pcmd) (i .pdata) st)
     by Alone = sym (peripheral-lamps (i .pnum) (i .pcmd) (i .pdata) st)
     by Batch = sym (entries-lamps (i .pdata) st)
     by Selective = sym (entries-lamps (drop nodeSetSize (i .pdata)) st)
@@ -56,6 +59,7 @@ effect-lamps effect i st = at (startWalk effect) (started effect) (st .node .set
 pub effect-memories : (effect : Effect) (i : Request) (st : State)
     → walkMemories (st .node .settings) i (startWalk effect) (memoriesOf st) ≡ memoriesOf (afterEffect effect i st)
 effect-memories Nothing i st = refl
+effect-memories Lamps i st = sym (peripheral-memories (i .pnum) (i .pcmd) (i .pdata) st)
 effect-memories Alone i st = sym (peripheral-memories (i .pnum) (i .pcmd) (i .pdata) st)
 effect-memories Batch i st = sym (entries-memories (i .pdata) st)
 effect-memories Selective i st = sym (entries-memories (drop nodeSetSize (i .pdata)) st)
@@ -79,6 +83,7 @@ start-ok effect i known = by effect known
 
     by : (e : Effect) → EffectKnown e i → WalkOk i (startWalk e)
     by Nothing k = made Ended 0 (omega arith) (λ e. absurd (not-whole Ended refl e))
-    by Alone k = made Whole 0 (omega arith) (λ _. record { at-start = refl; valid = k .changes refl })
+    by Lamps k = made Whole 0 (omega arith) (λ _. record { at-start = refl; valid = λ _. k .changes refl })
+    by Alone k = made Whole 0 (omega arith) (λ _. record { at-start = refl; valid = λ p. absurd (k .not-lights refl p) })
     by Batch k = made Entries 0 (omega arith) (λ e. absurd (not-whole Entries refl e))
     by Selective k = made Entries nodeSetSize (k .node-set refl) (λ e. absurd (not-whole Entries refl e))

@@ -17,7 +17,7 @@ use Rattle.lights.specs.Lights.{commandPcmd, changesLamps}
 use Rattle.lights.specs.Remaining.{remainingLamps, Remaining, walkEnd, walkStart}
 use Rattle.batch.specs.Batch.{Request, requestOf, reading}
 use Rattle.outcome.specs.declared.reply.Effect.{Effect}
-use Rattle.outcome.specs.declared.reply.Effect.the-variants.{Nothing, Alone, Batch, Selective}
+use Rattle.outcome.specs.declared.reply.Effect.the-variants.{Nothing, Lamps, Alone, Batch, Selective}
 use Rattle.outcome.specs.Request.{hwpidMatches}
 use Rattle.outcome.specs.Seen.{Memories, peripheralMemories, peripheralLamps, listMemories, listLamps}
 use Rattle.effects.specs.declared.lamps.NextTask.{NextTask}
@@ -101,6 +101,7 @@ walkMemories s i w ms = restMemories (w .rest) s i (w .next) ms
 -- the walk at the start of an effect (proofs/Effects: `start-lamps`, `start-memories`)
 abbrev pub startWalk : Effect → Walk
 startWalk Nothing = walkAt Ended 0
+startWalk Lamps = walkAt Whole 0
 startWalk Alone = walkAt Whole 0
 startWalk Batch = walkAt Entries 0
 startWalk Selective = walkAt Entries nodeSetSize

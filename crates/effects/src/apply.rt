@@ -7,6 +7,7 @@ use dpa::frame::Frame;
 use dpa::node_set::NODE_SET_SIZE;
 use lights::lamp::LAMPS;
 use lights::lamp::Lamp;
+use lights::walk::lamps_after;
 use node::record::ReadOnly;
 use outcome::reply::Effect;
 ghost use mathlib.Core.Path.{_≡_};
@@ -22,6 +23,7 @@ fn start_walk(effect: Effect) -> Walk
 {
     match effect {
         Effect::Nothing => walk_at(Rest::Ended, 0),
+        Effect::Lamps => walk_at(Rest::Whole, 0),
         Effect::Alone => walk_at(Rest::Whole, 0),
         Effect::Batch => walk_at(Rest::Entries, 0),
         Effect::Selective => walk_at(Rest::Entries, NODE_SET_SIZE),
@@ -46,6 +48,10 @@ pub fn apply(
         (stateFromParts fixed lamps (now (ram .entry)) (now (eeprom .entry)) (now (external .entry))) ⌝ }
 {
     let settings = fixed.settings;
+    // A request to the lights needs no walk over entries.
+    if let Effect::Lamps = effect {
+        return lamps_after(settings, header.pcmd, pdata, lamps);
+    }
     let start = start_walk(effect);
     change_lamps(settings, header, lamps, pdata, start, ram, eeprom, external)
 }

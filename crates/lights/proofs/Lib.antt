@@ -7,6 +7,7 @@ pub mod Remaining
 pub mod Replies
 pub mod RemainingLamps
 pub mod LevelsLoop
+pub mod LampsLoop
 pub mod EachLamp
 pub mod ValidChanges
 pub mod Keep

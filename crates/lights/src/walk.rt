@@ -1,15 +1,22 @@
 // The walk over the lamps of a set, raise or lower: from the lowest selected lamp on, each takes the next power entry.
 use crate::apply::Command;
+use crate::apply::lamp_after;
 use crate::bitmap::lowest_lamp;
 use crate::bitmap::mask_of;
 use crate::bitmap::without_lowest;
+use crate::lamp::LAMPS;
+use crate::lamp::Lamp;
 use crate::power::BITMAP_SIZE;
 use crate::power::valid_power_entry_at;
+use crate::request::LOWER;
 use crate::request::command_of;
+use dpa::number::wide;
+use dpa::settings::Settings;
 ghost use mathlib.Core.Path.{_≡_};
 ghost use mathlib.Core.Bool.{true};
+ghost use Prim.Native.Nat.{_≤_};
 ghost use lib.ListN.{drop};
-ghost use Rattle.lights.specs.Lights.{changesLamps};
+ghost use Rattle.lights.specs.Lights.{commandPcmd, changesLamps, lightsRequest};
 ghost use Rattle.lights.specs.Remaining.{walkEnd, walkStart, Remaining, LampStep};
 
 // What remains of a request.
@@ -67,4 +74,29 @@ pub fn next_lamp(src: &[u8], walk: LampWalk) -> NextLamp
         seconds: power_entry.seconds,
         rest,
     }
+}
+
+// The lamps after a request whose power entries were tested; only set, raise and lower change lamps. One place of the array is replaced
+// for each selected lamp.
+pub fn lamps_after(settings: Settings, pcmd: u8, src: &[u8], lamps: [Lamp; LAMPS]) -> [Lamp; LAMPS]
+    requires { ⌜ (pcmd ≤ commandPcmd Command.Lower → changesLamps pcmd (now src) ≡ true) ⌝ }
+    ensures { λ r. ⌜ r ≡ lightsRequest settings pcmd (now (src .entry)) lamps .after ⌝ }
+{
+    if LOWER < pcmd {
+        return lamps;
+    }
+    let implemented = wide(settings.lamp_count);
+    let mut after = lamps;
+    let mut walk = walk_start(pcmd, src, 0);
+    while walk.remaining != 0 {
+        let change = next_lamp(src, walk);
+        walk = change.rest;
+        let i = change.lamp;
+        if i < implemented {
+            let command = walk.command;
+            let lamp = after[i];
+            after[i] = lamp_after(command, lamp, change.power, change.seconds);
+        }
+    }
+    after
 }

@@ -4,6 +4,7 @@ use mathlib.Core.List.{List}
 use mathlib.Core.Bool.{Bool, true, false, cond}
 use Prim.Native.Nat.{ℕ}
 use native.Mathlib.Omega.{arith}
+use lib.Dec.{eqb}
 use borrow.Author.Tests.{eq-eqb, ne-eqb}
 use Rattle.dpa.specs.Pnum.{osPnum, lightsPnum}
 use Rattle.dpa.specs.Reply.{Reply, SeenReply, replySeen, replyInBuffer, errorReply}
@@ -19,10 +20,10 @@ use Rattle.batch.specs.Batch.{Request}
 use Rattle.node.specs.Node.{withLamps}
 use Rattle.node.specs.State.{State, withNode, memoryOf, withMemory}
 use Rattle.outcome.specs.declared.reply.Effect.{Effect}
-use Rattle.outcome.specs.declared.reply.Effect.the-variants.{Nothing, Alone}
+use Rattle.outcome.specs.declared.reply.Effect.the-variants.{Nothing, Lamps, Alone}
 use Rattle.outcome.specs.declared.reply.RequestReply.{RequestReply}
 use Rattle.outcome.specs.Request.{peripheralRequest, hwpidMatches, loadReport, Outcome, replyOnly, unansweredOutcome, codeCheckRequest, osRequest, execute}
-use Rattle.outcome.specs.Effect.{succeeded, onSuccess, osEffect, requestEffect}
+use Rattle.outcome.specs.Effect.{succeeded, onSuccess, osEffect, peripheralEffect, requestEffect}
 use Rattle.outcome.specs.Seen.{SeenAnswer, answerSeen, answerInBuffer, errorOnly, unansweredOnly, peripheralOnly}
 use Rattle.outcome.proofs.Peripherals.{peripheral-memory, peripheral-lights, peripheral-unknown}
 use Rattle.outcome.proofs.Outcomes.{execute-mismatch, execute-os, execute-peripheral}
@@ -64,17 +65,22 @@ check-answer st d o q =
     same false = refl
 
 -- a reply of a peripheral
-reply-answer : (a : Reply State) (o : List ℕ) {s : State} {e n : ℕ} {out : List ℕ} {c : RequestReply} → replySeen s e n out ≡ replyInBuffer a o → c ≡ peripheralOnly e n
-    → answerSeen c out ≡ answerInBuffer (replyOnly a) Alone o
+reply-answer : (x : Effect) (a : Reply State) (o : List ℕ) {s : State} {e n : ℕ} {out : List ℕ} {c : RequestReply} → replySeen s e n out ≡ replyInBuffer a o
+    → c ≡ peripheralOnly x e n → answerSeen c out ≡ answerInBuffer (replyOnly a) x o
 unfolding onSuccess
-reply-answer a o {s} {e} {n} {out} q p =
-    ap (λ (t : RequestReply). answerSeen t out) p ∙ ap (λ (l : SeenReply State). answerSeen (peripheralOnly (l .error) (l .length)) (l .out)) q
+reply-answer x a o {s} {e} {n} {out} q p =
+    ap (λ (t : RequestReply). answerSeen t out) p ∙ ap (λ (l : SeenReply State). answerSeen (peripheralOnly x (l .error) (l .length)) (l .out)) q
 
--- no memory has the PNUM of the OS
+-- no memory has the PNUM of the OS or of the lights
 memory-not-os : (m : Memory) → memoryPnum m ≡ osPnum → ⊥
 memory-not-os Memory.Eeprom e = omega arith
 memory-not-os Memory.Ram e = omega arith
 memory-not-os Memory.External e = omega arith
+
+memory-not-lights : (m : Memory) → memoryPnum m ≡ lightsPnum → ⊥
+memory-not-lights Memory.Eeprom e = omega arith
+memory-not-lights Memory.Ram e = omega arith
+memory-not-lights Memory.External e = omega arith
 
 module _ (i : Request) (st : State) (o : List ℕ) where
   abbrev answered : SeenAnswer
@@ -89,35 +95,37 @@ module _ (i : Request) (st : State) (o : List ℕ) where
     pub answer-os : i .pnum ≡ osPnum → answerInBuffer (osRequest (i .pcmd) (i .pdata) st) (osEffect (i .pcmd)) o ≡ answered
     answer-os p =
         in-buffer (osEffect (i .pcmd)) o (execute-os i st accepted p)
-        ∙ ap (λ (b : Bool). answerInBuffer (execute i st) (cond b (osEffect (i .pcmd)) Alone) o) (sym (eq-eqb (i .pnum) osPnum p))
+        ∙ ap (λ (b : Bool). answerInBuffer (execute i st) (cond b (osEffect (i .pcmd)) (peripheralEffect (i .pnum))) o) (sym (eq-eqb (i .pnum) osPnum p))
 
     -- any other PNUM
-    answer-peripheral : (i .pnum ≡ osPnum → ⊥) → answerInBuffer (replyOnly (peripheralRequest (i .pnum) (i .pcmd) (i .pdata) st)) Alone o ≡ answered
-    answer-peripheral n =
-        in-buffer Alone o (execute-peripheral i st accepted n)
-        ∙ ap (λ (b : Bool). answerInBuffer (execute i st) (cond b (osEffect (i .pcmd)) Alone) o) (sym (ne-eqb (i .pnum) osPnum n))
+    answer-peripheral : (i .pnum ≡ osPnum → ⊥) → {lights : Bool} → eqb (i .pnum) lightsPnum ≡ lights
+        → answerInBuffer (replyOnly (peripheralRequest (i .pnum) (i .pcmd) (i .pdata) st)) (cond lights Lamps Alone) o ≡ answered
+    answer-peripheral n {lights} l =
+        ap (λ (b : Bool). answerInBuffer (replyOnly (peripheralRequest (i .pnum) (i .pcmd) (i .pdata) st)) (cond b Lamps Alone) o) (sym l)
+        ∙ in-buffer (peripheralEffect (i .pnum)) o (execute-peripheral i st accepted n)
+        ∙ ap (λ (b : Bool). answerInBuffer (execute i st) (cond b (osEffect (i .pcmd)) (peripheralEffect (i .pnum))) o) (sym (ne-eqb (i .pnum) osPnum n))
 
     module _ {e n : ℕ} {out : List ℕ} {c : RequestReply} where
       -- a memory
       pub answer-memory : (m : Memory) → i .pnum ≡ memoryPnum m
           → replySeen (memoryRequest m (i .pcmd) (i .pdata) (memoryOf m st) .after) e n out ≡ replyInBuffer (memoryRequest m (i .pcmd) (i .pdata) (memoryOf m st)) o
-          → c ≡ peripheralOnly e n → answerSeen c out ≡ answered
+          → c ≡ peripheralOnly Alone e n → answerSeen c out ≡ answered
       answer-memory m p q r =
-          reply-answer (peripheralRequest (i .pnum) (i .pcmd) (i .pdata) st) o
+          reply-answer Alone (peripheralRequest (i .pnum) (i .pcmd) (i .pdata) st) o
           (reply-mapped (withMemory m st) (memoryRequest m (i .pcmd) (i .pdata) (memoryOf m st)) o q
           ∙ ap (λ (x : Reply State). replyInBuffer x o) (sym (peripheral-memory (i .pnum) (i .pcmd) (i .pdata) st m p))) r
-          ∙ answer-peripheral (λ z. memory-not-os m (sym p ∙ z))
+          ∙ answer-peripheral (λ z. memory-not-os m (sym p ∙ z)) (ne-eqb (i .pnum) lightsPnum (λ z. memory-not-lights m (sym p ∙ z)))
 
       -- the lights
       pub answer-lights : i .pnum ≡ lightsPnum
           → replySeen (lightsRequest (st .node .settings) (i .pcmd) (i .pdata) (st .node .lamps) .after) e n out
           ≡ replyInBuffer (lightsRequest (st .node .settings) (i .pcmd) (i .pdata) (st .node .lamps)) o
-          → c ≡ peripheralOnly e n → answerSeen c out ≡ answered
+          → c ≡ peripheralOnly Lamps e n → answerSeen c out ≡ answered
       answer-lights p q r =
-          reply-answer (peripheralRequest (i .pnum) (i .pcmd) (i .pdata) st) o
+          reply-answer Lamps (peripheralRequest (i .pnum) (i .pcmd) (i .pdata) st) o
           (reply-mapped (λ (ls : List Lamp). withNode st (withLamps (st .node) ls)) (lightsRequest (st .node .settings) (i .pcmd) (i .pdata) (st .node .lamps)) o q
           ∙ ap (λ (x : Reply State). replyInBuffer x o) (sym (peripheral-lights (i .pnum) (i .pcmd) (i .pdata) st p))) r
-          ∙ answer-peripheral (λ z. omega arith)
+          ∙ answer-peripheral (λ z. omega arith) (eq-eqb (i .pnum) lightsPnum p)
 
     -- a PNUM that the node does not have
     pub answer-unknown : (i .pnum ≡ memoryPnum Eeprom → ⊥) → (i .pnum ≡ memoryPnum External → ⊥) → (i .pnum ≡ memoryPnum Ram → ⊥) → (i .pnum ≡ lightsPnum → ⊥)
@@ -125,4 +133,4 @@ module _ (i : Request) (st : State) (o : List ℕ) where
     answer-unknown a b d l n q =
         error-answer 3 Alone st o (λ z. omega arith) q
         ∙ ap (λ (x : Reply State). answerInBuffer (replyOnly x) Alone o) (sym (peripheral-unknown (i .pnum) (i .pcmd) (i .pdata) st a b d l))
-        ∙ answer-peripheral n
+        ∙ answer-peripheral n (ne-eqb (i .pnum) lightsPnum l)

@@ -22,9 +22,9 @@ use Rattle.batch.specs.Selective.{selectivePcmd}
 use Rattle.batch.proofs.Selections.{select-cases}
 use Rattle.node.specs.State.{State}
 use Rattle.outcome.specs.declared.reply.Effect.{Effect}
-use Rattle.outcome.specs.declared.reply.Effect.the-variants.{Nothing, Alone, Batch, Selective}
+use Rattle.outcome.specs.declared.reply.Effect.the-variants.{Nothing, Lamps, Alone, Batch, Selective}
 use Rattle.outcome.specs.Request.{peripheralRequest, hwpidMatches, entryAfter, Outcome, replyOnly, batchOutcome, brokenOutcome, listRequest, batchRequest, selectionOutcome, selectiveRequest, codeCheckRequest, osRequest, execute}
-use Rattle.outcome.specs.Effect.{succeeded, onSuccess, osEffect, requestEffect, effectOf, afterEffect, EffectKnown}
+use Rattle.outcome.specs.Effect.{succeeded, onSuccess, osEffect, peripheralEffect, requestEffect, effectOf, afterEffect, EffectKnown}
 use Rattle.outcome.proofs.Peripherals.{peripheral-lights}
 use Rattle.outcome.proofs.Outcomes.{execute-mismatch, execute-os, execute-peripheral, os-selective}
 use Rattle.outcome.proofs.Errors.{peripheral-harmless}
@@ -89,11 +89,17 @@ module _ (i : Request) (st : State) where
       (λ b. subst (λ (x : Effect). ByEffect x check) (sym (ap osEffect (eqb-true (i .pcmd) codeCheckPcmd b))) check-effect)
       (λ _. by-cond P (eqb (i .pcmd) selectivePcmd) (selectiveRequest (i .pdata) st) unknown (λ c. rw (a, c) selective-effect) (λ _. refl)))
 
-  peripheral-effect : ByEffect Alone (replyOnly (peripheralRequest (i .pnum) (i .pcmd) (i .pdata) st))
+  -- both effects of a peripheral are what its request does
+  peripheral-after : (lights : Bool) → peripheralRequest (i .pnum) (i .pcmd) (i .pdata) st .after ≡ afterEffect (cond lights Lamps Alone) i st
+  peripheral-after true = refl
+  peripheral-after false = refl
+
+  peripheral-effect : ByEffect (peripheralEffect (i .pnum)) (replyOnly (peripheralRequest (i .pnum) (i .pcmd) (i .pdata) st))
   unfolding onSuccess
   peripheral-effect =
       let reply = peripheralRequest (i .pnum) (i .pcmd) (i .pdata) st in
-      by-test (eqb (reply .error) 0) (λ z. rw z) (λ z. rw z (peripheral-harmless (i .pnum) (i .pcmd) (i .pdata) st (eqb-false _ _ z) .0))
+      by-test (eqb (reply .error) 0) (λ z. rw z (peripheral-after (eqb (i .pnum) lightsPnum)))
+      (λ z. rw z (peripheral-harmless (i .pnum) (i .pcmd) (i .pdata) st (eqb-false _ _ z) .0))
 
   -- the state after a request is that after its effect
   pub request-effect : execute i st .after ≡ afterEffect (effectOf i (execute i st)) i st
@@ -135,20 +141,42 @@ module _ (i : Request) (st : State) where
 
   -- the effect of a selective batch is that of its PNUM and PCMD alone
   selective-only : requestEffect i ≡ Selective → (i .pnum ≡ osPnum) × (i .pcmd ≡ selectivePcmd)
-  selective-only = go (eqb (i .pnum) osPnum) (eqb (i .pcmd) batchPcmd) (eqb (i .pcmd) selectivePcmd) refl refl
+  selective-only = go (eqb (i .pnum) osPnum) (eqb (i .pcmd) batchPcmd) (eqb (i .pcmd) selectivePcmd) (eqb (i .pnum) lightsPnum) refl refl
     where
-      go : (b c d : Bool) → eqb (i .pnum) osPnum ≡ b → eqb (i .pcmd) selectivePcmd ≡ d
-          → cond b (cond c Batch (cond d Selective Nothing)) Alone ≡ Selective → (i .pnum ≡ osPnum) × (i .pcmd ≡ selectivePcmd)
-      go true true d p q e = let z : _≡_ {A = ℕ} 0 1 = cc in absurd (omega arith)
-      go true false true p q e = (eqb-true _ _ p, eqb-true _ _ q)
-      go true false false p q e = let z : _≡_ {A = ℕ} 0 1 = cc in absurd (omega arith)
-      go false c d p q e = let z : _≡_ {A = ℕ} 0 1 = cc in absurd (omega arith)
+      go : (b c d l : Bool) → eqb (i .pnum) osPnum ≡ b → eqb (i .pcmd) selectivePcmd ≡ d
+          → cond b (cond c Batch (cond d Selective Nothing)) (cond l Lamps Alone) ≡ Selective → (i .pnum ≡ osPnum) × (i .pcmd ≡ selectivePcmd)
+      go true true d l p q e = let z : _≡_ {A = ℕ} 0 1 = cc in absurd (omega arith)
+      go true false true l p q e = (eqb-true _ _ p, eqb-true _ _ q)
+      go true false false l p q e = let z : _≡_ {A = ℕ} 0 1 = cc in absurd (omega arith)
+      go false c d true p q e = let z : _≡_ {A = ℕ} 0 1 = cc in absurd (omega arith)
+      go false c d false p q e = let z : _≡_ {A = ℕ} 0 1 = cc in absurd (omega arith)
+
+  -- only the lights have an effect on the lamps, and no other
+  lamps-only : requestEffect i ≡ Lamps → i .pnum ≡ lightsPnum
+  lamps-only = go (eqb (i .pnum) osPnum) (eqb (i .pcmd) batchPcmd) (eqb (i .pcmd) selectivePcmd) (eqb (i .pnum) lightsPnum) refl
+    where
+      go : (b c d l : Bool) → eqb (i .pnum) lightsPnum ≡ l → cond b (cond c Batch (cond d Selective Nothing)) (cond l Lamps Alone) ≡ Lamps → i .pnum ≡ lightsPnum
+      go true true d l p e = let z : _≡_ {A = ℕ} 0 1 = cc in absurd (omega arith)
+      go true false true l p e = let z : _≡_ {A = ℕ} 0 1 = cc in absurd (omega arith)
+      go true false false l p e = let z : _≡_ {A = ℕ} 0 1 = cc in absurd (omega arith)
+      go false c d true p e = eqb-true _ _ p
+      go false c d false p e = let z : _≡_ {A = ℕ} 0 1 = cc in absurd (omega arith)
+
+  alone-others : requestEffect i ≡ Alone → i .pnum ≡ lightsPnum → ⊥
+  alone-others e p =
+      let q : Lamps ≡ Alone = sym (rw p) ∙ e in
+      let z : _≡_ {A = ℕ} 0 1 = cc in omega arith
+
+  lamps-success : effectOf i (execute i st) ≡ Lamps → (succeeded (execute i st) ≡ true) × (requestEffect i ≡ Lamps)
+  lamps-success e = effect-success (execute i st) e (λ q. let z : _≡_ {A = ℕ} 0 1 = cc in omega arith)
 
   -- what the effect of a request relies on
   pub effect-known : EffectKnown (effectOf i (execute i st)) i
   effect-known =
       record {
-        changes = λ e. lights-known (effect-success (execute i st) e (λ q. let z : _≡_ {A = ℕ} 0 1 = cc in omega arith) .0);
+        lights = λ e. lamps-only (lamps-success e .1);
+        changes = λ e. lights-known (lamps-success e .0) (lamps-only (lamps-success e .1));
+        not-lights = λ e. alone-others (effect-success (execute i st) e (λ q. let z : _≡_ {A = ℕ} 0 1 = cc in omega arith) .1);
         node-set = λ e.
             let s = effect-success (execute i st) e (λ q. let z : _≡_ {A = ℕ} 0 1 = cc in omega arith) in
             let k = selective-only (s .1) in

@@ -25,7 +25,7 @@ use Rattle.outcome.specs.declared.reply.RequestReply.{RequestReply}
 use Rattle.outcome.specs.declared.answer.RequestAnswer.{RequestAnswer}
 use Rattle.node.specs.State.{State, state}
 use Rattle.outcome.specs.declared.reply.Effect.{Effect}
-use Rattle.outcome.specs.declared.reply.Effect.the-variants.{Nothing, Alone}
+use Rattle.outcome.specs.declared.reply.Effect.the-variants.{Nothing}
 use Rattle.outcome.specs.Effect.{onSuccess}
 use Rattle.outcome.specs.Request.{hwpidMatches, noReport, Outcome, CallResult, unansweredResult, unicastResult}
 
@@ -93,10 +93,10 @@ errorOnly error = record { answered = true; error = error; report = noReport; le
 abbrev pub unansweredOnly : RequestReply
 unansweredOnly = record { answered = false; error = 0; report = noReport; length = 0; effect = Nothing }
 
--- the reply of a peripheral with this ErrN and this length of the data
-abbrev pub peripheralOnly : (error size : ℕ) → RequestReply
-peripheralOnly error size =
-    record { answered = true; error = error; report = noReport; length = size; effect = cond (eqb error 0) Alone Nothing }
+-- the reply of a peripheral with this effect of a success, this ErrN and this length of the data
+abbrev pub peripheralOnly : Effect → (error size : ℕ) → RequestReply
+peripheralOnly effect error size =
+    record { answered = true; error = error; report = noReport; length = size; effect = cond (eqb error 0) effect Nothing }
 
 -- what an answer leaves: the reply, and the buffer for the data or the response
 pub record SeenAnswer : Type 0 where

@@ -32,7 +32,9 @@ impl Report {
 pub enum Effect {
     // Nothing: an error, no answer, or a request that changes nothing.
     Nothing,
-    // What a request to a peripheral does.
+    // What a request to the lights does.
+    Lamps,
+    // What any other request to a peripheral does.
     Alone,
     // What the entries of a batch do.
     Batch,
@@ -75,26 +77,26 @@ pub fn unanswered() -> RequestReply
     }
 }
 
-// The effect of a request to a peripheral with this ErrN.
-fn peripheral_effect(error: u8) -> Effect
-    ensures { λ r. ⌜ r ≡ cond (eqb error 0) Effect.Alone Effect.Nothing ⌝ }
+// An error has no effect.
+fn peripheral_effect(error: u8, effect: Effect) -> Effect
+    ensures { λ r. ⌜ r ≡ cond (eqb error 0) effect Effect.Nothing ⌝ }
 {
     if error != error::NONE {
         return Effect::Nothing;
     }
-    Effect::Alone
+    effect
 }
 
-// The reply of a peripheral, which has nothing to report.
-pub fn peripheral_reply(reply: Reply) -> RequestReply
-    ensures { λ r. ⌜ r ≡ peripheralOnly (reply .error) (reply .length) ⌝ }
+// The reply of a peripheral, which has nothing to report, with the effect of a success.
+pub fn peripheral_reply(reply: Reply, effect: Effect) -> RequestReply
+    ensures { λ r. ⌜ r ≡ peripheralOnly effect (reply .error) (reply .length) ⌝ }
 {
     RequestReply {
         answered: true,
         error: reply.error,
         report: Report::NONE,
         length: reply.length,
-        effect: peripheral_effect(reply.error),
+        effect: peripheral_effect(reply.error, effect),
     }
 }
 

@@ -8,6 +8,7 @@ use lights::lamp::Lamp;
 use memory::block::Memory;
 use node::record::ReadOnly;
 use outcome::hwpid::hwpid_matches;
+use outcome::reply::Effect;
 use outcome::reply::RequestReply;
 use outcome::reply::error_reply;
 use outcome::reply::peripheral_reply;
@@ -46,16 +47,28 @@ pub fn answer(
     match pnum {
         pnum::OS => os_answer(fixed.settings.address, pcmd, pdata, external, out),
         pnum::EEPROM => {
-            peripheral_reply(memory::request::answer(Memory::Eeprom, eeprom, pcmd, pdata, out))
+            peripheral_reply(
+                memory::request::answer(Memory::Eeprom, eeprom, pcmd, pdata, out),
+                Effect::Alone,
+            )
         }
         pnum::EXTERNAL => {
-            peripheral_reply(memory::request::answer(Memory::External, external, pcmd, pdata, out))
+            peripheral_reply(
+                memory::request::answer(Memory::External, external, pcmd, pdata, out),
+                Effect::Alone,
+            )
         }
         pnum::RAM => {
-            peripheral_reply(memory::request::answer(Memory::Ram, ram, pcmd, pdata, out))
+            peripheral_reply(
+                memory::request::answer(Memory::Ram, ram, pcmd, pdata, out),
+                Effect::Alone,
+            )
         }
         pnum::LIGHTS => {
-            peripheral_reply(lights::request::request(fixed.settings, lamps, pcmd, pdata, out))
+            peripheral_reply(
+                lights::request::request(fixed.settings, lamps, pcmd, pdata, out),
+                Effect::Lamps,
+            )
         }
         _ => error_reply(error::PNUM),
     }
