@@ -40,7 +40,7 @@
  *     tick                        468      uart_receiver       8
  *     tick_in_place               644      uart_receive      512
  *     actual_levels               144      uart_frame        208
- *     handle_request            1,552      gateway_start   1,184
+ *     handle_request            1,792      gateway_start   1,184
  *     frc                         224      bond            2,048
  *     view_status                   8      unbond          2,048
  *     compile                     454      clear_bonds       752
