@@ -1,4 +1,4 @@
-// Which addresses are bonded, and the changes of that.
+// Which addresses are bonded, and how that changes.
 use dpa::node_set::NODE_SET_SIZE;
 use dpa::node_set::selects;
 use dpa::number::wide_word;

@@ -98,7 +98,7 @@ walkLamps s i w ls = restLamps (w .rest) s i (w .next) (currentLamps s (i .pdata
 abbrev pub walkMemories : Settings → Request → Walk → Memories → Memories
 walkMemories s i w ms = restMemories (w .rest) s i (w .next) ms
 
--- the walk at the start of an effect (proofs/Effects: `start-lamps`, `start-memories`)
+-- the walk at the start of an effect (proofs/Effects: `effect-lamps`, `effect-memories`)
 abbrev pub startWalk : Effect → Walk
 startWalk Nothing = walkAt Ended 0
 startWalk Lamps = walkAt Whole 0
@@ -122,7 +122,7 @@ pub record EntryAt (s : Settings) (bytes : List ℕ) (next : ℕ) (x : NextTask)
   pub some : x .found ≡ true → EntryTask s bytes next (x .task)
   pub none : x .found ≡ false → reading (drop next bytes) .entries ≡ []
 
--- how many requests are left that take no byte of PData
+-- how many whole requests are left: the measure of the loop falls with it, even if PData is empty
 abbrev pub wholeLeft : Rest → ℕ
 wholeLeft Ended = 0
 wholeLeft Whole = 1

@@ -76,7 +76,7 @@ fn entry_task(settings: Settings, bytes: &[u8], next: usize) -> NextTask
         hwpid,
     } = next_entry(&bytes[next..])
     else {
-        // A fault. A list is checked before it runs, so that there is none; of a broken list nothing more runs.
+        // A fault. A list is checked before it runs, so there is none; of a broken list nothing more runs.
         return no_task();
     };
     let task = Task {

@@ -1,4 +1,4 @@
-// Executes a request without an answer: a memory changes at once, and of a request to the lights the walk over its lamps is left.
+// Executes a request without an answer. A memory changes at once; a request to the lights returns the walk over its lamps.
 use crate::walk::Task;
 use crate::walk::Walk;
 use crate::walk::walk_at;

@@ -11,19 +11,19 @@ use Rattle.gateway.specs.Gateway.{gatewayFrom, newGateway, bondOf, unbon
 use Rattle.gateway.specs.History.{Call, bond, unbond, clear, count, bitmap, send, release, after, afterAll, releasedAll}
 
 -- the refusal of a call
-abbrev callRefusal : Gateway → Call → ℕ
-callRefusal g (bond a) = bondOf g a .refusal
-callRefusal g (unbond a) = unbondOf g a .refusal
-callRefusal g clear = clearOf g .refusal
-callRefusal g count = bondCountOf g .refusal
-callRefusal g bitmap = bondBitmapOf g .refusal
-callRefusal g (send r t) = sendRequest g r t .refusal
-callRefusal g (release t o) = releaseOf g t o .answer .refusal
+abbrev refusalOf : Gateway → Call → ℕ
+refusalOf g (bond a) = bondOf g a .refusal
+refusalOf g (unbond a) = unbondOf g a .refusal
+refusalOf g clear = clearOf g .refusal
+refusalOf g count = bondCountOf g .refusal
+refusalOf g bitmap = bondBitmapOf g .refusal
+refusalOf g (send r t) = sendRequest g r t .refusal
+refusalOf g (release t o) = releaseOf g t o .answer .refusal
 
 -- those of a history
 unfoldable pub callRefusals : Gateway → List Call → List ℕ
 callRefusals g [] = []
-callRefusals g (c ∷ cs) = callRefusal g c ∷ callRefusals (after g c) cs
+callRefusals g (c ∷ cs) = refusalOf g c ∷ callRefusals (after g c) cs
 
 -- a release with room for the confirmation
 abbrev releaseAt : ℕ → Call

@@ -1,4 +1,4 @@
-// `handle_request`: refusals, the address, the answer, the response, and at last the effect.
+// `handle_request`: refusals, the address, the answer, the response, and finally the effect.
 use dpa::frame::Frame;
 use dpa::frame::write_response_header;
 use dpa::refusal;

@@ -2,3 +2,4 @@ pub mod Maps
 pub mod Nodes
 pub mod FrcAnswers
 pub mod LampTests
+pub mod Examples

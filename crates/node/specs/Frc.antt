@@ -1,9 +1,10 @@
 -- Document 01, "FRC": the two-bit answer to a command, given user data and two hardware masks.
-use Prim.Native.Nat.{ℕ, _/_, _%_, _^_}
+use Prim.Native.Nat.{ℕ, _%_}
 use mathlib.Core.Bool.{Bool, cond, not, _&&_, _||_}
 use mathlib.Core.List.{List}
 use lib.ListN.{getD, length}
 use lib.Dec.{leb, ltb, eqb}
+use Rattle.dpa.specs.Lists.{bitOf}
 use Rattle.dpa.specs.Pnum.{lightsPnum}
 use Rattle.lights.specs.Lamp.{off, actualLevel}
 use Rattle.node.specs.declared.record.Node.{Node}
@@ -27,7 +28,7 @@ twoBits b = cond b 3 2
 
 -- bit i of a mask, for lamp i
 unfoldable pub bitSet : ℕ → ℕ → Bool
-bitSet mask i = eqb (mask / 2 ^ i % 2) 1
+bitSet mask i = bitOf mask i
 
 -- the lamp that is asked about: the low five bits of the second byte
 abbrev pub lampIndexRange : ℕ
@@ -50,7 +51,7 @@ unfoldable pub isOn : Node → ℕ → ℕ → Bool
 isOn n k stuck = not (eqb (actualLevel (n .settings) (getD (n .lamps) k off .level)) 0) || bitSet stuck k
 
 -- not asked; else the answer to the command
-unfoldable pub frcValue : Node → ℕ → List ℕ → ℕ → ℕ → ℕ
+unfoldable pub frcValue : Node → (command : ℕ) → List ℕ → (stuck alarm : ℕ) → ℕ
 frcValue n command user stuck alarm =
     cond (asksLamp (n .settings .«lamp_count») command user)
     (twoBits (cond (eqb command onCommand) (isOn n (lampAsked user) stuck) (bitSet alarm (lampAsked user))))
@@ -60,5 +61,5 @@ abbrev pub frcAnswer : ℕ → ℕ → FrcAnswer
 frcAnswer refusal v = record { refusal = refusal; value = v }
 
 -- `frc`: refusal 1 for a node that breaks the node rule
-unfoldable pub frcOf : Node → ℕ → List ℕ → ℕ → ℕ → FrcAnswer
+unfoldable pub frcOf : Node → (command : ℕ) → List ℕ → (stuck alarm : ℕ) → FrcAnswer
 frcOf n command user stuck alarm = cond (nodeOk n) (frcAnswer 0 (frcValue n command user stuck alarm)) (frcAnswer 1 0)

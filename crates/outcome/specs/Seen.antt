@@ -93,7 +93,7 @@ errorOnly error = record { answered = true; error = error; report = noReport; le
 abbrev pub unansweredOnly : RequestReply
 unansweredOnly = record { answered = false; error = 0; report = noReport; length = 0; effect = Nothing }
 
--- the reply of a peripheral with this effect of a success, this ErrN and this length of the data
+-- the reply of a peripheral with this effect if it succeeds, this ErrN and this length of the data
 abbrev pub peripheralOnly : Effect → (error size : ℕ) → RequestReply
 peripheralOnly effect error size =
     record { answered = true; error = error; report = noReport; length = size; effect = cond (eqb error 0) effect Nothing }

@@ -1,4 +1,4 @@
-// The reply to a request, made from the reply of the part of the node that executed it.
+// The reply to a request, made from the reply of the peripheral or from the check of a list.
 use batch::fault;
 use batch::list::ListCheck;
 use dpa::error;
@@ -87,7 +87,7 @@ fn peripheral_effect(error: u8, effect: Effect) -> Effect
     effect
 }
 
-// The reply of a peripheral, which has nothing to report, with the effect of a success.
+// The reply of a peripheral, which has nothing to report, with its effect if it succeeds.
 pub fn peripheral_reply(reply: Reply, effect: Effect) -> RequestReply
     ensures { λ r. ⌜ r ≡ peripheralOnly effect (reply .error) (reply .length) ⌝ }
 {

@@ -1,4 +1,4 @@
-// The answer to a request: ErrN, the response data, the report, and the effect that it still has to have.
+// The answer to a request: ErrN, the response data, the report, and the effect that is still to be carried out.
 use crate::os::os_answer;
 use dpa::error;
 use dpa::frame::Frame;
