@@ -10,6 +10,7 @@ ghost use Rattle.dpa.specs.Frame.{headerSize, responseHeaderSize, frame,
 // Set in the PCMD of a response.
 pub const RESPONSE_BIT: u8 = 0x80;
 
+// The header of a frame. It has the frame's name because the numbers of a frame belong to it.
 pub struct Frame {
     pub nadr: u16,
     pub pnum: u8,
