@@ -3,6 +3,8 @@
 //
 // A table is a text of names and a constant array of their values, in the same order. Constants cost nothing to prove, but each
 // statement does.
+#![tactic(auto)]
+
 mod numbers;
 mod records;
 mod sizes;

@@ -5,7 +5,7 @@ use Prim.Native.Nat.{ℕ, suc, ◌+◌, ◌-◌, ◌≤◌, ◌<◌}
 use native.Mathlib.Nat.{add-zero}
 use native.Mathlib.Omega.{arith}
 use lib.ListN.{length, take, drop, set, length-append, length-drop, take-append-drop, drop_of_length-le}
-use lib.Seq.{sets, sets-eq, take_all, take_at, drop_at, take_length, drop-drop, drop-set-lt, length-take-le}
+use lib.Seq.{sets, sets-eq, take_all, take_at, drop_at, take-length, drop-drop, drop-set-lt, length-take-le}
 use borrow.Rule.Slice.PartMut.{mid_of, post_of, put_mid}
 use Rattle.dpa.specs.Lists.{overwrite_front, fold}
 
@@ -43,7 +43,7 @@ pub sets_after_copy : (xs vs old out : List ℕ) (k : ℕ) → length xs ≡ k �
     → out ≡ take (length xs) xs ++ drop (length xs) old
     → sets out k vs ≡ overwrite_front (xs ++ vs) old
 sets_after_copy xs vs old out k l h e =
-    let e' : out ≡ xs ++ drop k old = e ∙ rw (take_length, l) in
+    let e' : out ≡ xs ++ drop k old = e ∙ rw (take-length, l) in
     let n : length out ≡ k + (length old - k) = rw (e', length-append, length-drop, l) in
     let d : drop k out ≡ drop k old = rw e' (drop_at xs (drop k old) k l) in
     let t : take k out ≡ xs = rw e' (take_at xs (drop k old) k l) in

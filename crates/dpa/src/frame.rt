@@ -2,6 +2,7 @@
 ghost use Rattle.std.specs.Prelude.{◌≡◌, ◌++◌, ◌≤◌, length, drop};
 ghost use Rattle.dpa.specs.Frame.{header_size, response_header_size, frame, header_bytes, header_of, frame_fits, response_header};
 
+use crate::copy::copy;
 use crate::number::word_of;
 use crate::settings::Settings;
 
@@ -95,7 +96,7 @@ pub fn write_response_header(response: &mut [u8], settings: Settings, pnum: u8, 
         pcmd % RESPONSE_BIT + RESPONSE_BIT,
         settings.hwpid,
     );
-    bytes::copy(&header, response);
+    copy(&header, response);
     response[Frame::AT_ERRN] = error;
     response[Frame::AT_DPA_VALUE] = settings.dpa_value;
 }

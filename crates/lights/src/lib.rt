@@ -1,4 +1,6 @@
 // The lamps and the lights peripheral: set, raise, lower, enumerate.
+#![tactic(auto)]
+
 pub mod apply;
 pub mod bitmap;
 pub mod lamp;

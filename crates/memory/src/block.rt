@@ -3,6 +3,7 @@ ghost use Rattle.std.specs.Prelude.{◌≡◌, ◌++◌, ◌+◌, ◌≤◌, len
 ghost use Rattle.dpa.specs.Lists.{slice};
 ghost use Rattle.memory.specs.Block.{size_of, longest_of, address_bytes, read_command, write_command, block_fault, overwrite};
 
+use dpa::copy::copy;
 use dpa::sizes::{EEPROM_SIZE, EXTERNAL_SIZE, RAM_SIZE};
 
 // The block rule's result for a valid block: error::NONE for a request, refusal::NONE for a view.
@@ -95,7 +96,7 @@ pub fn copy_out(mem: &[u8], start: usize, count: usize, out: &mut [u8])
     ensures { out.new ≡ slice mem.now start count ++ drop count out.old }
 {
     let end = start + count;
-    bytes::copy(&mem[start..end], out);
+    copy(&mem[start..end], out);
 }
 
 // Copies src into mem at start; the rest of mem is unchanged.
@@ -103,5 +104,5 @@ pub fn copy_in(mem: &mut [u8], start: usize, src: &[u8])
     requires { start + length src.now ≤ length mem.old }
     ensures { mem.new ≡ overwrite mem.old start src.now }
 {
-    bytes::copy(src, &mut mem[start..]);
+    copy(src, &mut mem[start..]);
 }

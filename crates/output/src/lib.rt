@@ -1,3 +1,5 @@
 // The requests of a scene: entries filled into lists, and the bytes of the output.
+#![tactic(auto)]
+
 pub mod fill;
 pub mod request;

@@ -1,4 +1,6 @@
 // The send queue: requests wait here until the air is free.
+#![tactic(auto)]
+
 pub mod places;
 pub mod record;
 pub mod rule;

@@ -3,6 +3,7 @@ ghost use Rattle.std.specs.Prelude.{◌≡◌, true, cond, ◌&&◌, ◌++◌, �
 ghost use Rattle.dpa.specs.Frame.{frame_fits};
 ghost use Rattle.queue.specs.Queue.{outgoing, placed, empty_place, all_zero, widths_ok, waiting_ok, empty_ok, places_ok};
 
+use dpa::copy::copy;
 use crate::record::{QUEUE_SIZE, Waiting};
 use dpa::frame::Frame;
 use dpa::number::wide;
@@ -14,7 +15,7 @@ pub fn placed(frame: &[u8], hops: u8, response_hops: u8, delay: u16) -> Waiting
     ensures { result ≡ placed (outgoing frame.now hops response_hops delay) }
 {
     let mut padded = [0u8; Frame::LONGEST];
-    bytes::copy(frame, &mut padded);
+    copy(frame, &mut padded);
     Waiting {
         delay,
         length: frame.len() as u8,

@@ -1,2 +1,4 @@
 // Compiles scenes into batch and selective batch requests.
+#![tactic(auto)]
+
 pub mod compile;

@@ -21,6 +21,8 @@
 //
 // Of one thing the singular is printed. Other bytes are answered by "refused 6: not a scene book: " and where they go wrong.
 // What keeps the program from its work goes to standard error: a bad argument with the usage, or what failed and the reason.
+#![tactic(auto)]
+
 mod args;
 mod fault;
 mod requests;

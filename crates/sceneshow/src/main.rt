@@ -1,4 +1,6 @@
 // Reads a scene book from standard input, runs scene 0 on a fresh node and prints its lamps.
+#![tactic(auto)]
+
 use acceptance::run::run_scene;
 use book::locations::LONGEST_BOOK;
 use dpa::refusal;

@@ -5,6 +5,7 @@ ghost use Rattle.dpa.specs.Frame.{header_size};
 ghost use Rattle.dpa.specs.Lists.{overwrite_front};
 ghost use Rattle.timing.specs.Confirm.{confirmation_length, response_hops_sent, confirm_bytes, confirm_of};
 
+use dpa::copy::copy;
 use crate::slot::{Network, slot_of};
 use dpa::answer::LengthAnswer;
 use dpa::frame::Frame;
@@ -47,7 +48,7 @@ fn write_confirmation(
     requires { (header_size ≤ length frame.now) × (confirmation_length ≤ length out.old) }
     ensures { out.new ≡ overwrite_front (confirm_bytes frame.now dpa_value hops slot response_hops) out.old }
 {
-    bytes::copy(&frame[0..Frame::HEADER], out);
+    copy(&frame[0..Frame::HEADER], out);
     out[Frame::AT_ERRN] = STATUS_CONFIRMATION;
     out[Frame::AT_DPA_VALUE] = dpa_value;
     out[AT_HOPS] = hops;

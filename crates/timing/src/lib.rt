@@ -1,3 +1,5 @@
 // The gateway's side of a request: how long it takes, and its confirmation.
+#![tactic(auto)]
+
 pub mod confirm;
 pub mod slot;

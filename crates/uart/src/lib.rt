@@ -1,3 +1,5 @@
 // The receiver of the serial line: frames found in a stream that arrives in parts of any length.
+#![tactic(auto)]
+
 pub mod receive;
 pub mod receiver;

@@ -3,6 +3,7 @@ ghost use Rattle.std.specs.Prelude.{◌≡◌, [], ◌≤◌, length, eqb};
 ghost use Rattle.framing.specs.Framing.{longest};
 ghost use Rattle.uart.specs.Receiver.{after_escape, place_count, in_frame, receiver_from, drop_cause, frame_event, begun, starts_escape, data_byte, receive_answer, event_answer, receive_of};
 
+use dpa::copy::copy;
 use crate::receiver::{
     AFTER_ESCAPE, BEFORE_FLAG, EVENT_DROPPED, EVENT_FRAME, EVENT_NONE, IN_FRAME, PLACES,
     ReceiveAnswer, Receiver, receiver_from, receiver_ok,
@@ -105,7 +106,7 @@ fn end_frame(limit: u8, phase: u8, count: u8, bytes: [u8; PLACES], taken: usize)
     }
     let size = wide(count) - 1;
     let mut frame = [0u8; LONGEST];
-    bytes::copy(&bytes[..size], &mut frame);
+    copy(&bytes[..size], &mut frame);
     ReceiveAnswer {
         refusal: refusal::NONE,
         event: EVENT_FRAME,

@@ -1,5 +1,7 @@
 // Runs worked examples of the buyer's documents and of the DPA guide, and some of our own, through the public calls and
 // prints the results.
+#![tactic(auto)]
+
 mod gateways;
 mod line;
 mod nodes;
