@@ -16,7 +16,7 @@ use scene::compile::compile;
 
 // `step` is the number of the bad step with refusals 81 to 84, and 0 otherwise. `node` is the node afterwards.
 #[repr(C)]
-#[derive(Drop)]
+#[derive(Clone, Copy)]
 pub struct SceneAnswer {
     pub refusal: u8,
     pub step: u8,

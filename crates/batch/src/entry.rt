@@ -11,7 +11,7 @@ pub const HEAD_SIZE: usize = 5;
 // The byte that ends a list, in place of an entry's length.
 pub const CLOSING_ZERO: u8 = 0;
 
-#[derive(Drop)]
+#[derive(Clone, Copy)]
 pub enum NextEntry {
     // An entry of len bytes; its PData starts at HEAD_SIZE.
     Entry {

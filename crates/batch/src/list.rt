@@ -8,7 +8,7 @@ use dpa::error;
 // PCMD of a batch.
 pub const BATCH: u8 = 0x05;
 
-#[derive(Drop)]
+#[derive(Clone, Copy)]
 pub enum ListCheck {
     Sound,
     // The first fault; `at` counts from the first byte of the list, or of PData where a node set is in front of the list.

@@ -13,7 +13,7 @@ pub const SELECTIVE_BATCH: u8 = 0x0B;
 // The shortest PData: a node set, and one byte of a list.
 const SHORTEST: usize = NODE_SET_SIZE + 1;
 
-#[derive(Drop)]
+#[derive(Clone, Copy)]
 pub enum Selection {
     TooShort,
     // The set does not name the node. Nothing further was tested.

@@ -8,7 +8,7 @@ use crate::step::{STEP_LENGTH, STEPS_MAX};
 use dpa::number::wide;
 
 // What is wrong, and where: bytes and scenes are counted from 0.
-#[derive(Drop)]
+#[derive(Clone, Copy)]
 pub enum BookFault {
     Empty,
     // Too many scenes.
@@ -37,7 +37,7 @@ pub enum BookFault {
 }
 
 // The result of checking a book.
-#[derive(Drop)]
+#[derive(Clone, Copy)]
 pub enum BookCheck {
     Sound,
     Bad(BookFault),

@@ -16,7 +16,7 @@ pub const LOCATION_LENGTH: usize = 3;
 pub const LONGEST_BOOK: usize = 1 + SCENES_MAX * (LOCATION_LENGTH + STEPS_MAX * STEP_LENGTH);
 
 // The start of a scene's body in the book, and its number of steps.
-#[derive(Drop)]
+#[derive(Clone, Copy)]
 pub struct SceneLocation {
     pub offset: usize,
     pub steps: usize,

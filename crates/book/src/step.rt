@@ -11,7 +11,7 @@ pub const STEP_LENGTH: usize = 4;
 
 // The target is a lamp or an address; the time is a time byte of the lights peripheral, or 0.
 #[repr(C)]
-#[derive(Drop)]
+#[derive(Clone, Copy)]
 pub struct Step {
     pub kind: u8,
     pub target: u8,

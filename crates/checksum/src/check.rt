@@ -31,7 +31,7 @@ const MATCH: u8 = 1;
 const MISMATCH: u8 = 0;
 
 // The reply to a code check, and whether the image is to be loaded.
-#[derive(Drop)]
+#[derive(Clone, Copy)]
 pub struct CheckReply {
     pub error: u8,
     pub length: usize,
@@ -39,7 +39,7 @@ pub struct CheckReply {
 }
 
 // The fields of PData: the type of the image, where it is, and its checksum.
-#[derive(Drop)]
+#[derive(Clone, Copy)]
 pub struct Image {
     pub flags: u8,
     pub address: u16,

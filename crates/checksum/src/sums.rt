@@ -7,14 +7,14 @@ ghost use Rattle.checksum.specs.Blocks.{block_max, plainly, plain_sums, reduce};
 // The most bytes between two reductions. The high sum then needs 20 bits.
 const BLOCK_MAX: usize = 64;
 
-#[derive(Drop)]
+#[derive(Clone, Copy)]
 pub struct Sums {
     pub low: u8,
     pub high: u8,
 }
 
 // Sums without carries.
-#[derive(Drop)]
+#[derive(Clone, Copy)]
 struct PlainSums {
     low: u32,
     high: u32,

@@ -4,7 +4,7 @@ use libc::STDIN_FILENO;
 // Argument 0 is the program's name, so that no file has this number.
 pub const NO_FILE: usize = 0;
 
-#[derive(Drop)]
+#[derive(Clone, Copy)]
 pub enum Input {
     // The number of bytes that were read.
     Bytes(usize),

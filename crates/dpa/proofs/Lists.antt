@@ -38,12 +38,12 @@ sets_append l i (x ∷ xs) ys =
     let e : i + suc (length xs) ≡ suc i + length xs = omega arith in
     rw e (sets_append (set l i x) (suc i) xs ys)
 
--- k bytes copied to the front of a buffer (as `bytes::copy` states it), then values stored from place k on
+-- k bytes copied to the front of a buffer (as `copy::copy` states it), then values stored from place k on
 pub sets_after_copy : (xs vs old out : List ℕ) (k : ℕ) → length xs ≡ k → k + length vs ≤ length old
-    → out ≡ take (length xs) xs ++ drop (length xs) old
+    → out ≡ xs ++ drop (length xs) old
     → sets out k vs ≡ overwrite_front (xs ++ vs) old
 sets_after_copy xs vs old out k l h e =
-    let e' : out ≡ xs ++ drop k old = e ∙ rw (take-length, l) in
+    let e' : out ≡ xs ++ drop k old = e ∙ rw l in
     let n : length out ≡ k + (length old - k) = rw (e', length-append, length-drop, l) in
     let d : drop k out ≡ drop k old = rw e' (drop_at xs (drop k old) k l) in
     let t : take k out ≡ xs = rw e' (take_at xs (drop k old) k l) in

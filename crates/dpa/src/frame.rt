@@ -10,7 +10,7 @@ use crate::settings::Settings;
 pub const RESPONSE_BIT: u8 = 0x80;
 
 // The header of a frame. It has the frame's name because the numbers of a frame belong to it.
-#[derive(Drop)]
+#[derive(Clone, Copy)]
 pub struct Frame {
     pub nadr: u16,
     pub pnum: u8,

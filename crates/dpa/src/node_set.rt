@@ -9,7 +9,7 @@ pub const NODE_SET_SIZE: usize = 30;
 
 // Bit a % 8 of byte a / 8 is set if the set names address a.
 #[repr(C)]
-#[derive(Drop)]
+#[derive(Clone, Copy)]
 pub struct NodeSet {
     pub bits: [u8; NODE_SET_SIZE],
 }

@@ -1,5 +1,5 @@
 // The reply of a peripheral: ErrN, and how many bytes of data it wrote to the front of the response buffer.
-#[derive(Drop)]
+#[derive(Clone, Copy)]
 pub struct Reply {
     pub error: u8,
     pub length: usize,

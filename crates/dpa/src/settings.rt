@@ -11,7 +11,7 @@ pub const LAST_ADDRESS: u16 = 239;
 pub const MAX_LAMPS: u8 = 32;
 
 #[repr(C)]
-#[derive(Drop)]
+#[derive(Clone, Copy)]
 pub struct Settings {
     pub address: u16,
     pub hwpid: u16,

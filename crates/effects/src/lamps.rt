@@ -16,7 +16,7 @@ use lights::walk::next_lamp;
 use outcome::hwpid::hwpid_matches;
 
 // The request that a walk executes next. `found` is false if there is none. It is not an enum with values, which is slow to return.
-#[derive(Drop)]
+#[derive(Clone, Copy)]
 pub struct NextTask {
     pub found: bool,
     pub task: Task,

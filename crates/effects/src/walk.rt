@@ -5,7 +5,7 @@ ghost use Rattle.effects.specs.Walk.{walk_at};
 use lights::walk::{LampWalk, walk_end};
 
 // What follows the current request.
-#[derive(Drop)]
+#[derive(Clone, Copy)]
 pub enum Rest {
     // Nothing.
     Ended,
@@ -16,7 +16,7 @@ pub enum Rest {
 }
 
 // A request to execute: that of the frame, or an entry of a list.
-#[derive(Drop)]
+#[derive(Clone, Copy)]
 pub struct Task {
     pub pnum: u8,
     pub pcmd: u8,
@@ -32,7 +32,7 @@ pub struct Task {
 }
 
 // Where a walk stands.
-#[derive(Drop)]
+#[derive(Clone, Copy)]
 pub struct Walk {
     pub rest: Rest,
     // The end of the current request, which is the place of the next entry.

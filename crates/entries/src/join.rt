@@ -67,7 +67,7 @@ fn joined_size(body: &[u8], steps: usize, kind: u8, size: usize, limit: usize) -
 }
 
 // The number of steps of an entry, and its PData size.
-#[derive(Drop)]
+#[derive(Clone, Copy)]
 pub struct EntrySpan {
     pub steps: usize,
     pub size: usize,

@@ -5,7 +5,7 @@ use queue::record::SendQueue;
 
 // Bit a % 8 of byte a / 8 of the bonds is set if address a is bonded.
 #[repr(C)]
-#[derive(Drop)]
+#[derive(Clone, Copy)]
 pub struct Gateway {
     pub bonds: [u8; BONDS_SIZE],
     pub queue: SendQueue,
@@ -13,7 +13,7 @@ pub struct Gateway {
 
 // A refusal number, the number of bonds, and the gateway.
 #[repr(C)]
-#[derive(Drop)]
+#[derive(Clone, Copy)]
 pub struct BondAnswer {
     pub refusal: u8,
     pub count: u8,
@@ -21,21 +21,21 @@ pub struct BondAnswer {
 }
 
 #[repr(C)]
-#[derive(Drop)]
+#[derive(Clone, Copy)]
 pub struct CountAnswer {
     pub refusal: u8,
     pub count: u8,
 }
 
 #[repr(C)]
-#[derive(Drop)]
+#[derive(Clone, Copy)]
 pub struct BitmapAnswer {
     pub refusal: u8,
     pub bitmap: [u8; BONDS_SIZE],
 }
 
 #[repr(C)]
-#[derive(Drop)]
+#[derive(Clone, Copy)]
 pub struct GatewayAnswer {
     pub refusal: u8,
     pub gateway: Gateway,
@@ -43,7 +43,7 @@ pub struct GatewayAnswer {
 
 // `length` is the confirmation's; the released frame is at the front of `frame`, with zeros after it.
 #[repr(C)]
-#[derive(Drop)]
+#[derive(Clone, Copy)]
 pub struct ReleaseAnswer {
     pub refusal: u8,
     pub released: bool,

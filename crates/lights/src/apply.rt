@@ -6,7 +6,7 @@ use crate::lamp::{Lamp, MAX_LEVEL};
 use crate::power::KEEP;
 use dpa::number::wide;
 
-#[derive(Drop)]
+#[derive(Clone, Copy)]
 pub enum Command {
     Set,
     Raise,

@@ -18,7 +18,7 @@ pub const MAX_SECONDS: u16 = 7620;
 const INVERSE_SCALE: u32 = 65536;
 
 #[repr(C)]
-#[derive(Drop)]
+#[derive(Clone, Copy)]
 pub struct Lamp {
     // The requested level, 0 to 100.
     pub level: u8,

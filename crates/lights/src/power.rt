@@ -16,21 +16,21 @@ pub const KEEP: u8 = 127;
 pub const BIT_7: u8 = 0x80;
 
 // What a power entry changes. The seconds are 0 exactly if it has no time byte.
-#[derive(Drop)]
+#[derive(Clone, Copy)]
 pub struct LampChange {
     pub power: u8,
     pub seconds: u16,
 }
 
 // A parsed power entry with its size in bytes, or Invalid.
-#[derive(Drop)]
+#[derive(Clone, Copy)]
 pub enum PowerEntry {
     Valid(LampChange, usize),
     Invalid,
 }
 
 // A valid power entry and its size in bytes.
-#[derive(Drop)]
+#[derive(Clone, Copy)]
 pub struct ValidPowerEntry {
     pub power: u8,
     pub seconds: u16,

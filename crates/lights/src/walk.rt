@@ -12,7 +12,7 @@ use dpa::number::wide;
 use dpa::settings::Settings;
 
 // What remains of a request.
-#[derive(Drop)]
+#[derive(Clone, Copy)]
 pub struct LampWalk {
     pub command: Command,
     // The mask of the lamps that are still to be changed.
@@ -22,7 +22,7 @@ pub struct LampWalk {
 }
 
 // The lowest remaining lamp with its change, and the walk after it.
-#[derive(Drop)]
+#[derive(Clone, Copy)]
 pub struct NextLamp {
     pub lamp: usize,
     pub power: u8,

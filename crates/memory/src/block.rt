@@ -9,7 +9,7 @@ use dpa::sizes::{EEPROM_SIZE, EXTERNAL_SIZE, RAM_SIZE};
 // The block rule's result for a valid block: error::NONE for a request, refusal::NONE for a view.
 const NO_FAULT: u8 = 0;
 
-#[derive(Drop)]
+#[derive(Clone, Copy)]
 pub enum Memory {
     Eeprom,
     Ram,

@@ -25,7 +25,7 @@ pub const YES: u8 = 3;
 const LAMP_INDEX_RANGE: u8 = 32;
 
 #[repr(C)]
-#[derive(Drop)]
+#[derive(Clone, Copy)]
 pub struct FrcAnswer {
     pub refusal: u8,
     pub value: u8,

@@ -10,7 +10,7 @@ use dpa::settings::Settings;
 use lights::lamp::{LAMPS, Lamp, actual_level, step_inverse};
 
 #[repr(C)]
-#[derive(Drop)]
+#[derive(Clone, Copy)]
 pub struct LevelsAnswer {
     pub refusal: u8,
     pub levels: [u8; LAMPS],

@@ -11,7 +11,7 @@ use dpa::sizes::RAM_SIZE;
 use lights::lamp::{LAMPS, Lamp, lamp_ok, lamp_zero};
 
 #[repr(C)]
-#[derive(Drop)]
+#[derive(Clone, Copy)]
 pub struct Node {
     pub settings: Settings,
     pub lamps: [Lamp; LAMPS],
@@ -19,14 +19,14 @@ pub struct Node {
 }
 
 // The part of a node that a request only reads.
-#[derive(Drop)]
+#[derive(Clone, Copy)]
 pub struct ReadOnly {
     pub settings: Settings,
 }
 
 // A refusal number and the node.
 #[repr(C)]
-#[derive(Drop)]
+#[derive(Clone, Copy)]
 pub struct NodeAnswer {
     pub refusal: u8,
     pub node: Node,

@@ -12,7 +12,7 @@ use node::record::Node;
 // The refusal, the length of the response, the load mark, whether the frame was addressed to this node or to all, why and at which
 // place in PData the list of a batch cannot be read, and the node after the call.
 #[repr(C)]
-#[derive(Drop)]
+#[derive(Clone, Copy)]
 pub struct RequestAnswer {
     pub refusal: u8,
     pub length: usize,

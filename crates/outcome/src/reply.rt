@@ -11,7 +11,7 @@ use dpa::reply::Reply;
 
 // What a request reports to the caller besides the response: the load mark; why the list of a batch cannot be read, and the place
 // of that fault in PData.
-#[derive(Drop)]
+#[derive(Clone, Copy)]
 pub struct Report {
     pub load: bool,
     pub reason: u8,
@@ -27,7 +27,7 @@ impl Report {
 }
 
 // What a request that was answered still has to change.
-#[derive(Drop)]
+#[derive(Clone, Copy)]
 pub enum Effect {
     // Nothing: an error, no answer, or a request that changes nothing.
     Nothing,
@@ -42,7 +42,7 @@ pub enum Effect {
 }
 
 // Whether the request is answered, ErrN, the report, the length of the data or of the response, and what is still to be changed.
-#[derive(Drop)]
+#[derive(Clone, Copy)]
 pub struct RequestReply {
     pub answered: bool,
     pub error: u8,

@@ -15,7 +15,7 @@ use dpa::frame::Frame;
 use entries::join::entry_from;
 
 // Maximum size of an entry's PData, and of a list with its closing zero.
-#[derive(Drop)]
+#[derive(Clone, Copy)]
 pub struct SizeLimits {
     pub entry: usize,
     pub list: usize,
@@ -25,7 +25,7 @@ pub struct SizeLimits {
 pub const EMPTY_LIST_SIZE: usize = 1;
 
 // The list that the next entry goes into: where its next byte is written, and its size with the closing zero.
-#[derive(Drop)]
+#[derive(Clone, Copy)]
 pub struct OpenList {
     pub at: usize,
     pub size: usize,

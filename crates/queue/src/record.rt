@@ -6,7 +6,7 @@ pub const QUEUE_SIZE: usize = 8;
 
 // A request in the queue; the fields are in the order of the C header. The frame has zeros from `length` on.
 #[repr(C)]
-#[derive(Drop)]
+#[derive(Clone, Copy)]
 pub struct Waiting {
     pub delay: u16,
     pub length: u8,
@@ -18,7 +18,7 @@ pub struct Waiting {
 // The oldest request is places[0]; places from the count on are zero. Times are in ms: `last` is the last time that was given and not
 // refused, `next` the earliest time of the next release.
 #[repr(C)]
-#[derive(Drop)]
+#[derive(Clone, Copy)]
 pub struct SendQueue {
     pub last: u64,
     pub next: u64,

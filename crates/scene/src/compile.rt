@@ -36,7 +36,7 @@ pub const MIN_OUTPUT: usize = 4096;
 
 // `step` is the number of the bad step with refusals 81 to 84, and 0 otherwise. `length` is the size of the output, 0 if refused.
 #[repr(C)]
-#[derive(Drop)]
+#[derive(Clone, Copy)]
 pub struct CompileAnswer {
     pub refusal: u8,
     pub step: u8,

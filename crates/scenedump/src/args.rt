@@ -7,7 +7,7 @@ use dpa::frame::Frame;
 use dpa::settings::address_ok;
 use libc::{STDERR_FILENO, STDOUT_FILENO};
 
-#[derive(Drop)]
+#[derive(Clone, Copy)]
 pub struct Options {
     pub address: u16,
     pub hwpid: u16,
@@ -27,7 +27,7 @@ const HWPID_MAX: usize = 0xFFFF;
 
 const HOPS_MAX: u16 = 255;
 
-#[derive(Drop)]
+#[derive(Clone, Copy)]
 pub enum Arguments {
     // The options, the number of the file's argument, and that of the first scene's.
     Run(Options, usize, usize),
@@ -40,7 +40,7 @@ pub enum Arguments {
 const NO_OPTION: u8 = 0;
 
 // What one argument before the file means.
-#[derive(Drop)]
+#[derive(Clone, Copy)]
 enum Meaning {
     // The options with it, and the option that waits for its number.
     Option(Options, u8),

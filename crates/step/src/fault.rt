@@ -62,7 +62,7 @@ pub fn step_fault(step: Step) -> u8
 }
 
 // The result of checking a scene's steps.
-#[derive(Drop)]
+#[derive(Clone, Copy)]
 pub enum StepsCheck {
     AllGood,
     // The number of the first bad step, and the refusal for its first bad part.

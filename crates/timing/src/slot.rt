@@ -6,7 +6,7 @@ use dpa::frame::Frame;
 use dpa::refusal;
 
 // The network type.
-#[derive(Drop)]
+#[derive(Clone, Copy)]
 pub enum Network {
     Std,
     StdLp,
@@ -43,14 +43,14 @@ pub const SLOT_UNIT_MS: u32 = 10;
 pub const WAIT_MAX: u64 = 116735;
 
 #[repr(C)]
-#[derive(Drop)]
+#[derive(Clone, Copy)]
 pub struct SlotAnswer {
     pub refusal: u8,
     pub slot: u8,
 }
 
 #[repr(C)]
-#[derive(Drop)]
+#[derive(Clone, Copy)]
 pub struct SendAnswer {
     pub refusal: u8,
     pub milliseconds: u32,

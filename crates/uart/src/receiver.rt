@@ -22,7 +22,7 @@ pub const AFTER_ESCAPE: u8 = 2;
 // The count is of the bytes of the frame that is under way, with its check byte; it stops at limit + 2. Byte k is in bytes[k] if k is at
 // most the limit.
 #[repr(C)]
-#[derive(Drop)]
+#[derive(Clone, Copy)]
 pub struct Receiver {
     pub limit: u8,
     pub phase: u8,
@@ -39,7 +39,7 @@ pub const EVENT_DROPPED: u8 = 2;
 
 // The message is at the front of `frame`, with zeros after it.
 #[repr(C)]
-#[derive(Drop)]
+#[derive(Clone, Copy)]
 pub struct ReceiveAnswer {
     pub refusal: u8,
     pub event: u8,
