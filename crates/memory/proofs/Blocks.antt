@@ -5,7 +5,7 @@ use Prim.Native.Nat.{ℕ, ◌+◌, ◌-◌, ◌≤◌, ◌<◌}
 use native.Mathlib.Omega.{arith}
 use lib.Dec.{leb, ltb}
 use lib.ListN.{length, take, drop, length-drop, drop_of_length-le}
-use lib.Seq.{take_length, drop-drop, length-take-le}
+use lib.Seq.{take-length, drop-drop, length-take-le}
 use borrow.Author.Tests.{ltb-false, leb-false, le-ltb, lt-leb}
 use Rattle.dpa.specs.Lists.{slice}
 use Rattle.dpa.proofs.Bool.{else_taken}
@@ -53,7 +53,7 @@ slice_length mem start n h = length-take-le n (drop start mem) (simp length-drop
 pub copy_out_result : (mem out : List ℕ) (start n : ℕ) → start + n ≤ length mem
     → take (length (slice mem start (start + n - start))) (slice mem start (start + n - start))
     ++ drop (length (slice mem start (start + n - start))) out ≡ slice mem start n ++ drop n out
-copy_out_result mem out start n h = rw (end_minus_start, take_length, slice_length mem start n h)
+copy_out_result mem out start n h = rw (end_minus_start, take-length, slice_length mem start n h)
 
 past_end_lem : (a : ℕ) (s : List ℕ) → drop (length s - a) (drop a s) ≡ []
 past_end_lem a s = drop_of_length-le (drop a s) {i = length s - a} (simp length-drop (omega arith))
@@ -62,4 +62,4 @@ past_end_lem a s = drop_of_length-le (drop a s) {i = length s - a} (simp length-
 pub copy_in_result : (mem d l : List ℕ) (start : ℕ)
     → l ≡ take (length d) d ++ drop (length d) (take (length mem - start) (drop start mem))
     → take start mem ++ (l ++ drop (length mem - start) (drop start mem)) ≡ overwrite mem start d
-copy_in_result mem d l start e = simp (e, take_length, slice_to_end, past_end_lem, append-nil, append_assoc, drop-drop)
+copy_in_result mem d l start e = simp (e, take-length, slice_to_end, past_end_lem, append-nil, append_assoc, drop-drop)

@@ -5,9 +5,9 @@ ghost use Rattle.dpa.specs.Frame.{header_size};
 ghost use Rattle.dpa.specs.Lists.{overwrite_front};
 ghost use Rattle.timing.specs.Confirm.{confirmation_length, response_hops_sent, confirm_bytes, confirm_of};
 
-use dpa::copy::copy;
 use crate::slot::{Network, slot_of};
 use dpa::answer::LengthAnswer;
+use dpa::copy::copy;
 use dpa::frame::Frame;
 use dpa::refusal;
 

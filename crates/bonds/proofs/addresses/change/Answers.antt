@@ -1,0 +1,51 @@
+-- `addresses::change`: one bit more or less in the byte of the address.
+use mathlib.Core.Path.{◌≡◌, sym, ap, ap₂, subst, ◌∙◌}
+use mathlib.Core.Bool.{Bool, true, false}
+use Prim.Native.Nat.{ℕ, ◌+◌, ◌-◌, ◌/◌, ◌<◌}
+use native.Mathlib.Omega.{arith}
+use lib.ListN.{get_or, set}
+use borrow.Author.Rules.{rules}
+use Rattle.dpa.proofs.NodeSets.{added_small, named_min}
+use Rattle.bonds.specs.Bonds.{bonds_size, can_change, changed_bonds}
+use Rattle.bonds.proofs.Bonds.{bonds_facts, add_facts, remove_facts, node_inside, changed_inside}
+use Rattle.bonds.proofs.addresses.change.Goals as goal
+
+pub returns-then-add : goal.returns-then-add
+returns-then-add c =
+    let a = c.args in
+    ap₂ (λ (i b : ℕ). set a.bonds i (get_or a.bonds i 0 + b)) c.wide_word-index.ensures.0 c.bit_of.ensures
+    ∙ sym (ap (λ (x : Bool). changed_bonds x a.bonds a.address) c.if-add.true)
+
+pub returns : goal.returns
+returns c =
+    let a = c.args in
+    ap₂ (λ (i b : ℕ). set a.bonds i (get_or a.bonds i 0 - b)) c.wide_word-index.ensures.0 c.bit_of-2.ensures
+    ∙ sym (ap (λ (x : Bool). changed_bonds x a.bonds a.address) c.if-add.false)
+
+pub bounds-changed-index : goal.bounds-changed-index
+bounds-changed-index c =
+    let index : c.wide_word-index.result < bonds_size =
+    let a = c.args in
+    omega (arith, c.wide_word-index.ensures.0, changed_inside a.add a.bonds a.address c.requires.1) in
+    index
+
+pub bounds-changed-index-then-add : goal.bounds-changed-index-then-add
+bounds-changed-index-then-add c =
+    let index : c.wide_word-index.result < bonds_size =
+    let a = c.args in
+    omega (arith, c.wide_word-index.ensures.0, changed_inside a.add a.bonds a.address c.requires.1) in
+    index
+
+pub bounds-changed-index-2 : goal.bounds-changed-index-2
+bounds-changed-index-2 c =
+    let index : c.wide_word-index.result < bonds_size =
+    let a = c.args in
+    omega (arith, c.wide_word-index.ensures.0, changed_inside a.add a.bonds a.address c.requires.1) in
+    index
+
+pub bounds-changed-index-3 : goal.bounds-changed-index-3
+bounds-changed-index-3 c =
+    let index : c.wide_word-index.result < bonds_size =
+    let a = c.args in
+    omega (arith, c.wide_word-index.ensures.0, changed_inside a.add a.bonds a.address c.requires.1) in
+    index

@@ -1,0 +1,29 @@
+-- `power::power_entries_ok` meets its contract: after k valid power entries, the result depends on the rest.
+use borrow.Author.Rules.{rules}
+use native.Mathlib.Omega.{arith}
+use mathlib.Core.Path.{◌≡◌, sym, ◌∙◌}
+use Prim.Native.Nat.{◌≤◌, ◌-◌}
+use lib.ListN.{length, drop}
+use Rattle.lights.specs.Bits.{bitmap_size}
+use Rattle.lights.specs.Lights.{power_entries, are_valid, first_power_entry}
+use Rattle.lights.specs.declared.power.PowerEntry.TheVariants.{Valid, Invalid}
+use Rattle.lights.proofs.PowerEntries.{first_room, valid_more, invalid_stops, valid_end}
+use Rattle.lights.proofs.power.power_entries_ok.Goals as goal
+
+pub loop-k-init : goal.loop-k-init
+loop-k-init c =
+    let z : c.args.n - 0 ≡ c.args.n = omega arith in
+    (omega arith, omega arith, rw z)
+
+pub returns-in_default : goal.returns-in_default
+returns-in_default c =
+    let l = c.loop-k in
+    let a = c.args in
+    let q : first_power_entry (drop l.at a.src.now) ≡ Invalid = cc in
+    sym (l.invariant.2 ∙ invalid_stops a.src.now l.at l.k a.n (omega arith) q)
+
+pub returns : goal.returns
+returns c =
+    let l = c.loop-k in
+    let a = c.args in
+    sym (l.invariant.2 ∙ valid_end a.src.now l.at l.k a.n (omega arith) (omega arith))
