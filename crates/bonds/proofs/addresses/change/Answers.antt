@@ -49,3 +49,18 @@ bounds-changed-index-3 c =
     let a = c.args in
     omega (arith, c.wide_word-index.ensures.0, changed_inside a.add a.bonds a.address c.requires.1) in
     index
+
+pub overflow_add-changed : goal.overflow_add-changed
+overflow_add-changed c =
+    let b = c.args.bonds in
+    let a = c.args.address in
+    let asked : can_change true b a ≡ true = rw c.if-add.true at c.requires.1 in
+    let f = add_facts b a asked in
+    record { fits = rw (c.wide_word-index.ensures.0, c.bit_of.ensures) (added_small b a (node_inside b a c.requires.0 f.0) ((bonds_facts b c.requires.0).bytes (a / 8)) f.1) }
+
+pub overflow_sub-changed : goal.overflow_sub-changed
+overflow_sub-changed c =
+    let b = c.args.bonds in
+    let a = c.args.address in
+    let asked : can_change false b a ≡ true = rw c.if-add.false at c.requires.1 in
+    rw (c.wide_word-index.ensures.0, c.bit_of-2.ensures) (named_min b a (remove_facts b a asked).1)

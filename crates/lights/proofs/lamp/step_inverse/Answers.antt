@@ -13,3 +13,6 @@ overflow_add-result c = omega (arith, inverse_max c.args.settings)
 pub returns : goal.returns
 unfolding step_inverse
 returns c = refl
+
+pub nonzero_div-result : goal.nonzero_div-result
+nonzero_div-result c = step_min _ c.requires

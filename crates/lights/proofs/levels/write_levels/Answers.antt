@@ -48,3 +48,11 @@ returns c =
           ∙ levels_counted _ _ _ _ lamps_length (λ i. (c.type_inv.pdata i).fits) c.mask_of-mask.ensures,
       levels_end c.loop-remaining.invariant c.loop-remaining-test.false,
     )
+
+pub loop-remaining-init : goal.loop-remaining-init
+loop-remaining-init c =
+    let a = c.args in
+    let lamps_length : length a.lamps ≡ max_lamps = search rules in
+    let input : LevelsInput a.settings a.lamps a.out.now =
+    record { settings_rule = c.requires.0; sound = c.requires.1; lamps_length = lamps_length; old_length = c.requires.2 } in
+    levels_start a.settings a.pdata.now a.lamps a.out.now c.mask_of-mask.result input (λ i. (c.type_inv.pdata i).fits) c.mask_of-mask.ensures

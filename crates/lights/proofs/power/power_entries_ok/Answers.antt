@@ -27,3 +27,11 @@ returns c =
     let l = c.loop-k in
     let a = c.args in
     sym (l.invariant.2 ∙ valid_end a.src.now l.at l.k a.n (omega arith) (omega arith))
+
+pub loop-k-preserved : goal.loop-k-preserved
+loop-k-preserved c =
+    let l = c.loop-k in
+    let a = c.args in
+    let found : first_power_entry (drop l.at a.src.now) ≡ Valid c.in-Valid.change c.in-Valid.size = sym c.in-Valid.ensures in
+    let room : c.in-Valid.size ≤ length a.src.now - l.at = first_room a.src.now l.at _ _ found in
+    (omega arith, omega (arith, room), l.invariant.2 ∙ valid_more a.src.now l.at l.k a.n _ _ (omega arith) found)
