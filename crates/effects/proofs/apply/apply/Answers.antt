@@ -1,5 +1,4 @@
 -- `apply::apply`: the lights change the lamps alone; for any other effect the walk from its start gives the parts of the state after it.
-use borrow.Author.Rules.{rules}
 use mathlib.Core.Path.{◌≡◌, refl, sym, subst, ap, ◌∙◌}
 use mathlib.Core.List.{List}
 use Rattle.dpa.specs.Reply.{Reply}

@@ -1,5 +1,4 @@
 -- `apply::start_walk` meets its contract, effect by effect.
-use borrow.Author.Rules.{rules}
 use Rattle.effects.proofs.apply.start_walk.Goals as goal
 
 pub returns-in-Nothing : goal.returns-in-Nothing

@@ -1,19 +1,13 @@
 -- `lamps::change_lamps`: `PartlyDone` is the invariant of its loop.
 use borrow.Author.Rules.{rules}
 use borrow.Author.Tests.{not-true, not-false}
-use native.Mathlib.Omega.{arith}
-use mathlib.Core.Path.{◌≡◌, sym, ◌∙◌}
-use mathlib.Core.Bool.{true}
-use Prim.Native.Nat.{◌<◌}
+use mathlib.Core.Path.{◌≡◌}
 use lib.ListN.{length}
-use lib.Seq.{length-take-le}
 use Rattle.dpa.specs.Lists.{Bytes}
 use Rattle.dpa.specs.Settings.{max_lamps}
 use Rattle.outcome.specs.Request.{header_request}
-use Rattle.outcome.specs.Seen.{memories}
 use Rattle.effects.specs.Walk.{Follows}
-use Rattle.effects.proofs.Walks.{left}
-use Rattle.effects.proofs.LampChanges.{PartlyDone, done_start, done_end, done_task, task_less, lamp_less, done_implemented, done_unimplemented}
+use Rattle.effects.proofs.LampChanges.{done_start, done_end, done_task, task_less, done_implemented, done_unimplemented}
 use Rattle.effects.proofs.lamps.change_lamps.Goals as goal
 
 -- ---- the next request

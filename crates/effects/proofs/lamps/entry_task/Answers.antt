@@ -1,12 +1,6 @@
 -- `lamps::entry_task`: proofs/Walks has a law for each return.
-use borrow.Author.Rules.{rules}
 use native.Mathlib.Omega.{arith}
-use mathlib.Core.Path.{◌≡◌, sym, ◌∙◌}
-use Prim.Native.Nat.{◌-◌, ◌+◌, ◌≤◌}
-use lib.ListN.{length}
-use Rattle.dpa.specs.Lists.{slice}
-use Rattle.batch.specs.declared.entry.NextEntry.TheVariants.{Entry}
-use Rattle.batch.specs.Batch.{entry_head_size, next_entry}
+use mathlib.Core.Path.{sym, ◌∙◌}
 use Rattle.effects.proofs.Walks.{none_at_end, none_at_fault, entry_inside, entry_found}
 use Rattle.effects.proofs.lamps.entry_task.Goals as goal
 

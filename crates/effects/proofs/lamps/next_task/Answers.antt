@@ -1,5 +1,4 @@
 -- `lamps::next_task`: proofs/Walks has a law for each rest.
-use borrow.Author.Rules.{rules}
 use Rattle.effects.proofs.Walks.{after_ended, after_whole, after_entries}
 use Rattle.effects.proofs.lamps.next_task.Goals as goal
 

@@ -1,6 +1,4 @@
 -- `run::changes` meets its contract.
-use borrow.Author.Rules.{rules}
-use native.Mathlib.Omega.{arith}
 use Rattle.effects.proofs.Tasks.{tested_changes}
 use Rattle.effects.proofs.run.changes.Goals as goal
 

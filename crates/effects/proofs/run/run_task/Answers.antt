@@ -1,5 +1,4 @@
 -- `run::run_task`: one case of `peripheral_memories` for each PNUM.
-use borrow.Author.Rules.{rules}
 use borrow.Author.Tests.{not-true, not-false, ne_eqb}
 use mathlib.Core.Path.{◌≡◌, ap, sym, ◌∙◌}
 use mathlib.Core.List.{List}

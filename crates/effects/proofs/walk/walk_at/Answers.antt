@@ -1,5 +1,4 @@
 -- `walk::walk_at` meets its contract.
-use borrow.Author.Rules.{rules}
 use mathlib.Core.Path.{ap}
 use Rattle.lights.specs.declared.walk.LampWalk.{LampWalk}
 use Rattle.effects.specs.declared.walk.Walk.{Walk}
