@@ -1,5 +1,4 @@
 -- `at_end`: by the number of bytes, then by the byte.
-use borrow.Author.Rules.{rules}
 use mathlib.Core.Path.{sym}
 use Rattle.batch.proofs.Entries.{at_end_one_byte, not_at_end}
 use Rattle.batch.proofs.entry.at_end.Goals as goal

@@ -1,5 +1,4 @@
 -- `next_entry`: one law of `next_entry` for each return.
-use borrow.Author.Rules.{rules}
 use native.Mathlib.Omega.{arith}
 use mathlib.Core.Path.{sym}
 use mathlib.Core.List.{List}

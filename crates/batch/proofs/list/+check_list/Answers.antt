@@ -1,11 +1,9 @@
 -- `check_list` recurses on the rest of the list, which gets shorter by each entry.
 use native.Mathlib.Omega.{arith}
-use mathlib.Core.Path.{◌≡◌, sym, ap, ◌∙◌}
-use Prim.Native.Nat.{ℕ, ◌<◌, ◌≤◌, ◌-◌}
+use mathlib.Core.Path.{◌≡◌, sym, ◌∙◌}
+use Prim.Native.Nat.{◌-◌}
 use lib.ListN.{length, length-drop, length-take}
 use Rattle.dpa.specs.Lists.{slice}
-use Rattle.batch.specs.declared.entry.NextEntry.TheVariants.{Entry}
-use Rattle.batch.specs.Batch.{entry_head_size, next_entry, shift_fault}
 use Rattle.batch.proofs.Entries.{entry_sized}
 use Rattle.batch.proofs.Lists.{check_end, check_fault, check_entry}
 use Rattle.batch.proofs.Faults.{broken_fault, position_max}

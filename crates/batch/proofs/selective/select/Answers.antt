@@ -1,12 +1,10 @@
 -- `selective::select`: one law of `selection_of` for each return.
-use borrow.Author.Rules.{rules}
 use mathlib.Core.Path.{◌≡◌, sym, ap, ◌∙◌}
 use mathlib.Core.List.{List}
 use Prim.Native.Nat.{ℕ, ◌≤◌}
 use native.Mathlib.Omega.{arith}
 use lib.ListN.{length, drop, length-drop}
 use lib.Seq.{length-take-le}
-use borrow.Author.Tests.{not-true, not-false}
 use Rattle.dpa.specs.NodeSet.{node_set_size}
 use Rattle.dpa.proofs.Lists.{slice_to_end}
 use Rattle.batch.specs.declared.selective.Selection.TheVariants.{Selected}

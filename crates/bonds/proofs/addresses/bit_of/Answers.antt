@@ -1,5 +1,4 @@
 -- `addresses::bit_of`: a power of 2 below 256.
-use borrow.Author.Rules.{rules}
 use Rattle.bonds.proofs.Bonds.{bit_shifted}
 use Rattle.bonds.proofs.addresses.bit_of.Goals as goal
 

@@ -3,8 +3,6 @@ use mathlib.Core.Path.{◌≡◌, sym, ◌∙◌}
 use native.Mathlib.Omega.{arith}
 use lib.ListN.{length}
 use borrow.Author.Rules.{rules}
-use Rattle.dpa.specs.Lists.{Bytes}
-use Rattle.dpa.proofs.Bytes.{bytes_owned}
 use Rattle.bonds.specs.Bonds.{bonds_size}
 use Rattle.bonds.proofs.Bonds.{zero_fails, byte_fails, last_tested}
 use borrow.Author.Rules.{rules}

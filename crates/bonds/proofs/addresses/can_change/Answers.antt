@@ -1,8 +1,6 @@
 -- `addresses::can_change`: the range, then the bit.
 use mathlib.Core.Path.{◌≡◌, sym, ◌∙◌}
 use mathlib.Core.Bool.{true}
-use borrow.Author.Rules.{rules}
-use borrow.Author.Tests.{not-true, not-false}
 use Rattle.dpa.specs.Settings.{node_address}
 use Rattle.bonds.specs.Bonds.{can_add, bonded_node}
 use Rattle.bonds.proofs.Bonds.{node_untested}

@@ -1,10 +1,9 @@
 -- `addresses::change`: one bit more or less in the byte of the address.
-use mathlib.Core.Path.{◌≡◌, sym, ap, ap₂, subst, ◌∙◌}
+use mathlib.Core.Path.{◌≡◌, sym, ap, ap₂, ◌∙◌}
 use mathlib.Core.Bool.{Bool, true, false}
 use Prim.Native.Nat.{ℕ, ◌+◌, ◌-◌, ◌/◌, ◌<◌}
 use native.Mathlib.Omega.{arith}
 use lib.ListN.{get_or, set}
-use borrow.Author.Rules.{rules}
 use Rattle.dpa.proofs.NodeSets.{added_small, named_min}
 use Rattle.bonds.specs.Bonds.{bonds_size, can_change, changed_bonds}
 use Rattle.bonds.proofs.Bonds.{bonds_facts, add_facts, remove_facts, node_inside, changed_inside}

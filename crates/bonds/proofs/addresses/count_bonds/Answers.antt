@@ -1,10 +1,7 @@
 -- `addresses::count_bonds`: the bits of the first i bytes.
-use mathlib.Core.Path.{◌≡◌, sym, ap₂, ◌∙◌}
-use Prim.Native.Nat.{ℕ, ◌+◌, ◌-◌, ◌*◌, ◌≤◌}
+use mathlib.Core.Path.{sym, ap₂, ◌∙◌}
+use Prim.Native.Nat.{ℕ, ◌+◌}
 use native.Mathlib.Omega.{arith}
-use lib.ListN.{take}
-use borrow.Author.Rules.{rules}
-use Rattle.bonds.specs.Bonds.{bond_count}
 use Rattle.bonds.proofs.Bonds.{bonds_facts, count_start, count_next, count_sound}
 use Rattle.bonds.proofs.addresses.count_bonds.Goals as goal
 

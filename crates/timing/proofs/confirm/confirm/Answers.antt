@@ -3,11 +3,9 @@ use mathlib.Core.Path.{◌≡◌, sym, ◌∙◌}
 use mathlib.Core.Bool.{true}
 use lib.ListN.{length}
 use native.Mathlib.Omega.{arith}
-use borrow.Author.Tests.{not-true, not-false}
 use Rattle.dpa.specs.Frame.{frame_fits}
 use Rattle.dpa.proofs.Headers.{fits_sizes}
 use Rattle.timing.proofs.Confirmations.{frame_refused, buffer_refused, confirmation_answered}
-use borrow.Author.Rules.{rules}
 use Rattle.timing.proofs.confirm.confirm.Goals as goal
 
 pub returns-then-not-fits : goal.returns-then-not-fits

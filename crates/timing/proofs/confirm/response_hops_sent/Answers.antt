@@ -3,7 +3,6 @@ use Rattle.dpa.specs.declared.frame.Frame.{Frame}
 use mathlib.Core.Path.{sym, ap, ◌∙◌}
 use borrow.Author.Tests.{eq-eqb, ne_eqb}
 use Rattle.timing.specs.Confirm.{response_hops_sent}
-use borrow.Author.Rules.{rules}
 use Rattle.timing.proofs.confirm.response_hops_sent.Goals as goal
 
 pub returns-then-header-eq-BROADCAST : goal.returns-then-header-eq-BROADCAST

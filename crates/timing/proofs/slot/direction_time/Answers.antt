@@ -4,7 +4,6 @@ use mathlib.Core.Path.{refl}
 use Prim.Native.Nat.{◌≤◌}
 use Rattle.timing.specs.Slot.{direction_time, direction_max}
 use Rattle.timing.proofs.Slots.{direction_max_lem}
-use borrow.Author.Rules.{rules}
 use Rattle.timing.proofs.slot.direction_time.Goals as goal
 
 pub overflow_mul-result : goal.overflow_mul-result

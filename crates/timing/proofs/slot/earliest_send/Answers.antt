@@ -1,5 +1,4 @@
 -- `slot::earliest_send` meets its contract: one law for each return.
-use borrow.Author.Rules.{rules}
 use borrow.Author.Tests.{lt-ltb, le-ltb}
 use mathlib.Core.Path.{◌∙◌}
 use Rattle.timing.specs.Slot.{send_of}

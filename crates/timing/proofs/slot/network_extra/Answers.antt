@@ -2,7 +2,6 @@
 use native.Mathlib.Omega.{arith}
 use mathlib.Core.Path.{refl}
 use Rattle.timing.specs.Slot.{network_extra}
-use borrow.Author.Rules.{rules}
 use Rattle.timing.proofs.slot.network_extra.Goals as goal
 
 pub returns-in-Std : goal.returns-in-Std

@@ -1,6 +1,5 @@
 -- `slot::slot_of` meets its contract.
 use Rattle.timing.specs.Slot.{slot_of}
-use borrow.Author.Rules.{rules}
 use Rattle.timing.proofs.slot.slot_of.Goals as goal
 
 pub returns : goal.returns

@@ -3,7 +3,6 @@ use native.Mathlib.Omega.{arith}
 use borrow.Author.Tests.{lt-ltb, le-ltb}
 use Rattle.dpa.specs.Frame.{pdata_max}
 use Rattle.timing.specs.Slot.{timeslot_of}
-use borrow.Author.Rules.{rules}
 use Rattle.timing.proofs.slot.timeslot.Goals as goal
 
 pub returns-then-pdata_length-gt-PDATA_MAX : goal.returns-then-pdata_length-gt-PDATA_MAX
