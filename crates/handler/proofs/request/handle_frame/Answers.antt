@@ -1,6 +1,4 @@
 -- `handle_frame`: for another node, or the answer and then its effect.
-use borrow.Author.Rules.{rules}
-use borrow.Author.Tests.{not-true, not-false}
 use mathlib.Core.Path.{◌≡◌, ap, sym, subst, ◌∙◌}
 use mathlib.Core.Bool.{◌||◌}
 use Prim.Native.Nat.{◌-◌}
@@ -11,7 +9,6 @@ use Rattle.dpa.specs.Frame.{header_size, broadcast_nadr, header_of}
 use Rattle.batch.specs.Batch.{Request}
 use Rattle.node.specs.declared.record.Node.{Node}
 use Rattle.node.specs.declared.record.ReadOnly.{ReadOnly}
-use Rattle.node.specs.Node.{node_from_parts}
 use Rattle.node.specs.State.{State, state, SoundState}
 use Rattle.node.proofs.Nodes.{node_ram}
 use Rattle.outcome.specs.declared.reply.Effect.{Effect}

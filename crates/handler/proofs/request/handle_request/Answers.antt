@@ -1,5 +1,4 @@
 -- `handle_request`: refused, or the result of `handle_frame`.
-use borrow.Author.Rules.{rules}
 use mathlib.Core.Path.{◌≡◌, sym, ◌∙◌}
 use Rattle.node.specs.State.{state}
 use Rattle.outcome.specs.Request.{call_refusal}

@@ -1,17 +1,12 @@
 -- `respond`: the answer, then a law of the response for each return.
-use borrow.Author.Rules.{rules}
-use borrow.Author.Tests.{not-true, not-false}
-use native.Mathlib.Omega.{arith}
-use mathlib.Core.Path.{ap}
-use Prim.Native.Nat.{◌≤◌}
-use Rattle.dpa.specs.Frame.{pdata_max}
+use borrow.Author.Tests.{not-true}
 use Rattle.batch.specs.Batch.{Request}
 use Rattle.node.specs.State.{State}
 use Rattle.outcome.specs.Request.{Outcome, header_request, execute}
 use Rattle.outcome.specs.Effect.{request_effect}
-use Rattle.outcome.specs.Seen.{state_from_parts, SeenAnswer}
-use Rattle.outcome.proofs.Sizes.{execute_fits, unanswered_empty}
-use Rattle.outcome.proofs.Responses.{broadcast_response, unanswered_response, answered_response}
+use Rattle.outcome.specs.Seen.{state_from_parts}
+use Rattle.outcome.proofs.Sizes.{unanswered_empty}
+use Rattle.outcome.proofs.Responses.{broadcast_response, unanswered_response}
 use Rattle.handler.proofs.request.respond.Goals as goal
 
 pub returns-then-header-eq-BROADCAST : goal.returns-then-header-eq-BROADCAST

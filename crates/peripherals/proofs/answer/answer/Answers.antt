@@ -1,6 +1,5 @@
 -- `answer`: one law of `execute` for each PNUM.
 use borrow.Author.Rules.{rules}
-use borrow.Author.Tests.{not-true, not-false}
 use mathlib.Core.Path.{◌≡◌, refl, sym, ◌∙◌}
 use mathlib.Core.Bool.{true}
 use Rattle.memory.specs.declared.block.Memory.TheVariants.{Eeprom, Ram, External}

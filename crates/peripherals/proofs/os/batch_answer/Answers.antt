@@ -1,5 +1,4 @@
 -- `batch_answer`: one law of `batch_request` for each return.
-use borrow.Author.Rules.{rules}
 use mathlib.Core.Path.{◌∙◌}
 use native.Mathlib.Omega.{arith}
 use Rattle.outcome.specs.declared.reply.Effect.TheVariants.{Batch}

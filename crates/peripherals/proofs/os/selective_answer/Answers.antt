@@ -1,9 +1,6 @@
 -- `selective_answer`: by what PData is to the node.
-use borrow.Author.Rules.{rules}
-use mathlib.Core.Path.{◌≡◌, ap, sym, ◌∙◌}
-use Prim.Native.Nat.{ℕ}
+use mathlib.Core.Path.{ap, sym, ◌∙◌}
 use native.Mathlib.Omega.{arith}
-use Rattle.batch.specs.declared.selective.Selection.{Selection}
 use Rattle.batch.specs.Selective.{selection_of}
 use Rattle.outcome.specs.declared.reply.Effect.TheVariants.{Selective}
 use Rattle.outcome.proofs.Outcomes.{selective_as}
