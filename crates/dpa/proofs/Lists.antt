@@ -5,7 +5,7 @@ use Prim.Native.Nat.{ℕ, suc, ◌+◌, ◌-◌, ◌≤◌, ◌<◌}
 use native.Mathlib.Nat.{add-zero}
 use native.Mathlib.Omega.{arith}
 use lib.ListN.{length, take, drop, set, length-append, length-drop, take-append-drop, drop_of_length-le}
-use lib.Seq.{sets, sets-eq, take_all, take_at, drop_at, take-length, drop-drop, drop-set-lt, length-take-le}
+use lib.Seq.{sets, sets-eq, take_all, take_at, drop_at, drop-drop, drop-set-lt, length-take-le}
 use borrow.Rule.Slice.PartMut.{mid_of, post_of, put_mid}
 use Rattle.dpa.specs.Lists.{overwrite_front, fold}
 

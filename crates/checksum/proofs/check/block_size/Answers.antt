@@ -1,5 +1,4 @@
 -- `check::block_size` meets its contract.
-use borrow.Author.Rules.{rules}
 use mathlib.Core.Path.{sym, ◌∙◌}
 use native.Mathlib.Omega.{arith}
 use Rattle.checksum.specs.Check.{size_of_block}

@@ -1,5 +1,4 @@
 -- `check::code_check` meets its contract: one law for each return.
-use borrow.Author.Rules.{rules}
 use mathlib.Core.Path.{sym, ap, ◌∙◌}
 use native.Mathlib.Omega.{arith}
 use Rattle.checksum.specs.Check.{image_error}

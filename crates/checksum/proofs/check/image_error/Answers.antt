@@ -1,5 +1,4 @@
 -- `check::image_error` meets its contract: one law for each return.
-use borrow.Author.Rules.{rules}
 use mathlib.Core.Path.{◌≡◌, sym, ◌∙◌}
 use mathlib.Core.Bool.{false}
 use Rattle.checksum.specs.Check.{reserved_flags, image_error}

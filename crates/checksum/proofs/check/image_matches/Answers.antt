@@ -1,7 +1,6 @@
 -- `check::image_matches` meets its contract: without an error the image is inside external memory.
 use native.Mathlib.Omega.{arith}
 use Rattle.checksum.proofs.Checks.{image_fits, image_sums_compared}
-use borrow.Author.Rules.{rules}
 use Rattle.checksum.proofs.check.image_matches.Goals as goal
 
 pub slice_bounds-image_sums-end : goal.slice_bounds-image_sums-end

@@ -1,5 +1,4 @@
 -- `check::initial_low` meets its contract.
-use borrow.Author.Rules.{rules}
 use mathlib.Core.Path.{sym, ◌∙◌}
 use Rattle.checksum.specs.Check.{initial_low_of}
 use Rattle.checksum.proofs.check.initial_low.Goals as goal

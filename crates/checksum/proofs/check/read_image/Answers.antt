@@ -1,5 +1,4 @@
 -- `check::read_image` meets its contract.
-use borrow.Author.Rules.{rules}
 use Rattle.checksum.proofs.check.read_image.Goals as goal
 
 pub returns : goal.returns

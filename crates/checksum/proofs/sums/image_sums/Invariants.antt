@@ -1,10 +1,8 @@
 -- `sums::image_sums` meets its contract. The invariant: adding the bytes from `at` on gives the sums of the image.
-use Prim.Native.Nat.{◌+◌, ◌≤◌, ◌-◌}
-use mathlib.Core.Path.{◌≡◌, sym, ◌∙◌}
-use native.Mathlib.Omega.{arith}
-use lib.ListN.{length, drop, length-take}
+use Prim.Native.Nat.{◌≤◌, ◌-◌}
+use mathlib.Core.Path.{◌≡◌}
+use lib.ListN.{length, drop}
 use Rattle.checksum.specs.Sums.{sums, start}
-use Rattle.checksum.proofs.Fletcher.{sums_next_block, sums_done}
 use Rattle.checksum.proofs.sums.image_sums.Given as goal
 
 abbrev pub invariant-loop-at : goal.invariant-loop-at

@@ -1,5 +1,4 @@
 -- `sums::reduce` meets its contract.
-use borrow.Author.Rules.{rules}
 use borrow.Author.Tests.{eq-eqb, ne_eqb}
 use Rattle.checksum.specs.Blocks.{reduce}
 use Rattle.checksum.proofs.sums.reduce.Goals as goal

@@ -1,5 +1,4 @@
 -- `frame::write_response_header` meets its contract: six bytes are copied to the front, two are stored after them.
-use borrow.Author.Rules.{rules}
 use mathlib.Core.List.{List, [], ◌∷◌, ◌++◌}
 use mathlib.Core.Path.{ap, ◌∙◌}
 use Prim.Native.Nat.{ℕ}

@@ -1,6 +1,5 @@
 -- `node_set::node_set_ok`: address 0, then all bytes.
 use mathlib.Core.Path.{sym, ◌∙◌}
-use borrow.Author.Rules.{rules}
 use Rattle.dpa.specs.NodeSet.{node_set_ok}
 use Rattle.dpa.proofs.node_set.node_set_ok.Goals as goal
 

@@ -1,7 +1,6 @@
 -- `node_set::selects`: the bit of the address, or false if the set has no such byte.
 use mathlib.Core.Path.{sym}
 use native.Mathlib.Omega.{arith}
-use borrow.Author.Rules.{rules}
 use Rattle.dpa.proofs.NodeSets.{selects_at, selects_outside}
 use Rattle.dpa.proofs.node_set.selects.Goals as goal
 

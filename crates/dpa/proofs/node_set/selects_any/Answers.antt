@@ -1,10 +1,6 @@
 -- `node_set::selects_any`: the bytes before place i are 0.
-use mathlib.Core.Path.{◌≡◌, sym, ◌∙◌}
-use Prim.Native.Nat.{ℕ, ◌≤◌, ◌<◌, ◌-◌}
+use mathlib.Core.Path.{sym, ◌∙◌}
 use native.Mathlib.Omega.{arith}
-use lib.ListN.{get_or}
-use borrow.Author.Rules.{rules}
-use Rattle.dpa.specs.NodeSet.{node_set_size}
 use Rattle.dpa.proofs.NodeSets.{byte_any, zeros_next, zeros_none}
 use Rattle.dpa.proofs.node_set.selects_any.Goals as goal
 

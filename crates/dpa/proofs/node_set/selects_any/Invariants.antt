@@ -1,11 +1,8 @@
 -- `node_set::selects_any`: the bytes before place i are 0.
-use mathlib.Core.Path.{◌≡◌, sym, ◌∙◌}
+use mathlib.Core.Path.{◌≡◌}
 use Prim.Native.Nat.{ℕ, ◌≤◌, ◌<◌, ◌-◌}
-use native.Mathlib.Omega.{arith}
 use lib.ListN.{get_or}
-use borrow.Author.Rules.{rules}
 use Rattle.dpa.specs.NodeSet.{node_set_size}
-use Rattle.dpa.proofs.NodeSets.{byte_any, zeros_next, zeros_none}
 use Rattle.dpa.proofs.node_set.selects_any.Given as goal
 
 abbrev pub invariant-loop-i : goal.invariant-loop-i

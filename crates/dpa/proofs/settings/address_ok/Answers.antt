@@ -1,6 +1,4 @@
 -- `settings::address_ok`: the broadcast address, or a node's.
-use mathlib.Core.Bool.{or-false}
-use borrow.Author.Rules.{rules}
 use borrow.Author.Tests.{eq-eqb, ne_eqb}
 use Rattle.dpa.specs.Settings.{address_ok}
 use Rattle.dpa.proofs.settings.address_ok.Goals as goal

@@ -1,5 +1,4 @@
 -- `settings::settings_ok` meets its contract: each return computes the definition from the tests before it.
-use borrow.Author.Rules.{rules}
 use borrow.Author.Tests.{le-leb, lt-leb}
 use Rattle.dpa.specs.Settings.{settings_ok}
 use Rattle.dpa.proofs.settings.settings_ok.Goals as goal

@@ -1,5 +1,4 @@
 -- `settings::step_ok` meets its contract.
-use borrow.Author.Rules.{rules}
 use borrow.Author.Tests.{ne_eqb}
 use Rattle.dpa.specs.Settings.{step_ok}
 use Rattle.dpa.proofs.Ranges.{step_divides}

@@ -1,7 +1,6 @@
 -- `apply::lamp_after` meets its contract, by the definition's tests.
 use borrow.Author.Tests.{eq-eqb, ne_eqb}
 use Rattle.lights.specs.Lights.{lamp_after}
-use borrow.Author.Rules.{rules}
 use Rattle.lights.proofs.apply.lamp_after.Goals as goal
 
 pub returns-then-power-ne-KEEP : goal.returns-then-power-ne-KEEP

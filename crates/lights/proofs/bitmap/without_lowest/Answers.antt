@@ -1,5 +1,4 @@
 -- `bitmap::without_lowest` meets its contract.
-use borrow.Author.Rules.{rules}
 use Rattle.dpa.specs.Settings.{max_lamps}
 use Rattle.lights.proofs.Bits.{lowest_removed}
 use Rattle.lights.proofs.bitmap.without_lowest.Goals as goal

@@ -4,7 +4,6 @@ use mathlib.Core.Path.{◌≡◌}
 use Prim.Native.Nat.{◌+◌, ◌-◌, ◌*◌, ◌/◌, ◌≤◌}
 use Rattle.lights.specs.Lamp.{max_level, actual_level}
 use Rattle.lights.proofs.Lamps.{step_min, actual_max, inverse_divides, inverse_product}
-use borrow.Author.Rules.{rules}
 use Rattle.lights.proofs.lamp.actual_level.Goals as goal
 
 pub overflow_sub-quotient : goal.overflow_sub-quotient

@@ -3,7 +3,6 @@ use mathlib.Core.Path.{refl}
 use native.Mathlib.Omega.{arith}
 use Rattle.lights.specs.Lamp.{step_inverse}
 use Rattle.lights.proofs.Lamps.{step_min, inverse_max}
-use borrow.Author.Rules.{rules}
 use Rattle.lights.proofs.lamp.step_inverse.Goals as goal
 
 pub overflow_add-result : goal.overflow_add-result

@@ -1,5 +1,4 @@
 -- `lamp::tick_lamp` meets its contract, by the definition's tests.
-use borrow.Author.Rules.{rules}
 use borrow.Author.Tests.{eq-eqb, ne_eqb}
 use Rattle.lights.specs.Lamp.{tick_lamp}
 use Rattle.lights.proofs.lamp.tick_lamp.Goals as goal

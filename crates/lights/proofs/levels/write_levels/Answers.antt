@@ -4,10 +4,8 @@ use native.Mathlib.Omega.{arith}
 use mathlib.Core.Path.{◌≡◌, ◌∙◌}
 use lib.ListN.{length}
 use Rattle.dpa.specs.Settings.{max_lamps}
-use Rattle.lights.specs.Bits.{bitmap}
-use Rattle.lights.specs.Lights.{levels_before}
 use Rattle.lights.proofs.Bits.{lowest_less}
-use Rattle.lights.proofs.LevelsLoop.{LevelsInput, LevelsLoop, levels_start, levels_counted, levels_end, levels_fewer, levels_room, levels_next}
+use Rattle.lights.proofs.LevelsLoop.{LevelsInput, levels_start, levels_counted, levels_end, levels_fewer, levels_room, levels_next}
 use Rattle.lights.proofs.levels.write_levels.Goals as goal
 
 pub lowest_lamp-requires : goal.lowest_lamp-requires

@@ -1,13 +1,9 @@
 -- `power::power_entries_ok` meets its contract: after k valid power entries, the result depends on the rest.
-use borrow.Author.Rules.{rules}
-use native.Mathlib.Omega.{arith}
-use mathlib.Core.Path.{◌≡◌, sym, ◌∙◌}
+use mathlib.Core.Path.{◌≡◌}
 use Prim.Native.Nat.{◌≤◌, ◌-◌}
 use lib.ListN.{length, drop}
 use Rattle.lights.specs.Bits.{bitmap_size}
-use Rattle.lights.specs.Lights.{power_entries, are_valid, first_power_entry}
-use Rattle.lights.specs.declared.power.PowerEntry.TheVariants.{Valid, Invalid}
-use Rattle.lights.proofs.PowerEntries.{first_room, valid_more, invalid_stops, valid_end}
+use Rattle.lights.specs.Lights.{power_entries, are_valid}
 use Rattle.lights.proofs.power.power_entries_ok.Given as goal
 
 abbrev pub invariant-loop-k : goal.invariant-loop-k

@@ -1,5 +1,4 @@
 -- `power::power_entry_at` meets its contract: one law of proofs/PowerEntries for each return.
-use borrow.Author.Tests.{not-true, not-false}
 use native.Mathlib.Omega.{arith}
 use mathlib.Core.Path.{◌≡◌, sym, ◌∙◌}
 use mathlib.Core.Bool.{true, false}
@@ -7,7 +6,6 @@ use lib.ListN.{get_or}
 use Prim.Native.Nat.{◌%◌}
 use Rattle.lights.specs.Lights.{bit7, power_ok}
 use Rattle.lights.proofs.PowerEntries.{power_entry_past_end, power_entry_bad_power, power_entry_untimed, power_entry_no_time, power_entry_timed}
-use borrow.Author.Rules.{rules}
 use Rattle.lights.proofs.power.power_entry_at.Goals as goal
 
 pub returns-then-src-at : goal.returns-then-src-at

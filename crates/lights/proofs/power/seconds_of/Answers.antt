@@ -1,7 +1,6 @@
 -- `power::seconds_of` meets its contract, by the definition's test.
 use borrow.Author.Tests.{lt-ltb, le-ltb}
 use Rattle.lights.specs.Lights.{seconds_of}
-use borrow.Author.Rules.{rules}
 use Rattle.lights.proofs.power.seconds_of.Goals as goal
 
 pub returns-then-time-lt-BIT_7 : goal.returns-then-time-lt-BIT_7

@@ -1,7 +1,6 @@
 -- `power::valid_power_entry_at` meets its contract: one law of proofs/PowerEntries for each return.
 use native.Mathlib.Omega.{arith}
 use Rattle.lights.proofs.PowerEntries.{valid_inside, valid_time_inside, valid_untimed, valid_timed}
-use borrow.Author.Rules.{rules}
 use Rattle.lights.proofs.power.valid_power_entry_at.Goals as goal
 
 pub bounds-src-at : goal.bounds-src-at

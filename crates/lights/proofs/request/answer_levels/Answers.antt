@@ -1,11 +1,9 @@
 -- `request::answer_levels` meets its contract: one law of proofs/Replies for each return.
-use borrow.Author.Tests.{not-true, not-false}
 use mathlib.Core.Path.{◌≡◌, sym, ◌∙◌}
 use mathlib.Core.Bool.{true}
 use Rattle.lights.specs.Lights.{well_formed}
 use Rattle.lights.proofs.WellFormed.{bitmap_there}
 use Rattle.lights.proofs.Replies.{reply_error, change_malformed, change_answered}
-use borrow.Author.Rules.{rules}
 use Rattle.lights.proofs.request.answer_levels.Goals as goal
 
 pub write_levels-length-requires : goal.write_levels-length-requires

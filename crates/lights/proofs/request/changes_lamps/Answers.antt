@@ -1,7 +1,6 @@
 -- `request::changes_lamps` meets its contract, by the definition's tests.
 use borrow.Author.Tests.{le-leb, lt-leb}
 use Rattle.lights.specs.Lights.{changes_lamps}
-use borrow.Author.Rules.{rules}
 use Rattle.lights.proofs.request.changes_lamps.Goals as goal
 
 pub returns-then-pcmd-gt-LOWER : goal.returns-then-pcmd-gt-LOWER

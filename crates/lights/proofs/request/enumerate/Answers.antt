@@ -5,7 +5,6 @@ use borrow.Author.Tests.{eq-eqb}
 use native.Mathlib.Omega.{arith}
 use Rattle.lights.specs.Lights.{enumerate_lamps}
 use Rattle.dpa.proofs.Lists.{set_first}
-use borrow.Author.Rules.{rules}
 use Rattle.lights.proofs.request.enumerate.Goals as goal
 
 pub returns-then-pdata-ne0 : goal.returns-then-pdata-ne0

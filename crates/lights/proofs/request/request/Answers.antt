@@ -1,7 +1,6 @@
 -- `request::request` meets its contract, by the PCMD.
 use Rattle.lights.specs.Lights.{lights_request, command_of}
 use Rattle.lights.proofs.Replies.{reply_error, known_pcmd, unknown_pcmd}
-use borrow.Author.Rules.{rules}
 use Rattle.lights.proofs.request.request.Goals as goal
 
 pub returns-then-pcmd-eq-ENUMERATE : goal.returns-then-pcmd-eq-ENUMERATE

@@ -2,7 +2,6 @@
 use mathlib.Core.Path.{sym, ap, ◌∙◌}
 use Rattle.lights.specs.Lights.{are_valid}
 use Rattle.lights.proofs.WellFormed.{short_malformed, well_formed_entries, entries_by_mask}
-use borrow.Author.Rules.{rules}
 use Rattle.lights.proofs.request.well_formed.Goals as goal
 
 pub returns-then-pdata-lt-BITMAP_SIZE : goal.returns-then-pdata-lt-BITMAP_SIZE

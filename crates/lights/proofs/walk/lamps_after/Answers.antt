@@ -12,7 +12,7 @@ use Rattle.lights.specs.declared.apply.Command.TheVariants.{Lower}
 use Rattle.lights.specs.declared.walk.LampWalk.{LampWalk}
 use Rattle.lights.specs.Lights.{command_pcmd, changes_lamps}
 use Rattle.lights.specs.Remaining.{remaining_lamps, Remaining, walk_start}
-use Rattle.lights.proofs.LampsLoop.{LampsDone, lamp_changed_lem, lamp_unchanged}
+use Rattle.lights.proofs.LampsLoop.{lamp_changed_lem, lamp_unchanged}
 use Rattle.lights.proofs.RemainingLamps.{start_remains, start_lamps, end_lamps}
 use Rattle.lights.proofs.Requests.{unchanged}
 use Rattle.lights.proofs.walk.lamps_after.Goals as goal

@@ -1,5 +1,4 @@
 -- `walk::next_lamp` meets its contract: proofs/RemainingLamps has the step.
-use borrow.Author.Rules.{rules}
 use native.Mathlib.Omega.{arith}
 use Rattle.lights.proofs.RemainingLamps.{next_valid, next_room, next_step}
 use Rattle.lights.proofs.walk.next_lamp.Goals as goal

@@ -1,9 +1,7 @@
 -- `walk::walk_start` meets its contract, field by field.
-use borrow.Author.Rules.{rules}
 use native.Mathlib.Omega.{arith}
 use mathlib.Core.Path.{ap, ◌∙◌}
-use mathlib.Core.List.{List}
-use Prim.Native.Nat.{ℕ, ◌+◌, ◌≤◌}
+use Prim.Native.Nat.{◌+◌, ◌≤◌}
 use lib.ListN.{length, length-drop}
 use Rattle.dpa.proofs.Lists.{slice_to_end}
 use Rattle.lights.specs.Bits.{bitmap_size, mask_of}

@@ -1,8 +1,6 @@
 -- `block::block_fault` meets its contract, test by test.
 use borrow.Author.Tests.{lt-ltb, le-ltb, le-leb, lt-leb}
-use native.Mathlib.Omega.{arith}
 use Rattle.memory.specs.Block.{block_fault}
-use borrow.Author.Rules.{rules}
 use Rattle.memory.proofs.block.block_fault.Goals as goal
 
 pub returns-then-longest-count : goal.returns-then-longest-count

@@ -2,7 +2,6 @@
 use borrow.Author.Tests.{eq-eqb, ne_eqb}
 use mathlib.Core.Path.{◌∙◌}
 use Rattle.memory.specs.Request.{address_of}
-use borrow.Author.Rules.{rules}
 use Rattle.memory.proofs.request.address.Goals as goal
 
 pub returns-then-width-eq1 : goal.returns-then-width-eq1

@@ -1,5 +1,4 @@
 -- `request::change` meets its contract: only a write without an error changes the memory, and its block lies inside.
-use borrow.Author.Rules.{rules}
 use mathlib.Core.Path.{◌≡◌, ap, sym, ◌∙◌}
 use mathlib.Core.List.{List}
 use Prim.Native.Nat.{ℕ}

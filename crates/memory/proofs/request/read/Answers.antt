@@ -3,7 +3,6 @@ use mathlib.Core.Path.{◌≡◌, sym, ◌∙◌}
 use native.Mathlib.Omega.{arith}
 use Rattle.memory.specs.Request.{read_error}
 use Rattle.memory.proofs.Requests.{read_fits, read_inside, read_refused, read_reply}
-use borrow.Author.Rules.{rules}
 use Rattle.memory.proofs.request.read.Goals as goal
 
 pub returns-then-error-ne-NONE : goal.returns-then-error-ne-NONE

@@ -2,7 +2,6 @@
 use borrow.Author.Tests.{ne_eqb}
 use Rattle.memory.specs.Request.{read_error}
 use Rattle.memory.proofs.Requests.{read_error_by_tests}
-use borrow.Author.Rules.{rules}
 use Rattle.memory.proofs.request.read_error.Goals as goal
 
 pub returns-then-pdata-width : goal.returns-then-pdata-width

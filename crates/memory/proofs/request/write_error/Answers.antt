@@ -2,7 +2,6 @@
 use borrow.Author.Tests.{le-leb}
 use Rattle.memory.specs.Request.{write_error}
 use Rattle.memory.proofs.Requests.{write_error_by_tests}
-use borrow.Author.Rules.{rules}
 use Rattle.memory.proofs.request.write_error.Goals as goal
 
 pub returns-then-pdata-width : goal.returns-then-pdata-width

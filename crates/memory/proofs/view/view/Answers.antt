@@ -5,7 +5,6 @@ use Prim.Native.Nat.{ℕ}
 use Rattle.memory.specs.View.{view_status}
 use Rattle.memory.proofs.Blocks.{end_minus_start}
 use Rattle.memory.proofs.Views.{ViewFits, view_fits, view_refused, view_eeprom, view_external, place_refused, place_eeprom, place_external}
-use borrow.Author.Rules.{rules}
 use Rattle.memory.proofs.view.view.Goals as goal
 
 pub returns-then-view_status-ne-NONE : goal.returns-then-view_status-ne-NONE

@@ -8,7 +8,6 @@ use Rattle.memory.specs.declared.block.Memory.TheVariants.{Eeprom, External}
 use Rattle.memory.specs.Block.{memory_pnum, size_of}
 use Rattle.memory.specs.View.{block_refusal, view_status}
 use Rattle.memory.proofs.Views.{status_sized}
-use borrow.Author.Rules.{rules}
 use Rattle.memory.proofs.view.view_status.Goals as goal
 
 pub returns-then-eeprom-size_of : goal.returns-then-eeprom-size_of

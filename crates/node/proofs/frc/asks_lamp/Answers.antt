@@ -1,8 +1,7 @@
 -- `frc::asks_lamp` meets its contract: each return computes the definition from the tests before it.
-use borrow.Author.Rules.{rules}
 use mathlib.Core.Path.{◌≡◌, sym, ◌∙◌}
 use mathlib.Core.Bool.{true}
-use borrow.Author.Tests.{not-true, not-false, le-leb, lt-leb, eq-eqb, ne_eqb}
+use borrow.Author.Tests.{le-leb, lt-leb, eq-eqb, ne_eqb}
 use Rattle.node.specs.Frc.{is_command, asks_lamp}
 use Rattle.node.proofs.frc.asks_lamp.Goals as goal
 

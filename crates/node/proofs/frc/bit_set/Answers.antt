@@ -1,5 +1,4 @@
 -- `frc::bit_set` meets its contract.
-use borrow.Author.Rules.{rules}
 use mathlib.Core.Path.{refl}
 use Rattle.node.specs.Frc.{bit_set}
 use Rattle.node.proofs.frc.bit_set.Goals as goal

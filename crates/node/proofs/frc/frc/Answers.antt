@@ -1,9 +1,7 @@
 -- `frc::frc` meets its contract: one law for each return.
-use borrow.Author.Rules.{rules}
 use mathlib.Core.Path.{◌≡◌, sym, ◌∙◌}
 use mathlib.Core.Bool.{true}
 use native.Mathlib.Omega.{arith}
-use borrow.Author.Tests.{not-true, not-false}
 use Rattle.node.specs.Node.{node_ok}
 use Rattle.node.specs.Frc.{asks_lamp, frc_of}
 use Rattle.node.proofs.FrcAnswers.{asks_two_bytes, frc_not_implemented, frc_on, frc_alarm}

@@ -1,8 +1,6 @@
 -- `levels::actual_levels` meets its contract: a sound node's settings are in range and no level is over 100.
-use borrow.Author.Rules.{rules}
 use mathlib.Core.Path.{◌≡◌, sym, ◌∙◌}
 use mathlib.Core.Bool.{true}
-use borrow.Author.Tests.{not-true, not-false}
 use Rattle.node.specs.Node.{node_ok, levels_of}
 use Rattle.node.proofs.Nodes.{node_settings, node_levels_in_range}
 use Rattle.node.proofs.levels.actual_levels.Goals as goal

@@ -1,14 +1,11 @@
 -- `levels::each_level` meets its contract. The invariant: the levels before `i` are those of the lamps, the others are still 0.
 use Prim.Native.Nat.{◌≤◌, ◌-◌}
-use mathlib.Core.Path.{◌≡◌, refl}
+use mathlib.Core.Path.{◌≡◌}
 use mathlib.Core.List.{◌++◌, map}
-use native.Mathlib.Omega.{arith}
 use lib.ListN.{take, drop}
 use Rattle.dpa.specs.Settings.{max_lamps}
 use Rattle.lights.specs.declared.lamp.Lamp.{Lamp}
-use Rattle.lights.specs.Lamp.{off, actual_level}
-use Rattle.node.specs.Node.{actual_levels}
-use Rattle.node.proofs.Maps.{map_next, map_done}
+use Rattle.lights.specs.Lamp.{actual_level}
 use Rattle.node.proofs.levels.each_level.Given as goal
 
 abbrev pub invariant-loop-i : goal.invariant-loop-i

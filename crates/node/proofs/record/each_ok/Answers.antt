@@ -1,13 +1,9 @@
 -- `record::each_ok` meets its contract. The invariant: `ok` is the test over the lamps before `i`.
-use borrow.Author.Rules.{rules}
-use Prim.Native.Nat.{◌≤◌, ◌-◌}
 use mathlib.Core.Path.{◌≡◌, refl}
 use native.Mathlib.Omega.{arith}
-use lib.ListN.{get_or}
 use Rattle.dpa.specs.Lists.{all_below}
 use Rattle.dpa.specs.Settings.{max_lamps}
 use Rattle.dpa.proofs.Bool.{all_below_next}
-use Rattle.lights.specs.Lamp.{off, lamp_ok}
 use Rattle.node.proofs.record.each_ok.Goals as goal
 
 pub loop-i-init : goal.loop-i-init

@@ -1,11 +1,8 @@
 -- `record::lamps_ok` meets its contract. The invariant: `ok` is the test of every lamp, and of zeros from the count to `i`.
-use borrow.Author.Rules.{rules}
-use Prim.Native.Nat.{◌≤◌, ◌-◌}
 use mathlib.Core.Path.{◌≡◌, ◌∙◌}
-use mathlib.Core.Bool.{◌&&◌}
 use native.Mathlib.Omega.{arith}
 use Rattle.dpa.specs.Settings.{max_lamps}
-use Rattle.node.proofs.LampTests.{each_ok, zeros_to, zeros_none, zeros_next, each_and_zeros}
+use Rattle.node.proofs.LampTests.{zeros_none, zeros_next, each_and_zeros}
 use Rattle.node.proofs.record.lamps_ok.Goals as goal
 
 pub loop-i-init : goal.loop-i-init

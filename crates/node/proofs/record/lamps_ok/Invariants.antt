@@ -1,11 +1,9 @@
 -- `record::lamps_ok` meets its contract. The invariant: `ok` is the test of every lamp, and of zeros from the count to `i`.
-use borrow.Author.Rules.{rules}
 use Prim.Native.Nat.{◌≤◌, ◌-◌}
-use mathlib.Core.Path.{◌≡◌, ◌∙◌}
+use mathlib.Core.Path.{◌≡◌}
 use mathlib.Core.Bool.{◌&&◌}
-use native.Mathlib.Omega.{arith}
 use Rattle.dpa.specs.Settings.{max_lamps}
-use Rattle.node.proofs.LampTests.{each_ok, zeros_to, zeros_none, zeros_next, each_and_zeros}
+use Rattle.node.proofs.LampTests.{each_ok, zeros_to}
 use Rattle.node.proofs.record.lamps_ok.Given as goal
 
 abbrev pub invariant-loop-i : goal.invariant-loop-i

@@ -3,8 +3,6 @@ use borrow.Author.Rules.{rules}
 use native.Mathlib.Omega.{arith}
 use mathlib.Core.Path.{◌≡◌, sym, ◌∙◌}
 use mathlib.Core.Bool.{true}
-use borrow.Author.Tests.{not-true, not-false}
-use lib.ListN.{length-map}
 use Rattle.dpa.specs.Settings.{settings_ok}
 use Rattle.dpa.proofs.Ranges.{settings_facts}
 use Rattle.node.specs.Node.{node_ok, shape_ok}

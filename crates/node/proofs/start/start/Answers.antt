@@ -1,7 +1,5 @@
 -- `start::start` meets its contract.
-use borrow.Author.Rules.{rules}
 use mathlib.Core.Path.{sym, ◌∙◌}
-use borrow.Author.Tests.{not-true, not-false}
 use Rattle.node.specs.Node.{start_of}
 use Rattle.node.proofs.start.start.Goals as goal
 

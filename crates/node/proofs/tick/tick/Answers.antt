@@ -1,7 +1,5 @@
 -- `tick::tick` meets its contract.
-use borrow.Author.Rules.{rules}
 use mathlib.Core.Path.{sym, ◌∙◌}
-use borrow.Author.Tests.{not-true, not-false}
 use Rattle.node.specs.Node.{tick_of, tick_node}
 use Rattle.node.proofs.tick.tick.Goals as goal
 

@@ -1,14 +1,10 @@
 -- `tick::tick_lamps` meets its contract. The invariant: the lamps before `i` have ticked, the others are unchanged.
-use borrow.Author.Rules.{rules}
 use Prim.Native.Nat.{◌≤◌, ◌-◌}
-use mathlib.Core.Path.{◌≡◌, refl}
+use mathlib.Core.Path.{◌≡◌}
 use mathlib.Core.List.{◌++◌, map}
-use native.Mathlib.Omega.{arith}
 use lib.ListN.{take, drop}
 use Rattle.dpa.specs.Settings.{max_lamps}
-use Rattle.lights.specs.Lamp.{off, tick_lamp}
-use Rattle.node.specs.Node.{tick_lamps}
-use Rattle.node.proofs.Maps.{map_next, map_unchanged, map_done}
+use Rattle.lights.specs.Lamp.{tick_lamp}
 use Rattle.node.proofs.tick.tick_lamps.Given as goal
 
 abbrev pub invariant-loop-i : goal.invariant-loop-i

@@ -1,9 +1,8 @@
 -- `request_refusal`: each return by the tests before it.
-use borrow.Author.Rules.{rules}
 use mathlib.Core.Path.{◌≡◌, sym, ◌∙◌}
 use mathlib.Core.Bool.{true, false}
 use lib.Dec.{ltb}
-use borrow.Author.Tests.{lt-ltb, le-ltb, eq-eqb, ne_eqb, not-true, not-false}
+use borrow.Author.Tests.{lt-ltb, le-ltb, eq-eqb, ne_eqb}
 use Rattle.dpa.specs.Frame.{longest_response, frame_fits}
 use Rattle.node.specs.Node.{node_ok}
 use Rattle.outcome.specs.Request.{request_refusal}

@@ -1,5 +1,4 @@
 -- `list_reply`: by the cases of the enum.
-use borrow.Author.Rules.{rules}
 use mathlib.Core.Path.{ap, sym}
 use Rattle.batch.specs.declared.list.ListCheck.{ListCheck}
 use Rattle.outcome.specs.Request.{list_request}

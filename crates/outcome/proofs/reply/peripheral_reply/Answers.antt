@@ -1,5 +1,4 @@
 -- `peripheral_reply`: the effect is that of ErrN.
-use borrow.Author.Rules.{rules}
 use mathlib.Core.Path.{ap}
 use mathlib.Core.Bool.{true}
 use Rattle.outcome.specs.declared.reply.Effect.{Effect}

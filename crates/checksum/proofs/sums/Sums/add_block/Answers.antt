@@ -1,7 +1,6 @@
 -- `sums::Sums::add_block` meets its contract: the law `block_sums_lem`.
 use mathlib.Core.Path.{sym, ap, ◌∙◌}
 use native.Mathlib.Omega.{arith}
-use borrow.Author.Rules.{rules}
 use Rattle.checksum.specs.Blocks.{reduce_sums}
 use Rattle.checksum.proofs.Blocks.{block_sums_lem}
 use Rattle.checksum.proofs.sums.Sums.add_block.Goals as goal

@@ -1,12 +1,9 @@
 -- `sums::Sums::plain_sums` meets its contract. The invariant: adding the bytes from `i` on plainly gives the plain sums of the block. Its
 -- bounds keep both sums in u32.
-use Prim.Native.Nat.{ℕ, ◌+◌, ◌*◌, ◌-◌, ◌≤◌, ◌<◌}
-use mathlib.Core.Path.{◌≡◌, refl, sym, ◌∙◌}
-use native.Mathlib.Omega.{arith}
-use lib.ListN.{length, drop, get_or}
-use Rattle.dpa.specs.Lists.{Bytes}
+use Prim.Native.Nat.{ℕ, ◌+◌, ◌*◌, ◌-◌, ◌≤◌}
+use mathlib.Core.Path.{◌≡◌}
+use lib.ListN.{length, drop}
 use Rattle.checksum.specs.Blocks.{plain, plain_sums}
-use Rattle.checksum.proofs.Blocks.{plain_next, plain_done}
 use Rattle.checksum.proofs.sums.Sums.plain_sums.Given as goal
 
 -- the largest low sum, 255 + 64 * 255

@@ -1,5 +1,4 @@
 -- `frame::Frame::read` meets its contract.
-use borrow.Author.Rules.{rules}
 use Rattle.dpa.proofs.frame.Frame.read.Goals as goal
 
 pub returns : goal.returns
