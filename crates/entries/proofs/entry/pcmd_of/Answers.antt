@@ -1,6 +1,5 @@
 -- Each return decides the tests of `pcmd_of`.
 use mathlib.Core.Path.{sym, ◌∙◌}
-use borrow.Author.Rules.{rules}
 use borrow.Author.Tests.{eq-eqb, ne_eqb}
 use Rattle.entries.specs.Entry.{pcmd_of}
 use Rattle.entries.proofs.entry.pcmd_of.Goals as goal

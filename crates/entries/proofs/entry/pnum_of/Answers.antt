@@ -1,6 +1,5 @@
 -- Each return decides the tests of `pnum_of`.
 use mathlib.Core.Path.{sym, ◌∙◌}
-use borrow.Author.Rules.{rules}
 use borrow.Author.Tests.{eq-eqb, ne_eqb}
 use Rattle.entries.specs.Entry.{pnum_of}
 use Rattle.entries.proofs.entry.pnum_of.Goals as goal

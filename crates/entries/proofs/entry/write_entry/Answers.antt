@@ -3,7 +3,6 @@ use mathlib.Core.Path.{ap, ◌∙◌}
 use native.Mathlib.Omega.{arith}
 use lib.ListN.{length}
 use lib.Seq.{sets}
-use borrow.Author.Rules.{rules}
 use Rattle.book.specs.declared.step.Step.{Step}
 use Rattle.book.specs.Book.{steps_in}
 use Rattle.book.specs.Positions.{step_at}

@@ -2,7 +2,6 @@
 use Prim.Native.Nat.{◌*◌}
 use native.Mathlib.Omega.{arith}
 use lib.ListN.{length-drop}
-use borrow.Author.Rules.{rules}
 use Rattle.dpa.proofs.Lists.{slice_to_end}
 use Rattle.book.specs.Book.{step_length}
 use Rattle.entries.proofs.entry.write_entry_at.Goals as goal

@@ -1,5 +1,4 @@
 -- The head's bytes are written whole.
-use borrow.Author.Rules.{rules}
 use Rattle.entries.proofs.entry.write_head.Goals as goal
 
 pub returns : goal.returns

@@ -6,7 +6,6 @@ use Prim.Native.Nat.{ℕ}
 use native.Mathlib.Omega.{arith}
 use lib.ListN.{length, set, length-set}
 use lib.Seq.{sets}
-use borrow.Author.Rules.{rules}
 use Rattle.book.specs.declared.step.Step.{Step}
 use Rattle.book.specs.Book.{steps_in}
 use Rattle.book.specs.Positions.{step_at}

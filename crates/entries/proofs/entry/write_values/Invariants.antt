@@ -1,9 +1,7 @@
 -- The loop: the values of the first i steps are written, one byte each.
-use mathlib.Core.Path.{refl}
 use Prim.Native.Nat.{◌+◌, ◌-◌}
-use native.Mathlib.Omega.{arith}
 use Rattle.entries.specs.Entry.{value_byte}
-use Rattle.entries.proofs.Writing.{Written, written_next, written_all}
+use Rattle.entries.proofs.Writing.{Written}
 use Rattle.entries.proofs.entry.write_values.Given as goal
 
 abbrev pub invariant-loop-i : goal.invariant-loop-i

@@ -1,6 +1,5 @@
 -- The bytes from step `first` on hold the steps from it on.
 use native.Mathlib.Omega.{arith}
-use borrow.Author.Rules.{rules}
 use Rattle.entries.proofs.FirstEntry.{first_entry_from}
 use Rattle.entries.proofs.join.entry_from.Goals as goal
 

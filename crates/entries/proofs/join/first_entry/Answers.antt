@@ -1,11 +1,8 @@
 -- The loop: the first `steps` steps are in one entry, of `size` bytes so far.
 use mathlib.Core.Path.{ap, ◌∙◌}
-use Prim.Native.Nat.{◌-◌}
-use native.Mathlib.Omega.{arith}
-use borrow.Author.Rules.{rules}
 use Rattle.book.specs.declared.step.Step.{Step}
 use Rattle.entries.specs.EntrySize.{first_size}
-use Rattle.entries.proofs.FirstEntry.{FirstSteps, first_steps_start, first_steps_stop, first_steps_next, first_steps_end}
+use Rattle.entries.proofs.FirstEntry.{first_steps_start, first_steps_stop, first_steps_next, first_steps_end}
 use Rattle.entries.proofs.join.first_entry.Goals as goal
 
 pub loop-steps-init : goal.loop-steps-init

@@ -1,7 +1,6 @@
 -- A step's own bytes, after a bitmap or an address.
 use mathlib.Core.Path.{sym, ◌∙◌}
 use native.Mathlib.Omega.{arith}
-use borrow.Author.Rules.{rules}
 use Rattle.entries.specs.EntrySize.{first_size}
 use Rattle.entries.proofs.join.first_size.Goals as goal
 

@@ -1,7 +1,6 @@
 -- Each return decides one part of `joined_size`.
 use mathlib.Core.Path.{sym, ◌∙◌}
 use native.Mathlib.Omega.{arith}
-use borrow.Author.Rules.{rules}
 use Rattle.entries.proofs.FirstEntry.{size_over_limit, size_joins, size_not_follows}
 use Rattle.entries.proofs.join.joined_size.Goals as goal
 

@@ -1,7 +1,6 @@
 -- Each return decides one test of `follows`.
 use mathlib.Core.Path.{sym, ◌∙◌}
 use native.Mathlib.Numerals.{add-one}
-use borrow.Author.Rules.{rules}
 use borrow.Author.Tests.{eq-eqb, ne_eqb}
 use Rattle.entries.specs.Join.{follows}
 use Rattle.entries.proofs.join.may_follow.Goals as goal

@@ -1,7 +1,6 @@
 -- Each return decides the tests of `step_size`.
 use mathlib.Core.Path.{sym, ◌∙◌}
 use native.Mathlib.Omega.{arith}
-use borrow.Author.Rules.{rules}
 use borrow.Author.Tests.{eq-eqb, ne_eqb}
 use Rattle.entries.specs.EntrySize.{step_size, power_size}
 use Rattle.entries.proofs.join.step_size.Goals as goal

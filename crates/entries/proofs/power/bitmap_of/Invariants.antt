@@ -1,8 +1,6 @@
 -- The loop: `bitmap` is that of the first i steps.
-use mathlib.Core.Path.{refl}
 use Prim.Native.Nat.{◌-◌}
-use native.Mathlib.Omega.{arith}
-use Rattle.entries.proofs.Writing.{BitmapOfFirst, bitmap_next, bitmap_all}
+use Rattle.entries.proofs.Writing.{BitmapOfFirst}
 use Rattle.entries.proofs.power.bitmap_of.Given as goal
 
 abbrev pub invariant-loop-i : goal.invariant-loop-i

@@ -1,7 +1,6 @@
 -- The bit of a lamp: 2 to its number, within the bound.
 use native.Mathlib.Omega.{arith}
 use lib.Pow.{pow_mono}
-use borrow.Author.Rules.{rules}
 use Rattle.dpa.specs.Settings.{max_lamps}
 use Rattle.entries.proofs.power.lamp_bit.Goals as goal
 

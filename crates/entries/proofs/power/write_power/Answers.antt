@@ -2,7 +2,6 @@
 use mathlib.Core.Path.{ap}
 use native.Mathlib.Omega.{arith}
 use lib.ListN.{length}
-use borrow.Author.Rules.{rules}
 use Rattle.entries.proofs.Writing.{power_untimed, power_timed}
 use Rattle.entries.proofs.power.write_power.Goals as goal
 

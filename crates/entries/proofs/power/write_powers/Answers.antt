@@ -1,9 +1,8 @@
 -- The loop: the power bytes of the first i steps are written.
 use mathlib.Core.Path.{refl}
-use Prim.Native.Nat.{◌-◌}
 use native.Mathlib.Omega.{arith}
 use Rattle.entries.specs.Entry.{power_bytes}
-use Rattle.entries.proofs.Writing.{room, Written, written_next, written_all}
+use Rattle.entries.proofs.Writing.{room, written_next, written_all}
 use Rattle.entries.proofs.power.write_powers.Goals as goal
 
 pub loop-i-init : goal.loop-i-init

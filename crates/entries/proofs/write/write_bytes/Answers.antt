@@ -1,7 +1,6 @@
 -- Copying to a position is writing byte after byte.
 use mathlib.Core.Path.{refl, sym, ◌∙◌}
 use lib.Seq.{sets-eq}
-use borrow.Author.Rules.{rules}
 use Rattle.entries.proofs.write.write_bytes.Goals as goal
 
 pub returns : goal.returns

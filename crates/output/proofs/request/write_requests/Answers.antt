@@ -78,28 +78,28 @@ pub bounds-spans-index : goal.bounds-spans-index
 bounds-spans-index c =
     let a = c.args in
     let l = c.loop-step in
-    let span = the_span a.limits.entry a.spans.now a.body.now a.count l.step l.index c.requires.3.entry c.requires.2 c.loop-step-test.true l.invariant.1 in
+    let span = the_span a.limits.entry a.spans.now a.body.now a.count l.step l.index c.requires.3.entry c.requires.2 (omega (arith, c.loop-step-test.true)) l.invariant.1 in
     omega (arith, span.in_range)
 
 pub overflow_add-index : goal.overflow_add-index
 overflow_add-index c =
     let a = c.args in
     let l = c.loop-step in
-    let span = the_span a.limits.entry a.spans.now a.body.now a.count l.step l.index c.requires.3.entry c.requires.2 c.loop-step-test.true l.invariant.1 in
+    let span = the_span a.limits.entry a.spans.now a.body.now a.count l.step l.index c.requires.3.entry c.requires.2 (omega (arith, c.loop-step-test.true)) l.invariant.1 in
     omega (arith, span.in_range)
 
 pub bounds-spans-index-in-loop-step : goal.bounds-spans-index-in-loop-step
 bounds-spans-index-in-loop-step c =
     let a = c.args in
     let l = c.loop-step in
-    let span = the_span a.limits.entry a.spans.now a.body.now a.count l.step l.index c.requires.3.entry c.requires.2 c.loop-step-test.true l.invariant.1 in
+    let span = the_span a.limits.entry a.spans.now a.body.now a.count l.step l.index c.requires.3.entry c.requires.2 (omega (arith, c.loop-step-test.true)) l.invariant.1 in
     span.in_range
 
 pub overflow_add-index-in-loop-step : goal.overflow_add-index-in-loop-step
 overflow_add-index-in-loop-step c =
     let a = c.args in
     let l = c.loop-step in
-    let span = the_span a.limits.entry a.spans.now a.body.now a.count l.step l.index c.requires.3.entry c.requires.2 c.loop-step-test.true l.invariant.1 in
+    let span = the_span a.limits.entry a.spans.now a.body.now a.count l.step l.index c.requires.3.entry c.requires.2 (omega (arith, c.loop-step-test.true)) l.invariant.1 in
     omega (arith, span.in_range)
 
 pub next_list-list-requires : goal.next_list-list-requires
@@ -107,7 +107,7 @@ next_list-list-requires c =
     let a = c.args in
     let l = c.loop-step in
     let limits : Limits a.limits.entry a.limits.list a.front.now = c.requires.3 in
-    let span = the_span a.limits.entry a.spans.now a.body.now a.count l.step l.index limits.entry c.requires.2 c.loop-step-test.true l.invariant.1 in
+    let span = the_span a.limits.entry a.spans.now a.body.now a.count l.step l.index limits.entry c.requires.2 (omega (arith, c.loop-step-test.true)) l.invariant.1 in
     let entry : FirstEntry a.limits.entry (drop l.step (steps_in a.count a.body.now)) c.wide-steps.result c.wide-pdata.result =
     rw (c.wide-steps.ensures.0, c.wide-pdata.ensures.0) span.entry in
     let r = room a.limits a.header a.front.now a.body.now a.count limits c.requires.2 (omega (arith, c.if-count-eq0.false)) a.at a.out.now c.requires.5 in (
@@ -123,7 +123,7 @@ write_entry_at-end-requires c =
     let l = c.loop-step in
     let limits : Limits a.limits.entry a.limits.list a.front.now = c.requires.3 in
     let steps : List Step = steps_in a.count a.body.now in
-    let span = the_span a.limits.entry a.spans.now a.body.now a.count l.step l.index limits.entry c.requires.2 c.loop-step-test.true l.invariant.1 in
+    let span = the_span a.limits.entry a.spans.now a.body.now a.count l.step l.index limits.entry c.requires.2 (omega (arith, c.loop-step-test.true)) l.invariant.1 in
     let entry : FirstEntry a.limits.entry (drop l.step steps) c.wide-steps.result c.wide-pdata.result =
     rw (c.wide-steps.ensures.0, c.wide-pdata.ensures.0) span.entry in
     let slice : l.step + c.wide-steps.result ≤ a.count =
@@ -144,7 +144,7 @@ pub overflow_add-step : goal.overflow_add-step
 overflow_add-step c =
     let a = c.args in
     let l = c.loop-step in
-    let span = the_span a.limits.entry a.spans.now a.body.now a.count l.step l.index c.requires.3.entry c.requires.2 c.loop-step-test.true l.invariant.1 in
+    let span = the_span a.limits.entry a.spans.now a.body.now a.count l.step l.index c.requires.3.entry c.requires.2 (omega (arith, c.loop-step-test.true)) l.invariant.1 in
     let entry : FirstEntry a.limits.entry (drop l.step (steps_in a.count a.body.now)) c.wide-steps.result c.wide-pdata.result =
     rw (c.wide-steps.ensures.0, c.wide-pdata.ensures.0) span.entry in
     omega (arith, entry.within, length-drop l.step (steps_in a.count a.body.now), steps_length a.count a.body.now, c.requires.1, c.loop-step-test.true)
@@ -153,7 +153,7 @@ pub loop-step-smaller : goal.loop-step-smaller
 loop-step-smaller c =
     let a = c.args in
     let l = c.loop-step in
-    let span = the_span a.limits.entry a.spans.now a.body.now a.count l.step l.index c.requires.3.entry c.requires.2 c.loop-step-test.true l.invariant.1 in
+    let span = the_span a.limits.entry a.spans.now a.body.now a.count l.step l.index c.requires.3.entry c.requires.2 (omega (arith, c.loop-step-test.true)) l.invariant.1 in
     let entry : FirstEntry a.limits.entry (drop l.step (steps_in a.count a.body.now)) c.wide-steps.result c.wide-pdata.result =
     rw (c.wide-steps.ensures.0, c.wide-pdata.ensures.0) span.entry in
     omega (arith, entry.some, c.loop-step-test.true)
@@ -163,7 +163,7 @@ loop-step-preserved c =
     let a = c.args in
     let l = c.loop-step in
     let steps : List Step = steps_in a.count a.body.now in
-    let span = the_span a.limits.entry a.spans.now a.body.now a.count l.step l.index c.requires.3.entry c.requires.2 c.loop-step-test.true l.invariant.1 in
+    let span = the_span a.limits.entry a.spans.now a.body.now a.count l.step l.index c.requires.3.entry c.requires.2 (omega (arith, c.loop-step-test.true)) l.invariant.1 in
     let entry : FirstEntry a.limits.entry (drop l.step steps) c.wide-steps.result c.wide-pdata.result =
     rw (c.wide-steps.ensures.0, c.wide-pdata.ensures.0) span.entry in
     let slice : l.step + c.wide-steps.result ≤ a.count =
@@ -178,6 +178,16 @@ loop-step-preserved c =
     )
 
 -- ---- after the last entry only the closing zero remains
+
+pub returns : goal.returns
+returns c =
+    let a = c.args in
+    let w = c.write_prefix-end in
+    let last = progress_end c.requires.3 (remaining_bytes a.limits.list (prefix a.header a.front.now) a.header.hwpid) (steps_in a.count a.body.now) w.new.out w.result _ _ _ _
+    c.loop-step.invariant.0 (omega (arith, steps_length a.count a.body.now, c.loop-step-test.false)) in
+    let x = remaining_end w.new.out w.result (all a.limits a.header a.front.now (steps_in a.count a.body.now)) _ _ _ last _ _ refl refl in
+    two_writes a.out.now w.new.out _ (prefix a.header a.front.now) (all a.limits a.header a.front.now (steps_in a.count a.body.now)) _ a.at w.result _ w.ensures.1 w.ensures.0 x.1 x.0
+    (all_is a.limits a.header a.front.now a.body.now a.count c.requires.3 c.requires.2 (omega (arith, c.if-count-eq0.false)))
 
 pub bounds-out-end : goal.bounds-out-end
 bounds-out-end c =
@@ -196,13 +206,3 @@ overflow_add-result c =
     let last = progress_end c.requires.3 (remaining_bytes a.limits.list (prefix a.header a.front.now) a.header.hwpid) (steps_in a.count a.body.now) w.new.out w.result _ _ _ _
     c.loop-step.invariant.0 (omega (arith, steps_length a.count a.body.now, c.loop-step-test.false)) in
     omega (arith, last.end, last.same_size, r, w.ensures.0, w.auto.out)
-
-pub returns : goal.returns
-returns c =
-    let a = c.args in
-    let w = c.write_prefix-end in
-    let last = progress_end c.requires.3 (remaining_bytes a.limits.list (prefix a.header a.front.now) a.header.hwpid) (steps_in a.count a.body.now) w.new.out w.result _ _ _ _
-    c.loop-step.invariant.0 (omega (arith, steps_length a.count a.body.now, c.loop-step-test.false)) in
-    let x = remaining_end w.new.out w.result (all a.limits a.header a.front.now (steps_in a.count a.body.now)) _ _ _ last _ _ refl refl in
-    two_writes a.out.now w.new.out _ (prefix a.header a.front.now) (all a.limits a.header a.front.now (steps_in a.count a.body.now)) _ a.at w.result _ w.ensures.1 w.ensures.0 x.1 x.0
-    (all_is a.limits a.header a.front.now a.body.now a.count c.requires.3 c.requires.2 (omega (arith, c.if-count-eq0.false)))

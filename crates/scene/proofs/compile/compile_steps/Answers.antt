@@ -1,8 +1,8 @@
 -- `compile::compile_steps`: a bad step, a short buffer, or the output.
-use mathlib.Core.Path.{◌≡◌, sym, ap, ◌∙◌}
+use mathlib.Core.Path.{◌≡◌, sym, ◌∙◌}
 use native.Mathlib.Omega.{arith}
 use lib.ListN.{length}
-use borrow.Author.Tests.{lt-ltb, le-ltb}
+use borrow.Author.Tests.{le-ltb}
 use Rattle.book.specs.Book.{steps_in}
 use Rattle.step.specs.declared.fault.StepsCheck.TheVariants.{AllGood}
 use Rattle.step.specs.Step.{first_bad_from, AllStepsGood}
@@ -10,16 +10,8 @@ use Rattle.step.proofs.GoodSteps.{good_index}
 use Rattle.output.specs.Output.{output, min_output}
 use Rattle.output.specs.Fill.{requests_with}
 use Rattle.output.proofs.Progress.{steps_fit}
-use Rattle.scene.specs.declared.compile.CompileAnswer.{CompileAnswer}
-use Rattle.scene.specs.Call.{compile_result}
 use Rattle.scene.proofs.Calls.{result_written}
 use Rattle.scene.proofs.compile.compile_steps.Goals as goal
-
-pub returns-then-out-lt-MIN_OUTPUT : goal.returns-then-out-lt-MIN_OUTPUT
-returns-then-out-lt-MIN_OUTPUT c =
-    let all-good : first_bad_from 0 (steps_in c.args.count c.args.body.now) ≡ AllGood = sym c.check_steps.ensures ∙ c.in_default.is in
-    let out = c.args.out.now in
-    rw (all-good, lt-ltb (length out) min_output c.if-out-lt-MIN_OUTPUT.true) (ap (λ (r : CompileAnswer). compile_result r out) c.refused-then-out-lt-MIN_OUTPUT.ensures)
 
 pub write_output-length-requires : goal.write_output-length-requires
 write_output-length-requires c =

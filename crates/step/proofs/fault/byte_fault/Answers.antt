@@ -1,7 +1,6 @@
 -- Each return decides one test of `byte_fault`.
 use Prim.Native.Nat.{◌<◌}
 use native.Mathlib.Omega.{arith}
-use borrow.Author.Rules.{rules}
 use borrow.Author.Tests.{le-leb, lt-leb, eq-eqb, ne_eqb}
 use Rattle.memory.specs.Block.{size_of}
 use Rattle.step.specs.Step.{byte_fault}

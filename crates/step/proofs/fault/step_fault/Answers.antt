@@ -1,6 +1,5 @@
 -- Each return decides one test of `step_fault`.
 use mathlib.Core.Path.{sym, ◌∙◌}
-use borrow.Author.Rules.{rules}
 use borrow.Author.Tests.{eq-eqb, ne_eqb}
 use Rattle.step.specs.Step.{step_fault}
 use Rattle.step.proofs.fault.step_fault.Goals as goal
