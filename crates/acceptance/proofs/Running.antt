@@ -17,7 +17,7 @@ use Rattle.outcome.specs.Request.{handle_request}
 use Rattle.outcome.proofs.Soundness.{request_sound}
 use Rattle.book.specs.Book.{scene_of}
 use Rattle.step.specs.Machine.{machine}
-use Rattle.output.specs.Output.{output, requests_in, CompleteOutput}
+use Rattle.output.specs.Output.{requests_in, CompleteOutput}
 use Rattle.scene.specs.Call.{CompileResult, output_of, compile_for}
 use Rattle.scene.proofs.Refusals.{compile_refusals, output_inside, output_whole}
 use Rattle.acceptance.specs.SceneTheorem.{Given, after_calls}

@@ -1,5 +1,4 @@
 -- `run::handle_output`: the length bytes and the requests are the two parts of the output.
-use borrow.Author.Rules.{rules}
 use mathlib.Core.Path.{ap, ◌∙◌}
 use mathlib.Core.List.{List}
 use Prim.Native.Nat.{ℕ}
