@@ -1,16 +1,16 @@
-# make                  proves and builds target/staticlib/libgrelfint.a
+# make                  proves and builds crates/grelfint/out/libgrelfint.a
 # make check            runs the gate: all proofs, all wrong programs, all tests
 # make install PREFIX=  installs header, archive and pkg-config file
 PREFIX = /usr/local
 VERSION = $(shell sed -n 's/^.define GRELFINT_VERSION "\(.*\)"$$/\1/p' include/grelfint.h)
 installed = $(DESTDIR)$(PREFIX)
-archive = target/staticlib/libgrelfint.a
-sources = crates.txt $(shell find crates -name must-fail -prune -o -type f -print)
+archive = crates/grelfint/out/libgrelfint.a
+sources = crates.txt $(shell find crates \( -name must-fail -o -name out \) -prune -o -type f -print)
 
 all: $(archive)
 
 $(archive): $(sources)
-	rt staticlib grelfint
+	cd crates/grelfint && rt lib
 
 check:
 	.ci/run

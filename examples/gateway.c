@@ -3,7 +3,7 @@
  * repository's root:
  *
  *   make
- *   cc -Iinclude examples/gateway.c target/staticlib/libgrelfint.a -o gateway && ./gateway */
+ *   cc -Iinclude examples/gateway.c crates/grelfint/out/libgrelfint.a -o gateway && ./gateway */
 #include <stdio.h>
 
 #include "grelfint.h"

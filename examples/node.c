@@ -3,7 +3,7 @@
  * the lamps are simulated. From the repository's root:
  *
  *   make
- *   cc -Iinclude examples/node.c target/staticlib/libgrelfint.a -o node && ./node */
+ *   cc -Iinclude examples/node.c crates/grelfint/out/libgrelfint.a -o node && ./node */
 #include <stdio.h>
 #include <stdlib.h>
 

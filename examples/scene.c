@@ -3,7 +3,7 @@
  * From the repository's root:
  *
  *   make
- *   cc -Iinclude examples/scene.c target/staticlib/libgrelfint.a -o scene
+ *   cc -Iinclude examples/scene.c crates/grelfint/out/libgrelfint.a -o scene
  *   ./scene < examples/evening.book */
 #include <stdio.h>
 

@@ -2,7 +2,7 @@
  * prints each frame and each drop. From the repository's root:
  *
  *   make
- *   cc -Iinclude examples/serial.c target/staticlib/libgrelfint.a -o serial
+ *   cc -Iinclude examples/serial.c crates/grelfint/out/libgrelfint.a -o serial
  *   ./serial < examples/serial.bytes */
 #include <errno.h>
 #include <stdio.h>

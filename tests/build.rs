@@ -27,7 +27,7 @@ fn folder(variable: &str) -> PathBuf {
 /// Makes a copy of the library with aligned functions, which is the only one that the linker can find: the configuration
 /// replaces the build script of the bindings.
 fn align_library(here: &Path, out: &Path) {
-    let folder = env::var_os("GRELFINT_LIB_DIR").map_or_else(|| here.join("../target/staticlib"), PathBuf::from);
+    let folder = env::var_os("GRELFINT_LIB_DIR").map_or_else(|| here.join("../crates/grelfint/out"), PathBuf::from);
     let (archive, copy) = (folder.join("libgrelfint.a"), out.join("libgrelfint.a"));
     run(Command::new("objcopy").args(["--set-section-alignment", ".text.*=64"]).arg(&archive).arg(copy));
     println!("cargo:rustc-link-search=native={}", out.display());

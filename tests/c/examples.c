@@ -95,15 +95,11 @@ static grelfint_lamp lamp(uint8_t level, uint16_t seconds)
     return (grelfint_lamp){.level = level, .seconds = seconds};
 }
 
-/* A started node whose bytes of RAM then differ. */
 static grelfint_node started(grelfint_settings settings)
 {
     grelfint_node_answer answer = grelfint_start(settings);
-    uint8_t i;
 
     check("start", answer.refusal == 0);
-    for (i = 0; i < GRELFINT_RAM; i++)
-        answer.node.ram[i] = 1 + i;
     return answer.node;
 }
 

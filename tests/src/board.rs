@@ -3,7 +3,7 @@
 //! from steps.
 use crate::node::code::CodeType;
 use crate::node::reference::{Parts, EEPROM_SIZE, EXTERNAL_SIZE};
-use crate::records::{self, SETTINGS};
+use crate::records::SETTINGS;
 use crate::sides::Side;
 use grelfint::raw::{Node, NodeSet, RequestAnswer, Settings};
 
@@ -29,16 +29,14 @@ impl Lengths {
 }
 
 impl Board {
-    /// A node with these settings and those of `SETTINGS`, as it is started but for the bytes of its RAM, which differ; and
-    /// memories of zeros.
+    /// A fresh node with these settings and those of `SETTINGS`, and memories of zeros.
     pub fn started(side: Side, lamp_count: u8, step: u8) -> Board {
         let settings = Settings { lamp_count, step, ..SETTINGS };
         let a = (side.start)(settings);
         assert_eq!(a.refusal, 0);
         assert_eq!(a.node, Node { settings, ..Node::ZERO });
         let (eeprom, external) = (vec![0; EEPROM_SIZE], vec![0; EXTERNAL_SIZE]);
-        let node = Node { ram: records::ram(), ..a.node };
-        Board { side, node, eeprom, external, response: vec![0xEE; 64] }
+        Board { side, node: a.node, eeprom, external, response: vec![0xEE; 64] }
     }
 
     /// The call itself; the board's node is not updated.

@@ -1,6 +1,6 @@
 //! The records that tests start from. A test names only the fields that matter
 //! to it, so that a new field is an edit of this file.
-use grelfint::raw::{Gateway, Lamp, Node, Receiver, SendQueue, Settings, Waiting};
+use grelfint::raw::{Gateway, Lamp, Node, SendQueue, Settings, Waiting};
 use std::array::from_fn;
 
 /// Those of document 01's examples: node 1, three lamps, dimming step 1.
@@ -10,11 +10,6 @@ pub const fn lamp(level: u8, seconds: u16) -> Lamp {
     Lamp { level, seconds }
 }
 
-/// 1, 2, 3 and so on.
-pub fn ram() -> [u8; 48] {
-    from_fn(|i| 1 + i as u8)
-}
-
 /// A sound node whose fields, lamps and bytes of RAM all differ, and are not 0: it shows if two of them are exchanged or
 /// one is lost.
 pub fn varied_node() -> Node {
@@ -22,11 +17,6 @@ pub fn varied_node() -> Node {
     let lamps = from_fn(|i| lamp(100 - 2 * i as u8, 300 + 217 * i as u16));
     let ram = from_fn(|i| 0x81 + i as u8);
     Node { settings, lamps, ram }
-}
-
-/// A receiver with these fields, sound or not, whose bytes all differ and are neither flags nor escapes.
-pub fn receiver(limit: u8, phase: u8, count: u8) -> Receiver {
-    Receiver { limit, phase, count, bytes: from_fn(|i| 0x81 + i as u8) }
 }
 
 /// A sound gateway, with seven requests, in an STD+LP network, whose fields, places and bytes of bonds all differ, and are

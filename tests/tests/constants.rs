@@ -1,5 +1,5 @@
 //! The named sizes and numbers are the same everywhere: those of the proved code,
-//! which ../target/bin/constants prints (`CONSTANTS` selects another binary),
+//! which ../crates/constants/out/constants prints (`CONSTANTS` selects another binary),
 //! those of include/grelfint.h, and those of the Rust bindings. A line of the
 //! program is a name, without the header's prefix, and its value or values.
 use std::collections::{BTreeMap, BTreeSet};
@@ -33,8 +33,8 @@ fn constants_in(lines: &str) -> Constants {
 }
 
 fn of_the_proved_code() -> Constants {
-    let program =
-        std::env::var_os("CONSTANTS").map_or_else(|| repository().join("target/bin/constants"), PathBuf::from);
+    let program = std::env::var_os("CONSTANTS")
+        .map_or_else(|| repository().join("crates/constants/out/constants"), PathBuf::from);
     constants_in(&output_of(&mut Command::new(program)))
 }
 

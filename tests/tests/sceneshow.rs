@@ -1,4 +1,4 @@
-//! Runs ../target/bin/sceneshow as a process and compares its output with the
+//! Runs ../crates/sceneshow/out/sceneshow as a process and compares its output with the
 //! reference. `SCENESHOW` selects another binary.
 use grelfint_tests::board::book_of;
 use grelfint_tests::rng::{seed, Rng};
@@ -11,7 +11,7 @@ use std::time::Duration;
 fn program() -> PathBuf {
     match std::env::var("SCENESHOW") {
         Ok(path) => PathBuf::from(path),
-        Err(_) => PathBuf::from(env!("CARGO_MANIFEST_DIR")).join("../target/bin/sceneshow"),
+        Err(_) => PathBuf::from(env!("CARGO_MANIFEST_DIR")).join("../crates/sceneshow/out/sceneshow"),
     }
 }
 

@@ -193,7 +193,7 @@ fn stated(header: &str) -> BTreeMap<String, i64> {
 
 #[test]
 fn stack_as_stated() {
-    let folder = std::env::var_os("GRELFINT_LIB_DIR").map_or_else(|| root().join("target/staticlib"), PathBuf::from);
+    let folder = std::env::var_os("GRELFINT_LIB_DIR").map_or_else(|| root().join("crates/grelfint/out"), PathBuf::from);
     let archive = folder.join("libgrelfint.a");
     let dump = Command::new("objdump").args(["-dr", "--no-show-raw-insn"]).arg(&archive).output().expect("objdump");
     assert!(dump.status.success(), "{}", String::from_utf8_lossy(&dump.stderr));

@@ -6,7 +6,7 @@
 //! methods, `Result` with a [`Refusal`], and slices. Nothing is allocated.
 //!
 //! # Linking
-//! `rt staticlib grelfint` in the repository builds the archive, and the build
+//! `rt lib` in the repository's crates/grelfint builds the archive, and the build
 //! script finds it there. `GRELFINT_LIB_DIR` names another folder, as an absolute
 //! path.
 //!

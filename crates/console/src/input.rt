@@ -1,5 +1,10 @@
 // Reading the book.
-use libc::STDIN_FILENO;
+use crate::failure::tell_failure;
+use crate::number::{LONGEST_ARGUMENT, argument_text};
+use std::io::{ErrorKind, Read};
+use std::rt::{Env, Files};
+use std::str::from_utf8;
+use std::{fs, io};
 
 // Argument 0 is the program's name, so that no file has this number.
 pub const NO_FILE: usize = 0;
@@ -13,39 +18,52 @@ pub enum Input {
 }
 
 // Reads until the input ends or the buffer is full.
-fn read_all(file: i32, name: &[u8], book: &mut [u8]) -> Input {
+fn read_all(file: &mut impl Read, errors: &impl Print, name: &[u8], book: &mut [u8]) -> Input {
     let mut n: usize = 0;
     while n < book.len() {
-        let got = libc::read(file, &mut book[n..]);
-        if got < 0 {
-            os::fail(name);
-            return Input::Failed;
+        match file.read(&mut book[n..]) {
+            Ok(0) => return Input::Bytes(n),
+            Ok(more) => n = n + more,
+            Err(error) => {
+                tell_failure(errors, name, error);
+                return Input::Failed;
+            }
         }
-        let more = io::count(got, &book[n..]);
-        if more == 0 {
-            return Input::Bytes(n);
-        }
-        n = n + more;
     }
     Input::Bytes(n)
 }
 
-// Reads the file that an argument names, or standard input.
-pub fn read_input(argument: usize, book: &mut [u8]) -> Input {
+// A path is UTF-8 for std, so that a file with another name cannot be opened.
+fn open<R: Files>(rt: &R, path: &[u8]) -> io::Result<R::File> {
+    match from_utf8(path) {
+        Ok(path) => fs::open(rt, path),
+        Err(_) => Err(io::Error::from(ErrorKind::InvalidFilename)),
+    }
+}
+
+// Reads the file that an argument names, or standard input. What fails is told to `errors`.
+pub fn read_input<R: Env + Files + io::Input>(
+    rt: &R,
+    errors: &impl Print,
+    argument: usize,
+    book: &mut [u8],
+) -> Input {
     if argument == NO_FILE {
-        return read_all(STDIN_FILENO, b"standard input", book);
+        return read_all(&mut rt.reader(), errors, b"standard input", book);
     }
-    let mut path = io::buffer();
-    let length = os::arg(argument, &mut path);
+    let mut path = [0u8; LONGEST_ARGUMENT];
+    let length = argument_text(rt, argument, &mut path);
     if length == 1 && path[0] == b'-' {
-        return read_all(STDIN_FILENO, b"standard input", book);
+        return read_all(&mut rt.reader(), errors, b"standard input", book);
     }
-    let file = os::open_read(&path[..length]);
-    if file < 0 {
-        os::fail(&path[..length]);
-        return Input::Failed;
+    match open(rt, &path[..length]) {
+        Ok(file) => {
+            let mut file = file;
+            read_all(&mut file, errors, &path[..length], book)
+        }
+        Err(error) => {
+            tell_failure(errors, &path[..length], error);
+            Input::Failed
+        }
     }
-    let input = read_all(file, &path[..length], book);
-    libc::close(file);
-    input
 }

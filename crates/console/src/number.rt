@@ -1,6 +1,8 @@
 // Numbers in the arguments.
 ghost use Rattle.std.specs.Prelude.{◌<◌, ◌≤◌};
 
+use std::rt::Env;
+
 // `value` is 0 if the text is not a number.
 #[derive(Clone, Copy)]
 pub struct Number {
@@ -50,14 +52,24 @@ fn digits(text: &[u8], base: usize, most: usize) -> Number
     Number { ok: true, value }
 }
 
+// A longer argument is too long.
+pub const LONGEST_ARGUMENT: usize = 4096;
+
+// Puts argument i at the start of the buffer, and returns its length: 0 if it is missing or does not fit.
+pub fn argument_text(rt: &impl Env, i: usize, text: &mut [u8; LONGEST_ARGUMENT]) -> usize
+    ensures { result ≤ LONGEST_ARGUMENT }
+{
+    rt.arg(i, text).unwrap_or(0)
+}
+
 // Reads the number that is argument i: decimal, or hexadecimal after `0x`, up to `most`. An argument that is missing or does not fit the
 // buffer is read as an empty text, which is no number.
-pub fn number_argument(i: usize, most: usize) -> Number
+pub fn number_argument(rt: &impl Env, i: usize, most: usize) -> Number
     requires { 16 ≤ most }
     ensures { result.value ≤ most }
 {
-    let mut text = io::buffer();
-    let length = os::arg(i, &mut text);
+    let mut text = [0u8; LONGEST_ARGUMENT];
+    let length = argument_text(rt, i, &mut text);
     if 2 <= length && text[0] == b'0' && text[1] == b'x' {
         return digits(&text[2..length], 16, most);
     }

@@ -12,7 +12,6 @@ mod sizes;
 ghost use Rattle.std.specs.Prelude.{◌≤◌, length};
 
 use dpa::settings::step_ok;
-use libc::STDOUT_FILENO;
 
 // Where the name that starts here ends: before a space or a line end.
 fn name_end(names: &[u8], start: usize) -> usize
@@ -29,15 +28,14 @@ fn name_end(names: &[u8], start: usize) -> usize
     end
 }
 
-fn print(name: &[u8], value: u64) {
-    io::write_all(STDOUT_FILENO, name);
-    io::write_all(STDOUT_FILENO, b" ");
-    io::print_decimal(STDOUT_FILENO, value);
-    io::write_all(STDOUT_FILENO, b"\n");
+// What cannot be written is left out.
+fn print(rt: &impl Print, name: &[u8], value: u64) {
+    let _ = rt.write_all(name);
+    let _ = println!(rt; " {value}");
 }
 
 // Prints each name with its value.
-pub fn print_all(names: &[u8], values: &[u64]) {
+pub fn print_all(rt: &impl Print, names: &[u8], values: &[u64]) {
     let mut start: usize = 0;
     let mut i: usize = 0;
     while i < values.len() {
@@ -45,28 +43,27 @@ pub fn print_all(names: &[u8], values: &[u64]) {
             return;
         }
         let end = name_end(names, start);
-        print(&names[start..end], values[i]);
+        print(rt, &names[start..end], values[i]);
         start = end + 1;
         i = i + 1;
     }
 }
 
 // The dimming steps that settings may have, as one list.
-fn dimming_steps() {
-    io::write_all(STDOUT_FILENO, b"DIMMING_STEPS");
+fn dimming_steps(rt: &impl Print) {
+    let _ = print!(rt; "DIMMING_STEPS");
     for n in 0u16..256 {
         let step = (n % 256) as u8;
         if step_ok(step) {
-            io::write_all(STDOUT_FILENO, b" ");
-            io::print_decimal(STDOUT_FILENO, step as u64);
+            let _ = print!(rt; " {step}");
         }
     }
-    io::write_all(STDOUT_FILENO, b"\n");
+    let _ = println!(rt; "");
 }
 
-fn main() {
-    sizes::print_sizes();
-    numbers::print_numbers();
-    records::print_records();
-    dimming_steps();
+fn main(rt: HostRuntime) {
+    sizes::print_sizes(&rt);
+    numbers::print_numbers(&rt);
+    records::print_records(&rt);
+    dimming_steps(&rt);
 }

@@ -68,7 +68,7 @@ const ADDRESSES: [u64; 3] = [
     Frame::ANY_HWPID as u64,
 ];
 
-fn print_memory_commands() {
+fn print_memory_commands(rt: &impl Print) {
     let commands = [
         read_command(Memory::Eeprom) as u64,
         write_command(Memory::Eeprom) as u64,
@@ -78,30 +78,35 @@ fn print_memory_commands() {
         write_command(Memory::Ram) as u64,
     ];
     print_all(
+        rt,
         b"PCMD_EEPROM_READ PCMD_EEPROM_WRITE PCMD_EXTERNAL_READ PCMD_EXTERNAL_WRITE PCMD_RAM_READ PCMD_RAM_WRITE",
         &commands,
     );
 }
 
-pub fn print_numbers() {
+pub fn print_numbers(rt: &impl Print) {
     print_all(
+        rt,
         b"OK REFUSED_NODE REFUSED_FRAME REFUSED_RESPONSE REFUSED_MEMORY REFUSED_PDATA REFUSED_VIEW REFUSED_BLOCK REFUSED_RANGE
 REFUSED_BOOK REFUSED_SCENE REFUSED_STEP_KIND REFUSED_STEP_TARGET REFUSED_STEP_VALUE REFUSED_STEP_TIME REFUSED_OUTPUT
 REFUSED_FRAMED REFUSED_ADDRESS REFUSED_FULL REFUSED_TIME",
         &REFUSALS,
     );
     print_all(
+        rt,
         b"ERRN_NONE ERRN_FAIL ERRN_PCMD ERRN_PNUM ERRN_ADDR ERRN_DATA_LEN ERRN_DATA ERRN_HWPID",
         &ERRORS,
     );
     print_all(
+        rt,
         b"PNUM_OS PNUM_EEPROM PNUM_EXTERNAL PNUM_RAM PNUM_LIGHTS",
         &PERIPHERALS,
     );
-    print_memory_commands();
+    print_memory_commands(rt);
     print_all(
+        rt,
         b"PCMD_OS_BATCH PCMD_OS_CODE_CHECK PCMD_OS_SELECTIVE_BATCH PCMD_LIGHTS_SET PCMD_LIGHTS_RAISE PCMD_LIGHTS_LOWER PCMD_LIGHTS_ENUMERATE PCMD_RESPONSE",
         &COMMANDS,
     );
-    print_all(b"NADR_BROADCAST ADDRESS_MAX HWPID_ANY", &ADDRESSES);
+    print_all(rt, b"NADR_BROADCAST ADDRESS_MAX HWPID_ANY", &ADDRESSES);
 }

@@ -44,8 +44,9 @@ const RECORDS: [u64; 33] = [
     WAIT_MAX,
 ];
 
-pub fn print_records() {
+pub fn print_records(rt: &impl Print) {
     print_all(
+        rt,
         b"FRC_ON FRC_ALARM FRC_NOT_IMPLEMENTED FRC_NO FRC_YES
 LEVEL_MAX SECONDS_MAX POWER_KEEP POWER_TIMED TIME_SECONDS
 REASON_NONE REASON_SHORT REASON_PAST_END REASON_UNCLOSED REASON_TRAILING

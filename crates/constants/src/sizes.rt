@@ -59,28 +59,31 @@ const OFFSETS: [u64; 11] = [
 ];
 
 // The longest blocks that one request reads or writes.
-fn print_blocks() {
+fn print_blocks(rt: &impl Print) {
     let blocks = [
         longest_of(Memory::Ram) as u64,
         longest_of(Memory::Eeprom) as u64,
         longest_of(Memory::External) as u64,
     ];
-    print_all(b"RAM_BLOCK EEPROM_BLOCK EXTERNAL_BLOCK", &blocks);
+    print_all(rt, b"RAM_BLOCK EEPROM_BLOCK EXTERNAL_BLOCK", &blocks);
 }
 
-pub fn print_sizes() {
+pub fn print_sizes(rt: &impl Print) {
     print_all(
+        rt,
         b"LAMPS SCENES STEPS QUEUE
 RAM EEPROM EXTERNAL",
         &COUNTS,
     );
-    print_blocks();
+    print_blocks(rt);
     print_all(
+        rt,
         b"FRAME_HEADER PDATA FRAME RESPONSE_HEADER RESPONSE CONFIRMATION ENTRY_HEADER BITMAP UART_FRAME UART_FRAMED
 BOOK BOOK_LOCATION BOOK_STEP COMPILED NODE_SET BONDS",
         &SIZES,
     );
     print_all(
+        rt,
         b"AT_NADR AT_PNUM AT_PCMD AT_HWPID AT_PDATA AT_ERRN AT_DPA_VALUE AT_DATA AT_HOPS AT_TIMESLOT AT_RESPONSE_HOPS",
         &OFFSETS,
     );

@@ -26,7 +26,7 @@ use Rattle.effects.specs.declared.walk.Rest.{Rest}
 use Rattle.effects.specs.declared.walk.Rest.TheVariants.{Ended, Whole, Entries}
 use Rattle.effects.specs.declared.walk.Task.{Task}
 use Rattle.effects.specs.declared.walk.Walk.{Walk}
-use Rattle.effects.specs.Walk.{task_data, task_lamps, task_memories, TaskOk, whole_task, task_walk, WalkOk, current_lamps, rest_lamps, rest_memories, walk_lamps, walk_memories, EntryTask, EntryAt, whole_left, Follows, TaskAfter}
+use Rattle.effects.specs.Walk.{task_data, task_lamps, task_memories, whole_task, task_walk, WalkOk, rest_lamps, rest_memories, walk_lamps, walk_memories, EntryAt, whole_left, Follows, TaskAfter}
 use Rattle.effects.proofs.Tasks.{TaskWalk, task_walk_lem}
 
 never : false ≡ true → ⊥

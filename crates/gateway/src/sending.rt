@@ -44,6 +44,7 @@ fn can_send(bonds: &[u8], frame: &[u8]) -> bool
 }
 
 // Why a send is refused.
+#[tactic(auto, unfolding(crate::specs::Gateway::send_refusal))]
 fn send_refusal(gateway: Gateway, frame: &[u8], time: u64) -> u8
     ensures { result ≡ send_refusal gateway frame.now time }
 {

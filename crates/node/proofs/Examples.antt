@@ -1,7 +1,7 @@
 -- Document 01, "FRC": examples that tell near readings apart, computed.
 use Prim.Native.Nat.{ℕ}
 use mathlib.Core.Path.{◌≡◌, refl}
-use mathlib.Core.List.{List, [], ◌∷◌}
+use mathlib.Core.List.{[], ◌∷◌}
 use lib.ListN.{replicate}
 use Rattle.dpa.specs.Lists.{all_below}
 use Rattle.dpa.specs.Settings.{step_ok, settings_ok}
@@ -9,7 +9,7 @@ use Rattle.lights.specs.Lamp.{lamp, off, lamp_ok, lamp_zero, lamp_fits, actual_l
 use Rattle.node.specs.declared.record.Node.{Node}
 use Rattle.node.specs.Examples.{settings}
 use Rattle.node.specs.Node.{fresh, with_lamps, shape_ok, lamps_ok, node_ok}
-use Rattle.node.specs.Frc.{bit_set, is_command, asks_lamp, is_on, frc_value, frc_answer, frc_of}
+use Rattle.node.specs.Frc.{bit_set, is_command, asks_lamp, is_on, frc_value, frc_of}
 
 -- three lamps, of which lamp 1 is lit
 abbrev lit : Node

@@ -3,8 +3,8 @@ ghost use Rattle.std.specs.Prelude.{◌≡◌, true, cond, ◌&&◌, ◌++◌, �
 ghost use Rattle.dpa.specs.Frame.{frame_fits};
 ghost use Rattle.queue.specs.Queue.{outgoing, placed, empty_place, all_zero, widths_ok, waiting_ok, empty_ok, places_ok};
 
-use dpa::copy::copy;
 use crate::record::{QUEUE_SIZE, Waiting};
+use dpa::copy::copy;
 use dpa::frame::Frame;
 use dpa::number::wide;
 use dpa::settings::address_ok;

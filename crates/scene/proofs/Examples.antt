@@ -1,5 +1,5 @@
 -- Buffers at the limit: 4,096 bytes are enough, 4,095 are not.
-use mathlib.Core.List.{List, [], ◌∷◌}
+use mathlib.Core.List.{[], ◌∷◌}
 use mathlib.Core.Path.{◌≡◌, refl}
 use Prim.Native.Nat.{ℕ}
 use lib.ListN.{replicate}

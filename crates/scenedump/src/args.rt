@@ -2,10 +2,13 @@
 ghost use Rattle.std.specs.Prelude.{◌<◌};
 
 use console::input::NO_FILE;
-use console::number::number_argument;
+use console::number::{LONGEST_ARGUMENT, number_argument};
+use console::print::output_failed;
 use dpa::frame::Frame;
 use dpa::settings::address_ok;
-use libc::{STDERR_FILENO, STDOUT_FILENO};
+use std::env::FillError;
+use std::io;
+use std::rt::Env;
 
 #[derive(Clone, Copy)]
 pub struct Options {
@@ -50,8 +53,8 @@ enum Meaning {
 }
 
 // The meaning of the number of an option.
-fn number_meaning(options: Options, option: u8, i: usize) -> Meaning {
-    let number = number_argument(i, HWPID_MAX);
+fn number_meaning(rt: &impl Env, options: Options, option: u8, i: usize) -> Meaning {
+    let number = number_argument(rt, i, HWPID_MAX);
     if !number.ok {
         return Meaning::Bad;
     }
@@ -78,12 +81,11 @@ fn number_meaning(options: Options, option: u8, i: usize) -> Meaning {
 }
 
 // The meaning of an argument that is an option or the file. A `-` alone is a file. One that does not fit the buffer is bad.
-fn word_meaning(options: Options, i: usize) -> Meaning {
-    let mut text = io::buffer();
-    let length = os::arg(i, &mut text);
-    if os::errno() != 0 {
+fn word_meaning(rt: &impl Env, options: Options, i: usize) -> Meaning {
+    let mut text = [0u8; LONGEST_ARGUMENT];
+    let Ok(length) = rt.arg(i, &mut text) else {
         return Meaning::Bad;
-    }
+    };
     if length < 2 {
         return Meaning::File;
     }
@@ -107,12 +109,12 @@ fn word_meaning(options: Options, i: usize) -> Meaning {
 }
 
 // Checks that all arguments after the file are numbers, so that a bad one is told before anything is printed.
-fn check_scenes(options: Options, file: usize, count: usize) -> Arguments
+fn check_scenes(rt: &impl Env, options: Options, file: usize, count: usize) -> Arguments
     requires { file < count }
 {
     let mut i = file + 1;
     while i < count {
-        let scene = number_argument(i, usize::MAX);
+        let scene = number_argument(rt, i, usize::MAX);
         if !scene.ok {
             return Arguments::Bad(i);
         }
@@ -121,16 +123,26 @@ fn check_scenes(options: Options, file: usize, count: usize) -> Arguments
     Arguments::Run(options, file, file + 1)
 }
 
+// How many arguments there are, with the program's name.
+pub fn count_arguments(rt: &impl Env) -> usize {
+    for i in 0..usize::MAX {
+        if let Err(FillError::NotPresent) = rt.arg(i, &mut []) {
+            return i;
+        }
+    }
+    usize::MAX
+}
+
 // Reads all arguments.
-pub fn read_arguments(count: usize) -> Arguments {
+pub fn read_arguments(rt: &impl Env, count: usize) -> Arguments {
     let mut options = DEFAULTS;
     let mut waiting = NO_OPTION;
     let mut i: usize = 1;
     while i < count {
         let meaning = if waiting == NO_OPTION {
-            word_meaning(options, i)
+            word_meaning(rt, options, i)
         } else {
-            number_meaning(options, waiting, i)
+            number_meaning(rt, options, waiting, i)
         };
         match meaning {
             Meaning::Option(next, option) => {
@@ -138,7 +150,7 @@ pub fn read_arguments(count: usize) -> Arguments {
                 waiting = option;
             }
             Meaning::File => {
-                return check_scenes(options, i, count);
+                return check_scenes(rt, options, i, count);
             }
             Meaning::Help => {
                 return Arguments::Help;
@@ -155,9 +167,8 @@ pub fn read_arguments(count: usize) -> Arguments {
     Arguments::Run(options, NO_FILE, i)
 }
 
-fn write_usage(file: i32) -> bool {
-    io::write_all(
-        file,
+fn write_usage(out: &impl Print) -> io::Result<()> {
+    out.write_all(
         b"usage: scenedump [-a ADDRESS] [-p HWPID] [-n HOPS] [-l] [FILE [SCENE..]]
 Lists the scenes of a book, and the requests of each SCENE.
   FILE        the scene book; none or -: standard input
@@ -172,24 +183,20 @@ Numbers are decimal, or hexadecimal after 0x.
     )
 }
 
-pub fn print_usage() {
-    if !write_usage(STDOUT_FILENO) {
-        os::fail(b"standard output");
+pub fn print_usage(rt: &(impl Print + Eprint)) {
+    if let Err(error) = write_usage(rt) {
+        output_failed(rt, error);
     }
 }
 
-// Tells which argument is bad, and the usage.
-pub fn refuse_argument(i: usize) {
-    let mut text = io::buffer();
-    let length = os::arg(i, &mut text);
-    let fits = os::errno() == 0;
-    io::write_all(STDERR_FILENO, b"bad argument ");
-    io::print_decimal(STDERR_FILENO, i as u64);
-    io::write_all(STDERR_FILENO, b": ");
-    io::write_all(STDERR_FILENO, &text[..length]);
-    if !fits {
-        io::write_all(STDERR_FILENO, b"too long");
-    }
-    io::write_all(STDERR_FILENO, b"\n");
-    write_usage(STDERR_FILENO);
+// Tells which argument is bad, and the usage, to `errors`, which is standard error. A failure to write there cannot be told.
+pub fn refuse_argument(rt: &impl Env, errors: &impl Print, i: usize) {
+    let mut text = [0u8; LONGEST_ARGUMENT];
+    let _ = print!(errors; "bad argument {i}: ");
+    let _ = match rt.arg(i, &mut text) {
+        Ok(length) => errors.write_all(&text[..length]),
+        Err(_) => errors.write_all(b"too long"),
+    };
+    let _ = println!(errors; "");
+    let _ = write_usage(errors);
 }

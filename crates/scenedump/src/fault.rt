@@ -6,8 +6,9 @@ use console::print::{print, print_with};
 use dpa::number::wide;
 use dpa::refusal;
 
-pub fn print_not_a_book() -> bool {
+pub fn print_not_a_book(rt: &(impl Print + Eprint)) -> bool {
     print_with(
+        rt,
         true,
         b"refused #: not a scene book: ",
         wide(refusal::BOOK),
@@ -17,14 +18,22 @@ pub fn print_not_a_book() -> bool {
 }
 
 // Prints the fault of a book of this length.
-pub fn print_book_fault(fault: BookFault, length: usize) -> bool {
-    let ok = print_not_a_book();
+pub fn print_book_fault(rt: &(impl Print + Eprint), fault: BookFault, length: usize) -> bool {
+    let ok = print_not_a_book(rt);
     match fault {
-        BookFault::Empty => print(ok, b"it is empty\n"),
+        BookFault::Empty => print(rt, ok, b"it is empty\n"),
         BookFault::Scenes { scenes } => {
-            print_with(ok, b"it has # scenes, at most #\n", scenes, SCENES_MAX, 0)
+            print_with(
+                rt,
+                ok,
+                b"it has # scenes, at most #\n",
+                scenes,
+                SCENES_MAX,
+                0,
+            )
         }
         BookFault::Locations { end } => print_with(
+            rt,
             ok,
             b"the contents end at byte #, the book at byte #\n",
             end,
@@ -36,6 +45,7 @@ pub fn print_book_fault(fault: BookFault, length: usize) -> bool {
             offset,
             start,
         } => print_with(
+            rt,
             ok,
             b"scene # starts at byte #, not at byte #\n",
             scene,
@@ -44,6 +54,7 @@ pub fn print_book_fault(fault: BookFault, length: usize) -> bool {
         ),
         BookFault::Steps { scene, steps } => {
             print_with(
+                rt,
                 ok,
                 b"scene # has # steps, at most #\n",
                 scene,
@@ -52,6 +63,7 @@ pub fn print_book_fault(fault: BookFault, length: usize) -> bool {
             )
         }
         BookFault::End { end } => print_with(
+            rt,
             ok,
             b"the scenes end at byte #, the book at byte #\n",
             end,

@@ -28,43 +28,58 @@ mod fault;
 mod requests;
 mod steps;
 
-use args::{Arguments, Options, print_usage, read_arguments, refuse_argument};
+use args::{Arguments, Options, count_arguments, print_usage, read_arguments, refuse_argument};
 use book::check::{BookCheck, check_book};
 use book::locations::LONGEST_BOOK;
 use console::input::{Input, read_input};
 use console::print::print_with;
 use fault::{print_book_fault, print_not_a_book};
 use requests::print_scenes;
+use std::io;
+use std::rt::{Env, Files};
 use steps::print_book;
 
-fn dump(book: &[u8], options: Options, first: usize, count: usize) {
+fn dump(
+    rt: &(impl Env + Print + Eprint),
+    book: &[u8],
+    options: Options,
+    first: usize,
+    count: usize,
+) {
     if let BookCheck::Bad(fault) = check_book(book) {
-        print_book_fault(fault, book.len());
+        print_book_fault(rt, fault, book.len());
         return;
     }
-    let ok = print_book(book);
-    print_scenes(ok, book, options, first, count);
+    let ok = print_book(rt, book);
+    print_scenes(rt, ok, book, options, first, count);
 }
 
 // Reads up to one byte more than the longest book has, so that a longer input is noticed and refused.
-fn run(options: Options, file: usize, first: usize, count: usize) {
+fn run<R: Env + Files + io::Input + Print + Eprint>(
+    rt: &R,
+    errors: &impl Print,
+    options: Options,
+    file: usize,
+    first: usize,
+    count: usize,
+) {
     let mut book = [0u8; LONGEST_BOOK + 1];
-    let Input::Bytes(n) = read_input(file, &mut book) else {
+    let Input::Bytes(n) = read_input(rt, errors, file, &mut book) else {
         return;
     };
     if LONGEST_BOOK < n {
-        let ok = print_not_a_book();
-        print_with(ok, b"more than # bytes\n", LONGEST_BOOK, 0, 0);
+        let ok = print_not_a_book(rt);
+        print_with(rt, ok, b"more than # bytes\n", LONGEST_BOOK, 0, 0);
         return;
     }
-    dump(&book[..n], options, first, count);
+    dump(rt, &book[..n], options, first, count);
 }
 
-fn main() {
-    let count = os::arg_count();
-    match read_arguments(count) {
-        Arguments::Run(options, file, first) => run(options, file, first, count),
-        Arguments::Help => print_usage(),
-        Arguments::Bad(i) => refuse_argument(i),
+fn main(rt: HostRuntime) {
+    let count = count_arguments(&rt);
+    match read_arguments(&rt, count) {
+        Arguments::Run(options, file, first) => run(&rt, &rt.stderr(), options, file, first, count),
+        Arguments::Help => print_usage(&rt),
+        Arguments::Bad(i) => refuse_argument(&rt, &rt.stderr(), i),
     }
 }

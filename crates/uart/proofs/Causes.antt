@@ -6,7 +6,7 @@ use Prim.Native.Nat.{ℕ, ◌+◌, ◌-◌, ◌≤◌, ◌<◌}
 use native.Mathlib.Omega.{arith}
 use lib.Dec.{eqb, ltb}
 use lib.ListN.{length, take, drop, get_or, replicate}
-use lib.Seq.{take_length, length-take-le}
+use lib.Seq.{take-length, length-take-le}
 use borrow.Author.Tests.{ltb-false, lt-ltb, le-ltb, eq-eqb, ne_eqb}
 use Rattle.dpa.proofs.Bool.{else_taken, by_cond}
 use Rattle.uart.specs.declared.receiver.Receiver.{Receiver}
@@ -61,7 +61,7 @@ module _ (limit n : ℕ) (cut : Bool) (bytes : List ℕ) where
   unfolding event_for
   frame_answer cause e z fits taken size out r es eo =
       let l : length (take (n - 1) bytes) ≡ n - 1 = length-take-le (n - 1) bytes (omega arith) in
-      rw (← e, eq-eqb cause 0 z, eo, es, take_length, l)
+      rw (← e, eq-eqb cause 0 z, eo, es, take-length, l)
 
   -- the end of a frame is an event
   pub event_some : is_none (frame_event limit n cut bytes) ≡ false

@@ -3,12 +3,12 @@ ghost use Rattle.std.specs.Prelude.{◌≡◌, [], ◌≤◌, length, eqb};
 ghost use Rattle.framing.specs.Framing.{longest};
 ghost use Rattle.uart.specs.Receiver.{after_escape, place_count, in_frame, receiver_from, drop_cause, frame_event, begun, starts_escape, data_byte, receive_answer, event_answer, receive_of};
 
-use dpa::copy::copy;
 use crate::receiver::{
     AFTER_ESCAPE, BEFORE_FLAG, EVENT_DROPPED, EVENT_FRAME, EVENT_NONE, IN_FRAME, PLACES,
     ReceiveAnswer, Receiver, receiver_from, receiver_ok,
 };
 use crc::check_byte::check_byte;
+use dpa::copy::copy;
 use dpa::number::wide;
 use dpa::refusal;
 use framing::escape::{ESCAPE, FLAG, flipped};

@@ -10,68 +10,69 @@ use gateway::record::Gateway;
 use gateway::sending::{release, send};
 
 // Adds a bond and prints how many there are.
-fn print_bonds(gateway: Gateway, text: &[u8], address: u8) -> Gateway {
+fn print_bonds(rt: &impl Print, gateway: Gateway, text: &[u8], address: u8) -> Gateway {
     let bonded = bond(gateway, address as u16);
-    print_number(text, bonded.count as u64);
-    print_text(b"\n");
+    print_number(rt, text, bonded.count as u64);
+    print_text(rt, b"\n");
     bonded.gateway
 }
 
 // Releases at this time; prints the frame and its confirmation, or nothing.
-fn print_release(gateway: Gateway, text: &[u8], time: u64) -> Gateway {
+fn print_release(rt: &impl Print, gateway: Gateway, text: &[u8], time: u64) -> Gateway {
     let mut out = [0u8; Frame::RESPONSE_LONGEST];
     let released = release(gateway, time, &mut out);
     let frame = released.frame;
-    print_text(text);
-    print_bytes(b":", &frame, released.frame_length);
-    print_bytes(b"confirmation", &out, released.length);
+    print_text(rt, text);
+    print_bytes(rt, b":", &frame, released.frame_length);
+    print_bytes(rt, b"confirmation", &out, released.length);
     released.gateway
 }
 
 // Sends the request of a row: hops, response hops, two bytes of delay, two of time, and the frame. With a name its refusal is printed.
-fn print_send(gateway: Gateway, text: &[u8], row: &[u8]) -> Gateway
+fn print_send(rt: &impl Print, gateway: Gateway, text: &[u8], row: &[u8]) -> Gateway
     requires { 6 ≤ length row.now }
 {
     let delay = word_of(row[2], row[3]);
     let time = wide_word(word_of(row[4], row[5])) as u64;
     let sent = send(gateway, &row[6..], row[0], row[1], delay, time);
     if text.len() != 0 {
-        print_number(text, sent.refusal as u64);
-        print_text(b"\n");
+        print_number(rt, text, sent.refusal as u64);
+        print_text(rt, b"\n");
     }
     sent.gateway
 }
 
 // Runs a row and returns the gateway. One byte is a bond, two are the time of a release, any other number is a request.
-fn run_row(gateway: Gateway, row: &[u8]) -> Gateway {
+fn run_row(rt: &impl Print, gateway: Gateway, row: &[u8]) -> Gateway {
     let colon = find(row, 0, b':');
     let text = &row[..colon];
     let mut bytes = [0u8; MOST];
     let n = read_bytes(&row[colon..], &mut bytes);
     if n < 2 {
-        return print_bonds(gateway, text, bytes[0]);
+        return print_bonds(rt, gateway, text, bytes[0]);
     }
     if n < 6 {
         let time = wide_word(word_of(bytes[0], bytes[1]));
-        return print_release(gateway, text, time as u64);
+        return print_release(rt, gateway, text, time as u64);
     }
-    print_send(gateway, text, &bytes[..n])
+    print_send(rt, gateway, text, &bytes[..n])
 }
 
-fn run_rows(started: Gateway, rows: &[u8]) {
+fn run_rows(rt: &impl Print, started: Gateway, rows: &[u8]) {
     let mut gateway = started;
     let mut start: usize = 0;
     while start < rows.len() {
         let end = find(rows, start, b'\n');
-        gateway = run_row(gateway, &rows[start..end]);
+        gateway = run_row(rt, gateway, &rows[start..end]);
         start = end + 1;
     }
 }
 
 // The request of the confirmation, twice, with 6 hops each way and a delay of 20 ms, at 1000 ms. The second is released 720 ms after the
 // first.
-fn print_guide() {
+fn print_guide(rt: &impl Print) {
     run_rows(
+        rt,
         gateway_start(false, 7),
         b"bonds: 0A
 : 06 06 14 00 E8 03 0A 00 07 01 FF FF
@@ -85,8 +86,9 @@ release at 1720: B8 06
 
 // A request to node 5, one to all nodes, and one to node 5, with 2 hops, response hops 3 and a delay of 20 ms. After a request to all
 // nodes, no response is waited for.
-fn print_waits() {
+fn print_waits(rt: &impl Print) {
     run_rows(
+        rt,
         gateway_start(false, 7),
         b"bonds: 05
 : 02 03 14 00 84 03 05 00 71 00 FF FF 01 00 00 00 64
@@ -103,8 +105,9 @@ release at 1520: F0 05
 
 // Eight requests to node 1, the only bonded one, at 1000 ms. Then requests at 999 ms: to another node, to a full queue, and after a
 // release.
-fn print_refusals() {
+fn print_refusals(rt: &impl Print) {
     run_rows(
+        rt,
         gateway_start(true, 0),
         b"bonds: 01
 : 02 03 14 00 E8 03 01 00 71 00 FF FF 01 00 00 00 64
@@ -123,8 +126,8 @@ time 999, refusal: 02 03 14 00 E7 03 01 00 71 00 FF FF 01 00 00 00 64
     );
 }
 
-pub fn print_gateways() {
-    print_guide();
-    print_waits();
-    print_refusals();
+pub fn print_gateways(rt: &impl Print) {
+    print_guide(rt);
+    print_waits(rt);
+    print_refusals(rt);
 }

@@ -8,47 +8,47 @@ use uart::receive::receive;
 use uart::receiver::new_receiver;
 
 // The confirmation of the DPA guide.
-fn print_confirmation() {
+fn print_confirmation(rt: &impl Print) {
     let mut out = [0u8; Frame::RESPONSE_LONGEST];
     let confirmed = confirm(b"\x0A\x00\x07\x01\xFF\xFF", 7, 6, 6, Network::Std, &mut out);
-    print_bytes(b"confirmation", &out, confirmed.length);
+    print_bytes(rt, b"confirmation", &out, confirmed.length);
 }
 
 // The earliest next send of document 01.
-fn print_wait() {
+fn print_wait(rt: &impl Print) {
     let wait = earliest_send(2, 5, 20, 3, 20, Network::Std, false);
-    print_number(b"earliest send", wait.milliseconds as u64);
-    print_text(b"\n");
+    print_number(rt, b"earliest send", wait.milliseconds as u64);
+    print_text(rt, b"\n");
 }
 
 // The message of the DPA guide on the serial line.
-fn print_framed() {
+fn print_framed(rt: &impl Print) {
     let mut out = [0u8; LONGEST_FRAMED];
     let framed = frame(b"\x2F\x00\x05\x01\xFF\xFF\x00\x7E\x7D", &mut out);
-    print_bytes(b"framed", &out, framed.length);
+    print_bytes(rt, b"framed", &out, framed.length);
 }
 
 // What was framed, received by a node.
-fn print_received() {
+fn print_received(rt: &impl Print) {
     let received = receive(
         new_receiver(false),
         b"\x7E\x2F\x00\x05\x01\xFF\xFF\x00\x7D\x5E\x7D\x5D\x7D\x5E\x7E",
     );
     let message = received.frame;
-    print_bytes(b"received", &message, received.length);
+    print_bytes(rt, b"received", &message, received.length);
 }
 
 // A frame that ends after an escape.
-fn print_cut() {
+fn print_cut(rt: &impl Print) {
     let cut = receive(new_receiver(false), b"\x7E\x7D\x7E");
-    print_number(b"7E 7D 7E, cause", cut.cause as u64);
-    print_text(b"\n");
+    print_number(rt, b"7E 7D 7E, cause", cut.cause as u64);
+    print_text(rt, b"\n");
 }
 
-pub fn print_line() {
-    print_confirmation();
-    print_wait();
-    print_framed();
-    print_received();
-    print_cut();
+pub fn print_line(rt: &impl Print) {
+    print_confirmation(rt);
+    print_wait(rt);
+    print_framed(rt);
+    print_received(rt);
+    print_cut(rt);
 }

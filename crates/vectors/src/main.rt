@@ -8,8 +8,8 @@ mod nodes;
 mod print;
 mod rows;
 
-fn main() {
-    nodes::print_nodes();
-    line::print_line();
-    gateways::print_gateways();
+fn main(rt: HostRuntime) {
+    nodes::print_nodes(&rt);
+    line::print_line(&rt);
+    gateways::print_gateways(&rt);
 }

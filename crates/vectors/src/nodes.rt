@@ -20,52 +20,81 @@ const SETTINGS: Settings = Settings {
 };
 
 // Prints the level and seconds of the first three lamps.
-fn print_lamps(text: &[u8], node: Node) {
-    print_text(text);
+fn print_lamps(rt: &impl Print, text: &[u8], node: Node) {
+    print_text(rt, text);
     for i in 0usize..3 {
         let lamp = node.lamps[i];
-        print_number(b"", lamp.level as u64);
-        print_number(b"", lamp.seconds as u64);
+        print_number(rt, b"", lamp.level as u64);
+        print_number(rt, b"", lamp.seconds as u64);
     }
-    print_text(b"\n");
+    print_text(rt, b"\n");
 }
 
 // Prints a view's refusal and its bytes. The block is a PNUM, two bytes of start, and a count.
-fn print_view<'a>(text: &[u8], block: &[u8; MOST], eeprom: &'a [u8], external: &'a [u8]) {
+fn print_view<'a>(
+    rt: &impl Print,
+    text: &[u8],
+    block: &[u8; MOST],
+    eeprom: &'a [u8],
+    external: &'a [u8],
+) {
     let pnum = block[0];
     let start = wide_word(word_of(block[1], block[2]));
     let count = wide(block[3]);
     print_number(
+        rt,
         text,
         view_status(eeprom, external, pnum, start, count) as u64,
     );
     let bytes = view(eeprom, external, pnum, start, count);
-    print_bytes(b"", bytes, count);
+    print_bytes(rt, b"", bytes, count);
 }
 
 // Prints the response, after the reason and the place if the request has a list that cannot be read.
-fn print_response(text: &[u8], reason: u8, place: u8, response: &[u8], length: usize) {
+fn print_response(
+    rt: &impl Print,
+    text: &[u8],
+    reason: u8,
+    place: u8,
+    response: &[u8],
+    length: usize,
+) {
     if reason == NONE {
-        return print_bytes(text, response, length);
+        return print_bytes(rt, text, response, length);
     }
-    print_text(text);
-    print_number(b", reason", reason as u64);
-    print_number(b" at", place as u64);
-    print_bytes(b":", response, length);
+    print_text(rt, text);
+    print_number(rt, b", reason", reason as u64);
+    print_number(rt, b" at", place as u64);
+    print_bytes(rt, b":", response, length);
 }
 
 // Sends a request, prints the response and returns the node. A request without a name is sent quietly.
-fn send(node: Node, text: &[u8], frame: &[u8], eeprom: &mut [u8], external: &mut [u8]) -> Node {
+fn send(
+    rt: &impl Print,
+    node: Node,
+    text: &[u8],
+    frame: &[u8],
+    eeprom: &mut [u8],
+    external: &mut [u8],
+) -> Node {
     let mut response = [0u8; Frame::RESPONSE_LONGEST];
     let answer = handle_request(node, frame, eeprom, external, &mut response);
     if text.len() != 0 {
-        print_response(text, answer.reason, answer.place, &response, answer.length);
+        print_response(
+            rt,
+            text,
+            answer.reason,
+            answer.place,
+            &response,
+            answer.length,
+        );
     }
     answer.node
 }
 
 // Runs a row and returns the node. A row without bytes prints the lamps, one of four bytes a view; any other has a request.
 fn run_row(
+    rt: &impl Print,
     node: Node,
     row: &[u8],
     eeprom: &mut [u8; EEPROM_SIZE],
@@ -76,17 +105,17 @@ fn run_row(
     let mut bytes = [0u8; MOST];
     let n = read_bytes(&row[colon..], &mut bytes);
     if n == 0 {
-        print_lamps(text, node);
+        print_lamps(rt, text, node);
         return node;
     }
     if n == 4 {
-        print_view(text, &bytes, eeprom, external);
+        print_view(rt, text, &bytes, eeprom, external);
         return node;
     }
-    send(node, text, &bytes[..n], eeprom, external)
+    send(rt, node, text, &bytes[..n], eeprom, external)
 }
 
-fn run_rows(rows: &[u8]) {
+fn run_rows(rt: &impl Print, rows: &[u8]) {
     let mut eeprom = [0u8; EEPROM_SIZE];
     let mut external = [0u8; EXTERNAL_SIZE];
     let started = start(SETTINGS);
@@ -94,14 +123,15 @@ fn run_rows(rows: &[u8]) {
     let mut start: usize = 0;
     while start < rows.len() {
         let end = find(rows, start, b'\n');
-        node = run_row(node, &rows[start..end], &mut eeprom, &mut external);
+        node = run_row(rt, node, &rows[start..end], &mut eeprom, &mut external);
         start = end + 1;
     }
 }
 
 // Rows without a name: the first three fill the memories, and the one after the keep examples sets the lamps back.
-pub fn print_nodes() {
+pub fn print_nodes(rt: &impl Print) {
     run_rows(
+        rt,
         b": 01 00 03 01 FF FF BE E1 E2
 : 01 00 04 03 FF FF BE 00 A1 A2
 : 01 00 04 03 FF FF FF 3F AF

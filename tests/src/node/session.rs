@@ -7,14 +7,20 @@ use super::seen::Seen;
 use crate::board::{Board, Lengths};
 use crate::buffers::{difference, hex, Input, GUARD};
 use crate::gateway::reference as timing;
-use crate::records::varied_node;
 use crate::rng::{seed, Rng};
 use crate::session;
 use crate::sides::{Side, REFERENCE};
-use grelfint::raw::{Node, RequestAnswer};
+use grelfint::raw::{Lamp, Node, RequestAnswer, Settings};
 use std::hint::black_box;
 
 pub type Session = session::Session<Seen, Boards>;
+
+/// Placed before and after a record that a call writes.
+const GUARD_NODE: Node = Node {
+    settings: Settings { address: 0xA5A5, hwpid: 0xA5A5, dpa_value: 0xA5, lamp_count: 0xA5, step: 0xA5 },
+    lamps: [Lamp { level: 0xA5, seconds: 0xA5A5 }; 32],
+    ram: [0xA5; 48],
+};
 
 /// The same node and memories on the tested side and on the reference.
 pub struct Boards {
@@ -170,10 +176,9 @@ impl Session {
         self.count(b.refusal);
         let a = (side.tick)(node);
         self.agree(side.name, [&a, &b], "", || format!("tick of {node:?}"));
-        let guard = varied_node();
-        let mut lent = [guard, node, guard];
+        let mut lent = [GUARD_NODE, node, GUARD_NODE];
         let refusal = (side.tick_in_place)(&mut lent[1]);
-        let want = (b.refusal, [guard, b.node, guard]);
+        let want = (b.refusal, [GUARD_NODE, b.node, GUARD_NODE]);
         self.agree(side.name, [&(refusal, lent), &want], "", || format!("tick in place of {node:?}"));
         b.node
     }

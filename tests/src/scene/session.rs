@@ -213,6 +213,7 @@ impl Session {
         let fault = difference("output", &out, &want) + &lent.difference("book");
         let inputs = || call.inputs(&self.boards.plain);
         self.agree(self.boards.tested.side.name, [&a, &b], &fault, inputs);
+        self.expect(a.refusal != 8, || format!("refusal 8, which no call has\n{}", inputs()));
         self.agree(FAST.name, [&c, &b], &difference("output", &quick, &want), inputs);
         self.seen.scenes.compile(call.to.nodes(), b.refusal, call.room < ROOM);
         if b.refusal == 0 {

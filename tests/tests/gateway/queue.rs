@@ -215,15 +215,15 @@ fn places_of_a_record(side: Side) {
     let mut station = Station::with_node_5(side);
     let mut want = station.gateway;
     let requests = [(5, 56), (5, 0), (BROADCAST, 30)]
-        .map(|(address, pdata)| request(address, pdata, 1 + pdata as u8, 3 + 2 * pdata as u8, 3000 + pdata as u16));
+        .map(|(address, pdata)| request(address, pdata, 1 + pdata as u8, 2 * pdata as u8, 3000 + pdata as u16));
     for (i, request) in requests.iter().enumerate() {
         station.send(request, 70 + i as u64);
         want.queue.places[i] = place(request);
         (want.queue.count, want.queue.last) = (i as u8 + 1, 70 + i as u64);
         assert_eq!(station.gateway, want);
     }
-    // (57 + 1) × 60 + 3056 + (115 + 1) × 60, and (1 + 1) × 40 + 3000 + (3 + 1) × 60
-    for (i, wait) in [13_496, 3_320].into_iter().enumerate() {
+    // (57 + 1) × 60 + 3056 + (112 + 1) × 60, and (1 + 1) × 40 + 3000 + (0 + 1) × 60
+    for (i, wait) in [13_316, 3_140].into_iter().enumerate() {
         let time = 20_000 * (i as u64 + 1);
         station.release_it(&requests[i], time);
         want.queue.places.copy_within(1.., 0);

@@ -1,4 +1,4 @@
-//! Runs ../target/bin/scenedump as a process, and compares what it writes with
+//! Runs ../crates/scenedump/out/scenedump as a process, and compares what it writes with
 //! texts by hand and with a formatter made from the description of the program
 //! and the reference. `SCENEDUMP` selects another binary.
 mod arguments;

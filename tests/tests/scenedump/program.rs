@@ -10,7 +10,7 @@ use std::time::Duration;
 
 pub fn program() -> PathBuf {
     let path = std::env::var_os("SCENEDUMP")
-        .map_or_else(|| Path::new(env!("CARGO_MANIFEST_DIR")).join("../target/bin/scenedump"), PathBuf::from);
+        .map_or_else(|| Path::new(env!("CARGO_MANIFEST_DIR")).join("../crates/scenedump/out/scenedump"), PathBuf::from);
     // the tests change the folder
     fs::canonicalize(&path).unwrap_or_else(|error| panic!("{}: {error}", path.display()))
 }

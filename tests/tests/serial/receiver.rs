@@ -6,7 +6,6 @@ use crate::line::{
 use grelfint::raw::{ReceiveAnswer, Receiver};
 use grelfint_tests::buffers::hex;
 use grelfint_tests::on_every_side;
-use grelfint_tests::records::receiver;
 use grelfint_tests::uart::random::LIMITS;
 use grelfint_tests::uart::reference::{
     check_byte, escaped, framed, Event, CUT, ESCAPE, ESCAPE_BIT, FLAG, LONGEST, SHORT, SHORTEST, TOO_LONG,
@@ -350,7 +349,7 @@ fn parts_of_a_frame(side: Side) {
 
 fn empty_parts(side: Side) {
     for (limit, phase, count) in [(62, 0, 0), (64, 1, 0), (62, 1, 64), (64, 2, 0), (64, 2, 66)] {
-        let receiver = receiver(limit, phase, count);
+        let receiver = Receiver { limit, phase, count, bytes: [0xA5; 65] };
         assert_eq!((side.receive)(receiver, &[]), ReceiveAnswer::zeros(receiver));
     }
 }
@@ -393,7 +392,7 @@ fn broken_records(side: Side) {
         (64, 0, 66),
         (255, 255, 255),
     ] {
-        let receiver = receiver(limit, phase, count);
+        let receiver = Receiver { limit, phase, count, bytes: [0xA5; 65] };
         let refused = ReceiveAnswer { refusal: 1, ..ReceiveAnswer::zeros(receiver) };
         for bytes in [&[][..], &[FLAG], &[0], &[ESCAPE], &GUIDE_LINE] {
             assert_eq!((side.receive)(receiver, bytes), refused, "{limit} {phase} {count} {}", hex(bytes));
@@ -406,7 +405,7 @@ fn sound_records(side: Side) {
     for limit in 0..=255 {
         for phase in 0..=3 {
             for count in 0..=255 {
-                let receiver = receiver(limit, phase, count);
+                let receiver = Receiver { limit, phase, count, bytes: [0xA5; 65] };
                 let sound = match (limit, phase) {
                     (62 | 64, 0) => count == 0,
                     (62, 1 | 2) => count <= 64,
