@@ -1,8 +1,7 @@
 -- The check of a book: the loop over the bodies, and that the check is sound exactly if the book is well formed.
-use mathlib.Core.Bool.{Bool, true, false, cond}
+use mathlib.Core.Bool.{true, false, cond}
 use mathlib.Core.List.{List, [], ◌∷◌}
-use mathlib.Core.Logic.{◌↔◌}
-use mathlib.Core.Path.{◌≡◌, refl, sym, ap, ◌∙◌}
+use mathlib.Core.Path.{◌≡◌, sym, ap, ◌∙◌}
 use Prim.Native.Nat.{ℕ, suc, ◌+◌, ◌*◌, ◌≤◌, ◌<◌}
 use native.Mathlib.Numerals.{add-one}
 use native.Mathlib.Omega.{arith}
@@ -13,7 +12,6 @@ use Rattle.dpa.proofs.Bool.{by_test}
 use Rattle.book.specs.declared.locations.SceneLocation.{SceneLocation}
 use Rattle.book.specs.declared.check.BookFault.{BookFault}
 use Rattle.book.specs.declared.check.BookFault.TheVariants.{Start, Steps, End}
-use Rattle.book.specs.declared.check.BookCheck.{BookCheck}
 use Rattle.book.specs.declared.check.BookCheck.TheVariants.{Sound, Bad}
 use Rattle.book.specs.Book.{scenes_max, steps_max, location_length, step_length, location_of, scene_count, scene_locations, chained, book_ok}
 use Rattle.book.specs.Positions.{location_at}

@@ -1,10 +1,9 @@
 -- The loop: what the check says is what it says of the bodies from this scene on.
-use mathlib.Core.Path.{◌≡◌, refl, sym, ◌∙◌}
-use Prim.Native.Nat.{◌+◌, ◌*◌, ◌-◌, ◌<◌, ◌≤◌}
+use mathlib.Core.Path.{refl, sym, ◌∙◌}
+use Prim.Native.Nat.{◌<◌}
 use native.Mathlib.Omega.{arith}
-use lib.ListN.{length, drop}
-use Rattle.book.specs.Book.{scenes_max, steps_max, location_length, step_length, scene_count, scene_locations}
-use Rattle.book.specs.Check.{check_bodies}
+use lib.ListN.{length}
+use Rattle.book.specs.Book.{scene_count}
 use Rattle.book.proofs.Checks.{bodies_next, wrong_start, too_many_steps, bodies_end, wrong_end}
 use Rattle.book.proofs.check.check_bodies.Goals as goal
 

@@ -1,7 +1,6 @@
 -- A step's four bytes.
 use native.Mathlib.Nat.{add-zero}
 use lib.Seq.{get_or-drop}
-use borrow.Author.Rules.{rules}
 use Rattle.book.proofs.step.step_at.Goals as goal
 
 pub returns : goal.returns

@@ -1,13 +1,8 @@
 -- `check_byte::check_byte` meets its contract. The invariant: the CRC over the bytes from i on gives the check byte.
-use Prim.Native.Nat.{◌+◌, ◌-◌, ◌≤◌}
-use mathlib.Core.Path.{◌≡◌, refl, ap, ◌∙◌}
-use native.Mathlib.Omega.{arith}
-use lib.ListN.{length, drop, length-take, length-drop}
-use borrow.Author.Rules.{rules}
-use Rattle.dpa.proofs.Lists.{slice_to_end}
+use Prim.Native.Nat.{◌-◌, ◌≤◌}
+use mathlib.Core.Path.{◌≡◌}
+use lib.ListN.{length, drop}
 use Rattle.crc.specs.CheckByte.{initial_crc, crc_bytes}
-use Rattle.crc.specs.ShiftTable.{bytes_at_once}
-use Rattle.crc.proofs.CheckBytes.{crc_later}
 use Rattle.crc.proofs.check_byte.check_byte.Given as goal
 
 abbrev pub invariant-loop-i : goal.invariant-loop-i

@@ -1,10 +1,8 @@
 -- `check_byte::crc_block` meets its contract. The invariant: the sum, with the CRC of the bytes from i on, is the CRC of all but the first.
-use Prim.Native.Nat.{◌+◌, ◌-◌, ◌≤◌}
-use mathlib.Core.Path.{◌≡◌, refl, sym, ◌∙◌}
+use Prim.Native.Nat.{◌+◌, ◌-◌}
+use mathlib.Core.Path.{◌≡◌, sym, ◌∙◌}
 use native.Mathlib.Omega.{arith}
-use lib.Bits.{bit_xor}
-use lib.ListN.{length, drop}
-use Rattle.crc.specs.CheckByte.{crc_bytes}
+use lib.ListN.{length}
 use Rattle.crc.specs.ShiftTable.{bytes_at_once}
 use Rattle.crc.proofs.CheckBytes.{sum_next, sum_all}
 use Rattle.crc.proofs.check_byte.crc_block.Goals as goal

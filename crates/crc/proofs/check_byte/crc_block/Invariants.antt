@@ -1,12 +1,10 @@
 -- `check_byte::crc_block` meets its contract. The invariant: the sum, with the CRC of the bytes from i on, is the CRC of all but the first.
-use Prim.Native.Nat.{◌+◌, ◌-◌, ◌≤◌}
-use mathlib.Core.Path.{◌≡◌, refl, sym, ◌∙◌}
-use native.Mathlib.Omega.{arith}
+use Prim.Native.Nat.{◌-◌, ◌≤◌}
+use mathlib.Core.Path.{◌≡◌}
 use lib.Bits.{bit_xor}
-use lib.ListN.{length, drop}
+use lib.ListN.{drop}
 use Rattle.crc.specs.CheckByte.{crc_bytes}
 use Rattle.crc.specs.ShiftTable.{bytes_at_once}
-use Rattle.crc.proofs.CheckBytes.{sum_next, sum_all}
 use Rattle.crc.proofs.check_byte.crc_block.Given as goal
 
 abbrev pub invariant-loop-i : goal.invariant-loop-i

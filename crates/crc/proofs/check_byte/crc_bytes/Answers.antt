@@ -1,9 +1,7 @@
 -- `check_byte::crc_bytes` meets its contract. The invariant: the CRC over the bytes from i on gives the CRC over all.
-use Prim.Native.Nat.{◌≤◌, ◌-◌}
-use mathlib.Core.Path.{◌≡◌, refl, sym, ◌∙◌}
+use mathlib.Core.Path.{sym, ◌∙◌}
 use native.Mathlib.Omega.{arith}
-use lib.ListN.{length, drop, drop_of_length-le}
-use Rattle.crc.specs.CheckByte.{crc_bytes}
+use lib.ListN.{drop_of_length-le}
 use Rattle.crc.proofs.CheckBytes.{crc_next, crc_none}
 use Rattle.crc.proofs.check_byte.crc_bytes.Goals as goal
 

@@ -1,10 +1,8 @@
 -- `check_byte::crc_bytes` meets its contract. The invariant: the CRC over the bytes from i on gives the CRC over all.
 use Prim.Native.Nat.{◌≤◌, ◌-◌}
-use mathlib.Core.Path.{◌≡◌, refl, sym, ◌∙◌}
-use native.Mathlib.Omega.{arith}
-use lib.ListN.{length, drop, drop_of_length-le}
+use mathlib.Core.Path.{◌≡◌}
+use lib.ListN.{length, drop}
 use Rattle.crc.specs.CheckByte.{crc_bytes}
-use Rattle.crc.proofs.CheckBytes.{crc_next, crc_none}
 use Rattle.crc.proofs.check_byte.crc_bytes.Given as goal
 
 abbrev pub invariant-loop-i : goal.invariant-loop-i

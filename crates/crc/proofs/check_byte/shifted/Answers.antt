@@ -2,7 +2,6 @@
 use mathlib.Core.Path.{◌≡◌, ap, ◌∙◌}
 use native.Mathlib.Omega.{arith}
 use lib.ListN.{length}
-use borrow.Author.Rules.{rules}
 use Rattle.crc.proofs.CheckBytes.{table_digits, table_length}
 use Rattle.crc.proofs.check_byte.shifted.Goals as goal
 
