@@ -1,5 +1,4 @@
 -- `grelfint_frc`: the contract of `frc`.
-use borrow.Author.Rules.{rules}
 use Rattle.grelfint.proofs.nodes.grelfint_frc.Goals as goal
 
 pub returns : goal.returns

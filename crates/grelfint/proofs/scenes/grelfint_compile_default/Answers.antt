@@ -1,5 +1,4 @@
 -- `grelfint_compile_default`: the contract of `compile_default`.
-use borrow.Author.Rules.{rules}
 use Rattle.grelfint.proofs.scenes.grelfint_compile_default.Goals as goal
 
 pub returns : goal.returns

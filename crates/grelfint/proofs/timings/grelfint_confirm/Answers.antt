@@ -1,6 +1,5 @@
 -- `grelfint_confirm`: the contract of `confirm`, with the network type of the flag.
 use mathlib.Core.Path.{ap, ◌∙◌}
-use borrow.Author.Rules.{rules}
 use Rattle.timing.specs.declared.slot.Network.{Network}
 use Rattle.timing.specs.Confirm.{confirm_of}
 use Rattle.grelfint.proofs.timings.grelfint_confirm.Goals as goal

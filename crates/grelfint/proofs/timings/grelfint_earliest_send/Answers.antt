@@ -1,6 +1,5 @@
 -- `grelfint_earliest_send`: the contract of `earliest_send`, with the network type of the flag.
 use mathlib.Core.Path.{ap, ◌∙◌}
-use borrow.Author.Rules.{rules}
 use Rattle.timing.specs.declared.slot.Network.{Network}
 use Rattle.timing.specs.Slot.{send_of}
 use Rattle.grelfint.proofs.timings.grelfint_earliest_send.Goals as goal

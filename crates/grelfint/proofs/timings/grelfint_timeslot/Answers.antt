@@ -1,6 +1,5 @@
 -- `grelfint_timeslot`: the contract of `timeslot`, with the network type of the flag.
 use mathlib.Core.Path.{ap, ◌∙◌}
-use borrow.Author.Rules.{rules}
 use Rattle.timing.specs.declared.slot.Network.{Network}
 use Rattle.timing.specs.Slot.{timeslot_of}
 use Rattle.grelfint.proofs.timings.grelfint_timeslot.Goals as goal
