@@ -1,7 +1,7 @@
 // Reading the book.
 use crate::failure::tell_failure;
 use crate::number::{LONGEST_ARGUMENT, argument_text};
-use std::io::{ErrorKind, Read};
+use std::io::Read;
 use std::rt::{Env, Files};
 use std::str::from_utf8;
 use std::{fs, io};
@@ -33,11 +33,14 @@ fn read_all(file: &mut impl Read, errors: &impl Print, name: &[u8], book: &mut [
     Input::Bytes(n)
 }
 
-// A path is UTF-8 for std, so that a file with another name cannot be opened.
+// The system's number of the error that there is no such file.
+const NO_SUCH_FILE: i32 = 2;
+
+// A path is UTF-8 for std, which therefore sees no file with another name.
 fn open<R: Files>(rt: &R, path: &[u8]) -> io::Result<R::File> {
     match from_utf8(path) {
         Ok(path) => fs::open(rt, path),
-        Err(_) => Err(io::Error::from(ErrorKind::InvalidFilename)),
+        Err(_) => Err(io::Error::from_raw_os_error(NO_SUCH_FILE)),
     }
 }
 

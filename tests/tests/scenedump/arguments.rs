@@ -122,7 +122,11 @@ fn arguments_of_any_bytes() {
     assert_eq!((&output.stdout[..], &output.stderr[..]), (&b""[..], &want[..]));
     let name = OsStr::from_bytes(b"\xFF\x80.book");
     fs::write(folder().join(name), EXAMPLE).expect("written");
-    assert_eq!(run(&[name]), Written::output(LISTED));
+    // std opens only files with names in UTF-8; another one is read through standard input.
+    let output = command(&[name]).output().expect("run");
+    assert_eq!((&output.stdout[..], &output.stderr[..]), (&b""[..], &b"\xFF\x80.book: No such file or directory\n"[..]));
+    let output = command(&["-"]).stdin(fs::File::open(folder().join(name)).expect("opened")).output().expect("run");
+    assert_eq!((&output.stdout[..], &output.stderr[..]), (LISTED.as_bytes(), &b""[..]));
 }
 
 /// Random arguments, good and bad, are read as the description says.
