@@ -29,25 +29,25 @@
  *
  * No call allocates, blocks, keeps a pointer or uses global data. Calls may run
  * at the same time in several threads, as long as they share no buffer that one
- * of them writes. Of the C library they need memcpy alone.
+ * of them writes. Of the C library they need only memcpy, memmove and memset.
  *
  * The stack that a call takes, in bytes, counted in the machine code of this
- * version and not rounded: with its return address and all that it calls, but
- * for memcpy. The arguments and the answer are the caller's: a node has 184
- * bytes, a gateway 600, and the largest answer 688 (grelfint_release).
+ * version and not rounded: with its return address and all that it calls,
+ * except for these three. The arguments and the answer are the caller's: a node
+ * has 184 bytes, a gateway 600, and the largest answer 688 (grelfint_release).
  *
- *     start                        59      confirm             8
- *     tick                        468      uart_receiver       8
- *     tick_in_place               644      uart_receive      512
- *     actual_levels               144      uart_frame        208
- *     handle_request            1,792      gateway_start   1,184
- *     frc                         224      bond            2,048
- *     view_status                   8      unbond          2,048
- *     compile                     454      clear_bonds       752
- *     compile_default             454      bond_count        736
- *     compile_selected            566      bond_bitmap       688
- *     compile_selected_default    566      send            1,280
- *     timeslot                      8      release         2,529
+ *     start                       192      confirm            24
+ *     tick                        692      uart_receiver       8
+ *     tick_in_place               868      uart_receive      512
+ *     actual_levels               144      uart_frame        240
+ *     handle_request            1,616      gateway_start      16
+ *     frc                         245      bond            1,984
+ *     view_status                   8      unbond          1,984
+ *     compile                     432      clear_bonds       752
+ *     compile_default             432      bond_count        720
+ *     compile_selected            528      bond_bitmap       688
+ *     compile_selected_default    528      send            1,328
+ *     timeslot                      8      release         2,017
  *     earliest_send                 8
  *
  * Two-byte numbers in frames and books have their low byte first.

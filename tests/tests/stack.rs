@@ -1,7 +1,8 @@
 //! The stack that each call takes, by the machine code of the archive, compared
 //! with what include/grelfint.h says. Counted are the return address, what a
 //! function pushes and reserves or uses without that, and the same of the
-//! functions that it calls; not memcpy, which is the C library's.
+//! functions that it calls; not memcpy, memmove and memset, which are the C
+//! library's.
 use std::collections::{BTreeMap, HashMap};
 use std::path::PathBuf;
 use std::process::Command;
@@ -57,7 +58,7 @@ impl Instruction {
         if self.name.starts_with("push") {
             return 8;
         }
-        if self.name.starts_with("pop") {
+        if self.name.starts_with("pop") && self.name != "popcnt" {
             return -8;
         }
         if !self.operands.ends_with(",%rsp") || self.name.starts_with("cmp") || self.name.starts_with("test") {
@@ -166,7 +167,7 @@ const OPEN_CALLS: i64 = 12;
 fn stack(name: &str, functions: &HashMap<String, Code>, path: &mut Vec<String>) -> i64 {
     assert!(!path.iter().any(|caller| caller == name), "{name} calls itself by way of another function");
     let Some(code) = functions.get(name) else {
-        assert!(name == "memcpy", "{name} is not in the archive");
+        assert!(["memcpy", "memmove", "memset"].contains(&name), "{name} is not in the archive");
         return 0;
     };
     let (deepest, calls) = depths(code);
