@@ -49,7 +49,7 @@ end_minus_start a n = omega arith
 pub slice_length : (mem : List ℕ) (start n : ℕ) → start + n ≤ length mem → length (slice mem start n) ≡ n
 slice_length mem start n h = length-take-le n (drop start mem) (simp length-drop (omega arith))
 
--- what `bytes::copy` of a block leaves in out
+-- what a copy of a block leaves in out
 pub copy_out_result : (mem out : List ℕ) (start n : ℕ) → start + n ≤ length mem
     → take (length (slice mem start (start + n - start))) (slice mem start (start + n - start))
     ++ drop (length (slice mem start (start + n - start))) out ≡ slice mem start n ++ drop n out
@@ -58,7 +58,7 @@ copy_out_result mem out start n h = rw (end_minus_start, take-length, slice_leng
 past_end_lem : (a : ℕ) (s : List ℕ) → drop (length s - a) (drop a s) ≡ []
 past_end_lem a s = drop_of_length-le (drop a s) {i = length s - a} (simp length-drop (omega arith))
 
--- what `bytes::copy` into a block leaves in the memory
+-- what a copy into a block leaves in the memory
 pub copy_in_result : (mem d l : List ℕ) (start : ℕ)
     → l ≡ take (length d) d ++ drop (length d) (take (length mem - start) (drop start mem))
     → take start mem ++ (l ++ drop (length mem - start) (drop start mem)) ≡ overwrite mem start d
