@@ -40,31 +40,31 @@ pub record Done (pcmd a : ℕ) (s : Settings) (request : List ℕ) (steps : List
 
 -- For any two limits, and any PCMD and bytes in front of the list with which a node with settings s executes the list as a batch.
 -- This is asked of readable lists only.
-module _ {entryMax listMax : ℕ} {front : List ℕ} (limits : Limits entryMax listMax front) (pcmd a h : ℕ) (s : Settings)
+module _ {entry_max list_max : ℕ} {front : List ℕ} (limits : Limits entry_max list_max front) (pcmd a h : ℕ) (s : Settings)
     (addressed-to : (a ≡ s.address) ⊎ (a ≡ broadcast_nadr)) (hwpid-matches : hwpid_matches s h ≡ true)
     (as-batch : (entries : List Request) (st : State) → st.node.settings ≡ s
     → execute (request_of os_pnum pcmd h (front ++ list_bytes entries)) st ≡ batch_request (list_bytes entries) st)
-    (performs : AllPerform h (EntryGroup entryMax)) where
+    (performs : AllPerform h (EntryGroup entry_max)) where
   -- a request with a batch that joining and filling make
-  pub request_done : (groups : List (List Step)) (st : State) (o : List ℕ) → BatchRule entryMax listMax h groups
+  pub request_done : (groups : List (List Step)) (st : State) (o : List ℕ) → BatchRule entry_max list_max h groups
       → SoundState st → st.node.settings ≡ s → longest_response ≤ length o → Done pcmd a s (request_bytes pcmd front a h groups) (concat groups) st o
   request_done groups st o b k e room =
       let list = list_bytes (joined_entries h groups) in
       let own : hwpid_matches st.node.settings h ≡ true = ap (λ (n : Settings). hwpid_matches n h) e ∙ hwpid-matches in
       let to : (a ≡ st.node.settings.address) ⊎ (a ≡ broadcast_nadr) = subst (λ (n : Settings). (a ≡ n.address) ⊎ (a ≡ broadcast_nadr)) (sym e) addressed-to in
-      let executed = as-batch (joined_entries h groups) st e ∙ batch_performs h (EntryGroup entryMax) performs groups st b.entries k own in
+      let executed = as-batch (joined_entries h groups) st e ∙ batch_performs h (EntryGroup entry_max) performs groups st b.entries k own in
       let length_max = (batch_fits limits (frame a os_pnum pcmd h) groups b).1 in
       record {
         success =
             subst (λ (n : Settings). Success pcmd a n (request_bytes pcmd front a h groups) st o) e
             (call_succeeds pcmd a h (front ++ list) st o k length_max room to executed
-            (entries_perform h (EntryGroup entryMax) performs groups st b.entries k own).0);
+            (entries_perform h (EntryGroup entry_max) performs groups st b.entries k own).0);
         after = call_leaves pcmd a h (front ++ list) st o k length_max room to executed;
         sound = call_sound pcmd a h (front ++ list) st o k length_max room to executed;
       }
 
   requests_done : (bs : List (List (List Step))) (buffers : ℕ → List ℕ) (st : State)
-      → All (BatchRule entryMax listMax h) bs → SoundState st → st.node.settings ≡ s → ((k : ℕ) → longest_response ≤ length (buffers k))
+      → All (BatchRule entry_max list_max h) bs → SoundState st → st.node.settings ≡ s → ((k : ℕ) → longest_response ≤ length (buffers k))
       → AllSucceed pcmd a s buffers (map (request_bytes pcmd front a h) bs) st
       × (after_calls buffers (map (request_bytes pcmd front a h) bs) st ≡ machine (concat (concat bs)) st)
   requests_done [] buffers st b k e room = (tt, refl)
@@ -83,13 +83,13 @@ module _ {entryMax listMax : ℕ} {front : List ℕ} (limits : Limits entryMax l
   -- the requests of good steps
   pub steps_done : (steps : List Step) (buffers : ℕ → List ℕ) (st : State)
       → All Good steps → SoundState st → st.node.settings ≡ s → ((k : ℕ) → longest_response ≤ length (buffers k))
-      → MatchesMachine pcmd a buffers (requests_of entryMax listMax pcmd front a h steps) steps st
+      → MatchesMachine pcmd a buffers (requests_of entry_max list_max pcmd front a h steps) steps st
   steps_done steps buffers st all_valid k e room =
-      let bs = batches_of entryMax listMax h steps in
+      let bs = batches_of entry_max list_max h steps in
       let executed = requests_done bs buffers st (batches_rule limits h steps all_valid) k e room in
-      let whole : concat (concat bs) ≡ steps = ap concat (filling_keeps entryMax listMax h steps) ∙ joining_keeps entryMax steps in
+      let whole : concat (concat bs) ≡ steps = ap concat (filling_keeps entry_max list_max h steps) ∙ joining_keeps entry_max steps in
       record {
-        calls = subst (λ (n : Settings). AllSucceed pcmd a n buffers (requests_of entryMax listMax pcmd front a h steps) st) (sym e) executed.0;
+        calls = subst (λ (n : Settings). AllSucceed pcmd a n buffers (requests_of entry_max list_max pcmd front a h steps) st) (sym e) executed.0;
         final = executed.1 ∙ ap (λ (l : List Step). machine l st) whole;
       }
 

@@ -81,11 +81,11 @@ module _ (limit : ℕ) (fits-frame : limit ≤ pdata_max) (s : Step) (ss : List 
       bytes_perform Eeprom (subst (λ (j : ℕ). Writes j Eeprom) (sym e) writes_eeprom) (omega arith) k.eeprom_sized))
 
 -- an entry that joining makes, for a profile that the node accepts: no error, and the state that the step machine reaches
-pub group_performs : {entryMax listMax : ℕ} {front : List ℕ} → Limits entryMax listMax front → (h : ℕ) (group : List Step) (st : State)
-    → EntryGroup entryMax group → SoundState st → hwpid_matches st.node.settings h ≡ true
+pub group_performs : {entry_max list_max : ℕ} {front : List ℕ} → Limits entry_max list_max front → (h : ℕ) (group : List Step) (st : State)
+    → EntryGroup entry_max group → SoundState st → hwpid_matches st.node.settings h ≡ true
     → ((execute_entry (joined_entry h group) st).error ≡ 0) × ((execute_entry (joined_entry h group) st).after ≡ machine group st)
 group_performs limits h [] st r k f = absurd r
-group_performs {entryMax} limits h (s ∷ ss) st r k f =
+group_performs {entry_max} limits h (s ∷ ss) st r k f =
     let e = entry_match (joined_entry h (s ∷ ss)) st f in
-    let d = kinds_perform entryMax (omega (arith, limits.list, limits.frame)) s ss st r k in
+    let d = kinds_perform entry_max (omega (arith, limits.list, limits.frame)) s ss st r k in
     (ap (λ (a : Reply State). a.error) e ∙ d.0, ap (λ (a : Reply State). a.after) e ∙ d.1)

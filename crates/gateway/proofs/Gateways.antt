@@ -47,9 +47,9 @@ after_bonds g (send r t) e = send_cases g r t (λ x. bonds_ok x.gateway.bonds �
 after_bonds g (release t o) e = release_cases g t o (λ x. bonds_ok x.answer.gateway.bonds ≡ true) (λ k n. e) (λ s i u. e) (λ s i u. e)
 
 -- a new gateway is sound
-pub start_sound : (lp : Bool) (dpaValue : ℕ) → gateway_ok (new_gateway lp dpaValue) ≡ true
+pub start_sound : (lp : Bool) (dpa_value : ℕ) → gateway_ok (new_gateway lp dpa_value) ≡ true
 unfolding gateway_ok
-start_sound lp dpaValue = both none_sound (queue_test (new_queue lp dpaValue) (new_rule lp dpaValue))
+start_sound lp dpa_value = both none_sound (queue_test (new_queue lp dpa_value) (new_rule lp dpa_value))
 
 -- a sound gateway is sound after a call
 pub after_sound : (g : Gateway) (c : Call) → InRange c → gateway_ok g ≡ true → gateway_ok (after g c) ≡ true

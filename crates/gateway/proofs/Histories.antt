@@ -142,10 +142,10 @@ frames_in_order g cs = let x = in_order g cs in front (released_all g cs) (arriv
         ap₂ (λ (x : List ℕ) (xs : List (List ℕ)). x ∷ xs) (f 0 (omega arith)) (front hs arr (omega arith) (λ k m. f (suc k) (omega arith)))
 
 -- from a new gateway on, they are the first frames of those accepted
-pub fresh_prefix : (lp : Bool) (dpaValue : ℕ) (cs : List Call) → let g = new_gateway lp dpaValue in
+pub fresh_prefix : (lp : Bool) (dpa_value : ℕ) (cs : List Call) → let g = new_gateway lp dpa_value in
     map (λ (h : Handout). h.frame) (released_all g cs) ≡ take (length (released_all g cs)) (map (λ (r : Outgoing). r.frame) (accepted_all g cs))
 unfolding new_queue
-fresh_prefix lp dpaValue cs = frames_in_order (new_gateway lp dpaValue) cs
+fresh_prefix lp dpa_value cs = frames_in_order (new_gateway lp dpa_value) cs
 
 -- ---- spacing
 
@@ -228,10 +228,10 @@ next_time g cs =
     (λ e. rw e (x.1 (n - 1) (omega (arith, eqb-false n 0 e))))
 
 -- the first request ever is released at any time
-pub first_any_time : (lp : Bool) (dpaValue : ℕ) (cs : List Call) → let g = new_gateway lp dpaValue in
+pub first_any_time : (lp : Bool) (dpa_value : ℕ) (cs : List Call) → let g = new_gateway lp dpa_value in
     length (released_all g cs) ≡ 0 → earliest_release g cs ≡ 0
 unfolding new_queue earliest_release
-first_any_time lp dpaValue cs e = rw e
+first_any_time lp dpa_value cs e = rw e
 
 module _ (g : Gateway) (cs : List Call) (t : ℕ) (o : List ℕ) where
   abbrev end : Gateway

@@ -28,7 +28,7 @@ pub record GatewayRule (g : Gateway) : Type 0 where
 
 -- `gateway_start`: no bonds, an empty send queue
 abbrev pub new_gateway : Bool → ℕ → Gateway
-new_gateway lp dpaValue = gateway_from no_bonds (new_queue lp dpaValue)
+new_gateway lp dpa_value = gateway_from no_bonds (new_queue lp dpa_value)
 
 -- ---- bonds
 

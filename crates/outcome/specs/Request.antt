@@ -199,13 +199,13 @@ handle_frame frame st buffer =
 
 -- The refusal, from the node and the lengths of the frame, the memories and the response buffer, in this order:
 -- 1 the node is not sound, 2 the frame's length, 3 the buffer is too short, 4 a memory's size; 0 for none.
-unfoldable pub request_refusal : Node → (frameLength eepromLength externalLength responseLength : ℕ) → ℕ
-request_refusal node frameLength eepromLength externalLength responseLength =
+unfoldable pub request_refusal : Node → (frame_length eeprom_length external_length response_length : ℕ) → ℕ
+request_refusal node frame_length eeprom_length external_length response_length =
     cond (node_ok node)
-    (cond (frame_fits frameLength)
-    (cond (ltb responseLength longest_response) 3
-    (cond (eqb eepromLength (size_of Eeprom))
-    (cond (eqb externalLength (size_of External)) 0
+    (cond (frame_fits frame_length)
+    (cond (ltb response_length longest_response) 3
+    (cond (eqb eeprom_length (size_of Eeprom))
+    (cond (eqb external_length (size_of External)) 0
     4)
     4))
     2)

@@ -56,24 +56,24 @@ module _ (old : List ℕ) (at : ℕ) (all out : List ℕ) (w : ℕ) (rest : List
 
 -- ---- the loops over the entries of a scene: a list of `size` bytes is open, and step `step` is next. `remaining` gives the bytes
 -- that remain after an open list of a size, when the entries of these groups remain.
-pub record Progress (entryMax listMax : ℕ) (remaining : ℕ → List (List Step) → List ℕ) (ss : List Step) (old : List ℕ) (at step size : ℕ)
+pub record Progress (entry_max list_max : ℕ) (remaining : ℕ → List (List Step) → List ℕ) (ss : List Step) (old : List ℕ) (at step size : ℕ)
     (out : List ℕ) (w : ℕ) : Type 0 where
   pub within : step ≤ length ss
-  pub size_max : size ≤ listMax
-  pub rest : Remaining old at (remaining empty_list_size (entries_of entryMax ss)) out w (remaining size (entries_of entryMax (drop step ss)))
+  pub size_max : size ≤ list_max
+  pub rest : Remaining old at (remaining empty_list_size (entries_of entry_max ss)) out w (remaining size (entries_of entry_max (drop step ss)))
 
-module _ {entryMax listMax : ℕ} {front : List ℕ} (l : Limits entryMax listMax front) (remaining : ℕ → List (List Step) → List ℕ)
+module _ {entry_max list_max : ℕ} {front : List ℕ} (l : Limits entry_max list_max front) (remaining : ℕ → List (List Step) → List ℕ)
     (ss : List Step) (old : List ℕ) (at : ℕ) where
   -- before the first entry
-  pub progress_start : Progress entryMax listMax remaining ss old at 0 empty_list_size old at
+  pub progress_start : Progress entry_max list_max remaining ss old at 0 empty_list_size old at
   progress_start = record { within = omega arith; size_max = omega (arith, l.list); rest = remaining_start _ _ _ }
 
-  module _ (step size : ℕ) (out : List ℕ) (w : ℕ) (o : Progress entryMax listMax remaining ss old at step size out w) where
+  module _ (step size : ℕ) (out : List ℕ) (w : ℕ) (o : Progress entry_max list_max remaining ss old at step size out w) where
     -- after an entry of k steps
-    pub progress_more : (k sz : ℕ) → FirstEntry entryMax (drop step ss) k sz → (xs out' : List ℕ) (w' size' : ℕ)
-        → remaining size (entries_of entryMax (drop step ss)) ≡ xs ++ remaining (next_size listMax size sz) (entries_of entryMax (drop (step + k) ss))
-        → out' ≡ sets out w xs → w' ≡ w + length xs → size' ≡ next_size listMax size sz
-        → Progress entryMax listMax remaining ss old at (step + k) size' out' w'
+    pub progress_more : (k sz : ℕ) → FirstEntry entry_max (drop step ss) k sz → (xs out' : List ℕ) (w' size' : ℕ)
+        → remaining size (entries_of entry_max (drop step ss)) ≡ xs ++ remaining (next_size list_max size sz) (entries_of entry_max (drop (step + k) ss))
+        → out' ≡ sets out w xs → w' ≡ w + length xs → size' ≡ next_size list_max size sz
+        → Progress entry_max list_max remaining ss old at (step + k) size' out' w'
     progress_more k sz f xs out' w' size' e eo ew es =
         rw es
         (record {
@@ -83,53 +83,53 @@ module _ {entryMax listMax : ℕ} {front : List ℕ} (l : Limits entryMax listMa
         })
 
     -- after the last step only the end of the open list remains
-    pub progress_end : length ss ≤ step → Remaining old at (remaining empty_list_size (entries_of entryMax ss)) out w (remaining size [])
+    pub progress_end : length ss ≤ step → Remaining old at (remaining empty_list_size (entries_of entry_max ss)) out w (remaining size [])
     progress_end d =
         let none : drop step ss ≡ [] = drop_of_length-le ss {i = step} d in
         rw none at o.rest
 
 -- ---- the next entry, of k steps with sz bytes of PData
-module _ {entryMax listMax : ℕ} {front : List ℕ} (l : Limits entryMax listMax front) (ss : List Step) (old : List ℕ) (at step size : ℕ)
-    (out : List ℕ) (w k sz : ℕ) (f : FirstEntry entryMax (drop step ss) k sz) where
+module _ {entry_max list_max : ℕ} {front : List ℕ} (l : Limits entry_max list_max front) (ss : List Step) (old : List ℕ) (at step size : ℕ)
+    (out : List ℕ) (w k sz : ℕ) (f : FirstEntry entry_max (drop step ss) k sz) where
   -- the length bytes: one more if the entry does not fit the open list
-  module _ (prefix : ℕ) (o : Progress entryMax listMax (remaining_lengths listMax prefix) ss old at step size out w) where
+  module _ (prefix : ℕ) (o : Progress entry_max list_max (remaining_lengths list_max prefix) ss old at step size out w) where
     abbrev later_lengths : List ℕ
-    later_lengths = remaining_lengths listMax prefix (next_size listMax size sz) (entries_of entryMax (drop (step + k) ss))
+    later_lengths = remaining_lengths list_max prefix (next_size list_max size sz) (entries_of entry_max (drop (step + k) ss))
 
     -- which has room
-    pub lengths_room : at + length (remaining_lengths listMax prefix empty_list_size (entries_of entryMax ss)) ≤ length old
-        → w + length (length_byte_if_full listMax prefix size sz) ≤ length out
+    pub lengths_room : at + length (remaining_lengths list_max prefix empty_list_size (entries_of entry_max ss)) ≤ length old
+        → w + length (length_byte_if_full list_max prefix size sz) ≤ length out
     lengths_room =
-        remaining_room old at _ out w _ o.rest (length_byte_if_full listMax prefix size sz) later_lengths (lengths_next entryMax listMax ss step k sz f prefix size)
+        remaining_room old at _ out w _ o.rest (length_byte_if_full list_max prefix size sz) later_lengths (lengths_next entry_max list_max ss step k sz f prefix size)
 
     -- and after which the loop goes on
-    pub lengths_more : (out' : List ℕ) (w' size' : ℕ) → out' ≡ sets out w (length_byte_if_full listMax prefix size sz)
-        → w' ≡ w + length (length_byte_if_full listMax prefix size sz) → size' ≡ next_size listMax size sz
-        → Progress entryMax listMax (remaining_lengths listMax prefix) ss old at (step + k) size' out' w'
+    pub lengths_more : (out' : List ℕ) (w' size' : ℕ) → out' ≡ sets out w (length_byte_if_full list_max prefix size sz)
+        → w' ≡ w + length (length_byte_if_full list_max prefix size sz) → size' ≡ next_size list_max size sz
+        → Progress entry_max list_max (remaining_lengths list_max prefix) ss old at (step + k) size' out' w'
     lengths_more out' w' size' =
-        progress_more l (remaining_lengths listMax prefix) ss old at step size out w o k sz f (length_byte_if_full listMax prefix size sz) out' w' size'
-        (lengths_next entryMax listMax ss step k sz f prefix size)
+        progress_more l (remaining_lengths list_max prefix) ss old at step size out w o k sz f (length_byte_if_full list_max prefix size sz) out' w' size'
+        (lengths_next entry_max list_max ss step k sz f prefix size)
 
   -- the requests: the separator, then the entry
-  module _ (prefix : List ℕ) (h : ℕ) (o : Progress entryMax listMax (remaining_bytes listMax prefix h) ss old at step size out w) where
+  module _ (prefix : List ℕ) (h : ℕ) (o : Progress entry_max list_max (remaining_bytes list_max prefix h) ss old at step size out w) where
     abbrev separator : List ℕ
-    separator = separator_bytes listMax prefix size sz
+    separator = separator_bytes list_max prefix size sz
 
     abbrev entry : List ℕ
     entry = entry_bytes (joined_entry h (take k (drop step ss)))
 
     abbrev later_bytes : List ℕ
-    later_bytes = remaining_bytes listMax prefix h (next_size listMax size sz) (entries_of entryMax (drop (step + k) ss))
+    later_bytes = remaining_bytes list_max prefix h (next_size list_max size sz) (entries_of entry_max (drop (step + k) ss))
 
     -- the separator has room
-    pub separator_room : at + length (remaining_bytes listMax prefix h empty_list_size (entries_of entryMax ss)) ≤ length old → w + length separator ≤ length out
-    separator_room = remaining_room old at _ out w _ o.rest separator (entry ++ later_bytes) (bytes_next entryMax listMax ss step k sz f prefix h size)
+    pub separator_room : at + length (remaining_bytes list_max prefix h empty_list_size (entries_of entry_max ss)) ≤ length old → w + length separator ≤ length out
+    separator_room = remaining_room old at _ out w _ o.rest separator (entry ++ later_bytes) (bytes_next entry_max list_max ss step k sz f prefix h size)
 
     module _ (out' : List ℕ) (w' : ℕ) (eo : out' ≡ sets out w separator) (ew : w' ≡ w + length separator) where
       -- and so has the entry
-      pub entry_room : at + length (remaining_bytes listMax prefix h empty_list_size (entries_of entryMax ss)) ≤ length old → w' + entry_head_size + sz ≤ length out'
+      pub entry_room : at + length (remaining_bytes list_max prefix h empty_list_size (entries_of entry_max ss)) ≤ length old → w' + entry_head_size + sz ≤ length out'
       entry_room c =
-          let x = remaining_more old at _ out w _ o.rest separator (entry ++ later_bytes) out' w' (bytes_next entryMax listMax ss step k sz f prefix h size) eo ew in
+          let x = remaining_more old at _ out w _ o.rest separator (entry ++ later_bytes) out' w' (bytes_next entry_max list_max ss step k sz f prefix h size) eo ew in
           omega (
             arith,
             remaining_room old at _ out' w' _ x entry later_bytes refl c,
@@ -138,13 +138,13 @@ module _ {entryMax listMax : ℕ} {front : List ℕ} (l : Limits entryMax listMa
           )
 
       -- after both the loop goes on
-      pub bytes_more : (out'' : List ℕ) (w'' size' : ℕ) → out'' ≡ sets out' w' entry → w'' ≡ w' + entry_head_size + sz → size' ≡ next_size listMax size sz
-          → Progress entryMax listMax (remaining_bytes listMax prefix h) ss old at (step + k) size' out'' w''
+      pub bytes_more : (out'' : List ℕ) (w'' size' : ℕ) → out'' ≡ sets out' w' entry → w'' ≡ w' + entry_head_size + sz → size' ≡ next_size list_max size sz
+          → Progress entry_max list_max (remaining_bytes list_max prefix h) ss old at (step + k) size' out'' w''
       bytes_more out'' w'' size' fo fw =
           let n : w'' ≡ w' + length entry = omega (arith, entry_length_lem (joined_entry h (take k (drop step ss))), f.size_is) in
           let both = two_writes out out' out'' separator entry (separator ++ entry) w w' w'' eo ew fo n refl in
-          progress_more l (remaining_bytes listMax prefix h) ss old at step size out w o k sz f (separator ++ entry) out'' w'' size'
-          (bytes_next entryMax listMax ss step k sz f prefix h size ∙ sym (append_assoc separator entry later_bytes)) both.1 both.0
+          progress_more l (remaining_bytes list_max prefix h) ss old at step size out w o k sz f (separator ++ entry) out'' w'' size'
+          (bytes_next entry_max list_max ss step k sz f prefix h size ∙ sym (append_assoc separator entry later_bytes)) both.1 both.0
 
 -- ---- the whole output
 set_sets : (l : List ℕ) (c i : ℕ) (xs : List ℕ) → set (sets l (suc i) xs) 0 c ≡ sets (set l 0 c) (suc i) xs

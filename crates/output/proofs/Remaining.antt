@@ -26,119 +26,119 @@ use Rattle.output.proofs.Sizes.{entries_snoc, list_snoc, list_one}
 
 -- all bytes after those of an open list of `size` bytes, when the entries of these groups remain
 abbrev pub remaining_bytes : ℕ → List ℕ → ℕ → ℕ → List (List Step) → List ℕ
-remaining_bytes listMax prefix h size [] = closing_zero ∷ []
-remaining_bytes listMax prefix h size (r ∷ rs) =
+remaining_bytes list_max prefix h size [] = closing_zero ∷ []
+remaining_bytes list_max prefix h size (r ∷ rs) =
     let pdata = length (group_data r) in
-    separator_bytes listMax prefix size pdata ++ (entry_bytes (joined_entry h r) ++ remaining_bytes listMax prefix h (next_size listMax size pdata) rs)
+    separator_bytes list_max prefix size pdata ++ (entry_bytes (joined_entry h r) ++ remaining_bytes list_max prefix h (next_size list_max size pdata) rs)
 
 -- the length bytes of its request and of the requests after it
 abbrev pub remaining_lengths : ℕ → ℕ → ℕ → List (List Step) → List ℕ
-remaining_lengths listMax prefix size [] = (size + prefix) ∷ []
-remaining_lengths listMax prefix size (r ∷ rs) =
+remaining_lengths list_max prefix size [] = (size + prefix) ∷ []
+remaining_lengths list_max prefix size (r ∷ rs) =
     let pdata = length (group_data r) in
-    length_byte_if_full listMax prefix size pdata ++ remaining_lengths listMax prefix (next_size listMax size pdata) rs
+    length_byte_if_full list_max prefix size pdata ++ remaining_lengths list_max prefix (next_size list_max size pdata) rs
 
 -- a request by its prefix: the header and the bytes in front of the list
 abbrev pub with_prefix : List ℕ → ℕ → List (List Step) → List ℕ
 with_prefix prefix h groups = prefix ++ list_of h groups
 
-module _ (listMax : ℕ) (prefix : List ℕ) (h : ℕ) where
-  fits_as : (cur : List (List Step)) (r : List Step) → fits_batch listMax h cur r ≡ fits_list listMax (length (list_of h cur)) (length (group_data r))
-  fits_as cur r = ap (λ (n : ℕ). leb n listMax) (list_snoc h cur r)
+module _ (list_max : ℕ) (prefix : List ℕ) (h : ℕ) where
+  fits_as : (cur : List (List Step)) (r : List Step) → fits_batch list_max h cur r ≡ fits_list list_max (length (list_of h cur)) (length (group_data r))
+  fits_as cur r = ap (λ (n : ℕ). leb n list_max) (list_snoc h cur r)
 
   prefixed_length : (cur : List (List Step)) → length (with_prefix prefix h cur) ≡ length (list_of h cur) + length prefix
   prefixed_length cur = omega (arith, length-append prefix (list_of h cur))
 
   -- the requests from an open list on: its prefix, its entries, and what remains
-  pub grow_bytes : (cur rs : List (List Step)) → concat (map (with_prefix prefix h) (grow (fits_batch listMax h) cur rs))
-      ≡ prefix ++ (entries_bytes (joined_entries h cur) ++ remaining_bytes listMax prefix h (length (list_of h cur)) rs)
+  pub grow_bytes : (cur rs : List (List Step)) → concat (map (with_prefix prefix h) (grow (fits_batch list_max h) cur rs))
+      ≡ prefix ++ (entries_bytes (joined_entries h cur) ++ remaining_bytes list_max prefix h (length (list_of h cur)) rs)
   unfolding next_size separator_bytes entries_bytes
   grow_bytes cur [] = append-nil (with_prefix prefix h cur)
   grow_bytes cur (r ∷ rs) =
-      by_test (fits_batch listMax h cur r)
-      (λ e. let b = remaining_bytes listMax prefix h (length (list_of h (cur ++ (r ∷ [])))) rs in
-      rw (grow_fits (fits_batch listMax h) cur r rs e, sym (fits_as cur r) ∙ e, ← (list_snoc h cur r))
+      by_test (fits_batch list_max h cur r)
+      (λ e. let b = remaining_bytes list_max prefix h (length (list_of h (cur ++ (r ∷ [])))) rs in
+      rw (grow_fits (fits_batch list_max h) cur r rs e, sym (fits_as cur r) ∙ e, ← (list_snoc h cur r))
       (grow_bytes (cur ++ (r ∷ [])) rs
       ∙ ap (λ (t : List ℕ). prefix ++ t)
       (ap (λ (t : List ℕ). t ++ b) (entries_snoc h cur r) ∙ append_assoc (entries_bytes (joined_entries h cur)) (entry_bytes (joined_entry h r)) b)))
-      (λ e. let b = remaining_bytes listMax prefix h (length (list_of h (r ∷ []))) rs in
+      (λ e. let b = remaining_bytes list_max prefix h (length (list_of h (r ∷ []))) rs in
       let x = prefix ++ (entry_bytes (joined_entry h r) ++ b) in
-      rw (grow_not_fits (fits_batch listMax h) cur r rs e, sym (fits_as cur r) ∙ e, ← (list_one h r))
+      rw (grow_not_fits (fits_batch list_max h) cur r rs e, sym (fits_as cur r) ∙ e, ← (list_one h r))
       (ap (λ (t : List ℕ). with_prefix prefix h cur ++ t)
       (grow_bytes (r ∷ []) rs ∙ ap (λ (t : List ℕ). prefix ++ (t ++ b)) (append-nil (entry_bytes (joined_entry h r))))
       ∙ append_assoc prefix (list_of h cur) x
       ∙ ap (λ (t : List ℕ). prefix ++ t) (append_assoc (entries_bytes (joined_entries h cur)) (closing_zero ∷ []) x)))
 
   -- and their lengths
-  pub grow_lengths : (cur rs : List (List Step)) → lengths (map (with_prefix prefix h) (grow (fits_batch listMax h) cur rs))
-      ≡ remaining_lengths listMax (length prefix) (length (list_of h cur)) rs
+  pub grow_lengths : (cur rs : List (List Step)) → lengths (map (with_prefix prefix h) (grow (fits_batch list_max h) cur rs))
+      ≡ remaining_lengths list_max (length prefix) (length (list_of h cur)) rs
   unfolding next_size length_byte_if_full
   grow_lengths cur [] = ap (λ (n : ℕ). n ∷ []) (prefixed_length cur)
   grow_lengths cur (r ∷ rs) =
-      by_test (fits_batch listMax h cur r)
-      (λ e. rw (grow_fits (fits_batch listMax h) cur r rs e, sym (fits_as cur r) ∙ e, ← (list_snoc h cur r)) (grow_lengths (cur ++ (r ∷ [])) rs))
-      (λ e. rw (grow_not_fits (fits_batch listMax h) cur r rs e, sym (fits_as cur r) ∙ e, prefixed_length cur, ← (list_one h r))
+      by_test (fits_batch list_max h cur r)
+      (λ e. rw (grow_fits (fits_batch list_max h) cur r rs e, sym (fits_as cur r) ∙ e, ← (list_snoc h cur r)) (grow_lengths (cur ++ (r ∷ [])) rs))
+      (λ e. rw (grow_not_fits (fits_batch list_max h) cur r rs e, sym (fits_as cur r) ∙ e, prefixed_length cur, ← (list_one h r))
       (ap (λ (t : List ℕ). (length (list_of h cur) + length prefix) ∷ t) (grow_lengths (r ∷ []) rs)))
 
 -- an entry that fits the open list, and one that does not
-module _ (listMax : ℕ) (prefix : List ℕ) (n size pdata : ℕ) where
+module _ (list_max : ℕ) (prefix : List ℕ) (n size pdata : ℕ) where
   -- nothing separates them
-  pub list_open : size + entry_size pdata ≤ listMax
-      → (separator_bytes listMax prefix size pdata ≡ []) × (length_byte_if_full listMax n size pdata ≡ []) × (next_size listMax size pdata ≡ size + entry_size pdata)
+  pub list_open : size + entry_size pdata ≤ list_max
+      → (separator_bytes list_max prefix size pdata ≡ []) × (length_byte_if_full list_max n size pdata ≡ []) × (next_size list_max size pdata ≡ size + entry_size pdata)
   unfolding separator_bytes length_byte_if_full next_size
-  list_open h = rw (le-leb (size + entry_size pdata) listMax h) (refl, refl, refl)
+  list_open h = rw (le-leb (size + entry_size pdata) list_max h) (refl, refl, refl)
 
   -- the list is ended, and a new one takes the entry
-  pub list_full : listMax < size + entry_size pdata
-      → (separator_bytes listMax prefix size pdata ≡ closing_zero ∷ prefix) × (length_byte_if_full listMax n size pdata ≡ (size + n) ∷ []) × (next_size listMax size pdata ≡ empty_list_size + entry_size pdata)
+  pub list_full : list_max < size + entry_size pdata
+      → (separator_bytes list_max prefix size pdata ≡ closing_zero ∷ prefix) × (length_byte_if_full list_max n size pdata ≡ (size + n) ∷ []) × (next_size list_max size pdata ≡ empty_list_size + entry_size pdata)
   unfolding separator_bytes length_byte_if_full next_size
-  list_full h = rw (lt-leb (size + entry_size pdata) listMax h) (refl, refl, refl)
+  list_full h = rw (lt-leb (size + entry_size pdata) list_max h) (refl, refl, refl)
 
-module _ {entryMax listMax : ℕ} {front : List ℕ} (l : Limits entryMax listMax front) where
+module _ {entry_max list_max : ℕ} {front : List ℕ} (l : Limits entry_max list_max front) where
   -- a list stays within its limit
-  pub next_small : (size pdata : ℕ) → pdata ≤ entryMax → next_size listMax size pdata ≤ listMax
+  pub next_small : (size pdata : ℕ) → pdata ≤ entry_max → next_size list_max size pdata ≤ list_max
   unfolding next_size
   next_small size pdata m =
-      by_cond (λ (n : ℕ). n ≤ listMax) (fits_list listMax size pdata) _ _ (λ e. leb-true _ _ e) (λ e. omega (arith, l.list))
+      by_cond (λ (n : ℕ). n ≤ list_max) (fits_list list_max size pdata) _ _ (λ e. leb-true _ _ e) (λ e. omega (arith, l.list))
 
   module _ (prefix : List ℕ) (h : ℕ) (ss : List Step) (good : All Good ss) (some : 0 < length ss) where
-    first_fits : (r : List Step) → EntryGroup entryMax r → fits_batch listMax h [] r ≡ true
+    first_fits : (r : List Step) → EntryGroup entry_max r → fits_batch list_max h [] r ≡ true
     first_fits [] q = absurd q
-    first_fits (s ∷ ss) q = le-leb (length (list_of h ((s ∷ ss) ∷ []))) listMax (omega (arith, list_one h (s ∷ ss), q.2, l.list))
+    first_fits (s ∷ ss) q = le-leb (length (list_of h ((s ∷ ss) ∷ []))) list_max (omega (arith, list_one h (s ∷ ss), q.2, l.list))
 
     -- the first entry fits a list without entries
-    from_empty : (rs : List (List Step)) → concat rs ≡ ss → All (EntryGroup entryMax) rs → group (fits_batch listMax h) rs ≡ grow (fits_batch listMax h) [] rs
+    from_empty : (rs : List (List Step)) → concat rs ≡ ss → All (EntryGroup entry_max) rs → group (fits_batch list_max h) rs ≡ grow (fits_batch list_max h) [] rs
     from_empty [] e a = absurd (omega (arith, ap length e))
-    from_empty (r ∷ rs) e a = sym (grow_fits (fits_batch listMax h) [] r rs (first_fits r a.0))
+    from_empty (r ∷ rs) e a = sym (grow_fits (fits_batch list_max h) [] r rs (first_fits r a.0))
 
-    batches_grow : batches_of entryMax listMax h ss ≡ grow (fits_batch listMax h) [] (entries_of entryMax ss)
-    batches_grow = from_empty (entries_of entryMax ss) (joining_keeps entryMax ss) (entry_groups entryMax l.entry ss good)
+    batches_grow : batches_of entry_max list_max h ss ≡ grow (fits_batch list_max h) [] (entries_of entry_max ss)
+    batches_grow = from_empty (entries_of entry_max ss) (joining_keeps entry_max ss) (entry_groups entry_max l.entry ss good)
 
     -- the requests of a scene, before the first entry is written
-    pub requests_bytes : concat (map (with_prefix prefix h) (batches_of entryMax listMax h ss)) ≡ prefix ++ remaining_bytes listMax prefix h empty_list_size (entries_of entryMax ss)
+    pub requests_bytes : concat (map (with_prefix prefix h) (batches_of entry_max list_max h ss)) ≡ prefix ++ remaining_bytes list_max prefix h empty_list_size (entries_of entry_max ss)
     unfolding entries_bytes
     requests_bytes =
-        ap (λ (bs : List (List (List Step))). concat (map (with_prefix prefix h) bs)) batches_grow ∙ grow_bytes listMax prefix h [] (entries_of entryMax ss)
+        ap (λ (bs : List (List (List Step))). concat (map (with_prefix prefix h) bs)) batches_grow ∙ grow_bytes list_max prefix h [] (entries_of entry_max ss)
 
     -- and their lengths
-    pub requests_lengths : lengths (map (with_prefix prefix h) (batches_of entryMax listMax h ss)) ≡ remaining_lengths listMax (length prefix) empty_list_size (entries_of entryMax ss)
+    pub requests_lengths : lengths (map (with_prefix prefix h) (batches_of entry_max list_max h ss)) ≡ remaining_lengths list_max (length prefix) empty_list_size (entries_of entry_max ss)
     unfolding entries_bytes
     requests_lengths =
-        ap (λ (bs : List (List (List Step))). lengths (map (with_prefix prefix h) bs)) batches_grow ∙ grow_lengths listMax prefix h [] (entries_of entryMax ss)
+        ap (λ (bs : List (List (List Step))). lengths (map (with_prefix prefix h) bs)) batches_grow ∙ grow_lengths list_max prefix h [] (entries_of entry_max ss)
 
 -- ---- the next entry, of k steps with sz bytes of PData, where step `step` is next
-module _ (entryMax listMax : ℕ) (ss : List Step) (step k sz : ℕ) (f : FirstEntry entryMax (drop step ss) k sz) where
+module _ (entry_max list_max : ℕ) (ss : List Step) (step k sz : ℕ) (f : FirstEntry entry_max (drop step ss) k sz) where
   -- the groups that remain are its own and the later ones
-  pub entries_next : entries_of entryMax (drop step ss) ≡ take k (drop step ss) ∷ entries_of entryMax (drop (step + k) ss)
-  entries_next = f.first ∙ ap (λ (t : List Step). take k (drop step ss) ∷ entries_of entryMax t) (drop-drop k step ss)
+  pub entries_next : entries_of entry_max (drop step ss) ≡ take k (drop step ss) ∷ entries_of entry_max (drop (step + k) ss)
+  entries_next = f.first ∙ ap (λ (t : List Step). take k (drop step ss) ∷ entries_of entry_max t) (drop-drop k step ss)
 
   -- the bytes that remain: what separates it from the entry before, its own, the later ones
-  pub bytes_next : (prefix : List ℕ) (h size : ℕ) → remaining_bytes listMax prefix h size (entries_of entryMax (drop step ss))
-      ≡ separator_bytes listMax prefix size sz
-      ++ (entry_bytes (joined_entry h (take k (drop step ss))) ++ remaining_bytes listMax prefix h (next_size listMax size sz) (entries_of entryMax (drop (step + k) ss)))
+  pub bytes_next : (prefix : List ℕ) (h size : ℕ) → remaining_bytes list_max prefix h size (entries_of entry_max (drop step ss))
+      ≡ separator_bytes list_max prefix size sz
+      ++ (entry_bytes (joined_entry h (take k (drop step ss))) ++ remaining_bytes list_max prefix h (next_size list_max size sz) (entries_of entry_max (drop (step + k) ss)))
   bytes_next prefix h size = rw (entries_next, f.size_is)
 
   -- the length bytes that remain
-  pub lengths_next : (prefix size : ℕ) → remaining_lengths listMax prefix size (entries_of entryMax (drop step ss))
-      ≡ length_byte_if_full listMax prefix size sz ++ remaining_lengths listMax prefix (next_size listMax size sz) (entries_of entryMax (drop (step + k) ss))
+  pub lengths_next : (prefix size : ℕ) → remaining_lengths list_max prefix size (entries_of entry_max (drop step ss))
+      ≡ length_byte_if_full list_max prefix size sz ++ remaining_lengths list_max prefix (next_size list_max size sz) (entries_of entry_max (drop (step + k) ss))
   lengths_next prefix size = rw (entries_next, f.size_is)

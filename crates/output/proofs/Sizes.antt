@@ -51,9 +51,9 @@ request_length header front rs = omega (arith, length-append front (list_of head
 abbrev pub FrameSized : List ℕ → Type 0
 FrameSized r = (header_size ≤ length r) × (length r ≤ longest_frame)
 
-module _ {entryMax listMax : ℕ} {front : List ℕ} (l : Limits entryMax listMax front) (header : Frame) where
+module _ {entry_max list_max : ℕ} {front : List ℕ} (l : Limits entry_max list_max front) (header : Frame) where
   -- the request of a batch fits a frame
-  pub batch_fits : (rs : List (List Step)) → BatchRule entryMax listMax header.hwpid rs → FrameSized (request_with header front rs)
+  pub batch_fits : (rs : List (List Step)) → BatchRule entry_max list_max header.hwpid rs → FrameSized (request_with header front rs)
   batch_fits rs b =
       let n = request_length header front rs in
       let s = b.size in
@@ -61,9 +61,9 @@ module _ {entryMax listMax : ℕ} {front : List ℕ} (l : Limits entryMax listMa
       (omega arith, omega arith)
 
   -- every request of a scene fits a frame
-  pub requests_fit : (ss : List Step) → All Good ss → All FrameSized (map (request_with header front) (batches_of entryMax listMax header.hwpid ss))
-  requests_fit ss g = each (batches_of entryMax listMax header.hwpid ss) (batches_rule l header.hwpid ss g)
+  pub requests_fit : (ss : List Step) → All Good ss → All FrameSized (map (request_with header front) (batches_of entry_max list_max header.hwpid ss))
+  requests_fit ss g = each (batches_of entry_max list_max header.hwpid ss) (batches_rule l header.hwpid ss g)
     where
-      each : (bs : List (List (List Step))) → All (BatchRule entryMax listMax header.hwpid) bs → All FrameSized (map (request_with header front) bs)
+      each : (bs : List (List (List Step))) → All (BatchRule entry_max list_max header.hwpid) bs → All FrameSized (map (request_with header front) bs)
       each [] a = tt
       each (b ∷ bs) a = (batch_fits b a.0, each bs a.1)

@@ -55,19 +55,19 @@ group_some limit [] q = absurd q
 group_some limit (s ∷ ss) q = (omega arith, q.2)
 
 -- byte m and the one after it are the span of the first entry of these steps, and the later spans follow
-pub record NextSpan (entryMax : ℕ) (xs : List Step) (spans : List ℕ) (m : ℕ) : Type 0 where
+pub record NextSpan (entry_max : ℕ) (xs : List Step) (spans : List ℕ) (m : ℕ) : Type 0 where
   pub in_range : m + 1 < length spans
-  pub entry : FirstEntry entryMax xs (get_or spans m 0) (get_or spans (m + 1) 0)
-  pub rest : StartsWithSpans entryMax (drop (get_or spans m 0) xs) (drop (m + span_length) spans)
+  pub entry : FirstEntry entry_max xs (get_or spans m 0) (get_or spans (m + 1) 0)
+  pub rest : StartsWithSpans entry_max (drop (get_or spans m 0) xs) (drop (m + span_length) spans)
 
 -- the first group that joining makes is the first entry
-module _ (entryMax : ℕ) (min : one_step_max ≤ entryMax) (xs : List Step) (good : All Good xs) where
-  first_entry : (r : List Step) (rs : List (List Step)) → entries_of entryMax xs ≡ r ∷ rs → FirstEntry entryMax xs (length r) (length (group_data r))
+module _ (entry_max : ℕ) (min : one_step_max ≤ entry_max) (xs : List Step) (good : All Good xs) where
+  first_entry : (r : List Step) (rs : List (List Step)) → entries_of entry_max xs ≡ r ∷ rs → FirstEntry entry_max xs (length r) (length (group_data r))
   first_entry r rs e =
-      let c = group_first (joins entryMax) xs r rs e in
+      let c = group_first (joins entry_max) xs r rs e in
       let t = take_length c.count xs in
-      let all : All (EntryGroup entryMax) (r ∷ rs) = rw e at (entry_groups entryMax min xs good) in
-      let q = group_some entryMax r all.0 in
+      let all : All (EntryGroup entry_max) (r ∷ rs) = rw e at (entry_groups entry_max min xs good) in
+      let q = group_some entry_max r all.0 in
       let same : take (length r) xs ≡ r = ap (λ (l : List Step). take (length l) xs) c.first ∙ t.0 ∙ sym c.first in
       let rest : drop (length r) xs ≡ drop c.count xs = ap (λ (l : List Step). drop (length l) xs) c.first ∙ t.1 in
       record {
@@ -80,18 +80,18 @@ module _ (entryMax : ℕ) (min : one_step_max ≤ entryMax) (xs : List Step) (go
         );
         size_max = q.1;
         size_is = ap (λ (l : List Step). length (group_data l)) (sym same);
-        first = e ∙ ap₂ (λ (l : List Step) (ls : List (List Step)). l ∷ ls) (sym same) (c.rest ∙ ap (entries_of entryMax) (sym rest));
+        first = e ∙ ap₂ (λ (l : List Step) (ls : List (List Step)). l ∷ ls) (sym same) (c.rest ∙ ap (entries_of entry_max) (sym rest));
       }
 
   module _ (spans : List ℕ) (m : ℕ) (unused : List ℕ) (some : 0 < length xs) where
-    span_from : (es : List (List Step)) → entries_of entryMax xs ≡ es → drop m spans ≡ span_bytes es ++ unused → NextSpan entryMax xs spans m
-    span_from [] e q = absurd (omega (arith, ap length (sym (joining_keeps entryMax xs) ∙ ap concat e)))
+    span_from : (es : List (List Step)) → entries_of entry_max xs ≡ es → drop m spans ≡ span_bytes es ++ unused → NextSpan entry_max xs spans m
+    span_from [] e q = absurd (omega (arith, ap length (sym (joining_keeps entry_max xs) ∙ ap concat e)))
     span_from (r ∷ rs) e q =
         let f = first_entry r rs e in
         let z : m + 0 ≡ m = add-zero m in
         let a : get_or spans m 0 ≡ length r = sym (ap (λ (i : ℕ). get_or spans i 0) z) ∙ sym (get_or-drop m spans 0 0) ∙ ap (λ (l : List ℕ). get_or l 0 0) q in
         let b : get_or spans (m + 1) 0 ≡ length (group_data r) = sym (get_or-drop m spans 1 0) ∙ ap (λ (l : List ℕ). get_or l 1 0) q in
-        let n : rs ≡ entries_of entryMax (drop (length r) xs) = ap (drop 1) (sym e ∙ f.first) in
+        let n : rs ≡ entries_of entry_max (drop (length r) xs) = ap (drop 1) (sym e ∙ f.first) in
         record {
           in_range = omega (arith, ap length q, length-drop m spans);
           entry = rw (a, b) f;
@@ -99,41 +99,41 @@ module _ (entryMax : ℕ) (min : one_step_max ≤ entryMax) (xs : List Step) (go
         }
 
   -- the span at byte m, where the spans of these steps start
-  pub next_span : (spans : List ℕ) (m : ℕ) → 0 < length xs → StartsWithSpans entryMax xs (drop m spans) → NextSpan entryMax xs spans m
-  next_span spans m some t = span_from spans m t.unused some (entries_of entryMax xs) refl t.starts
+  pub next_span : (spans : List ℕ) (m : ℕ) → 0 < length xs → StartsWithSpans entry_max xs (drop m spans) → NextSpan entry_max xs spans m
+  next_span spans m some t = span_from spans m t.unused some (entries_of entry_max xs) refl t.starts
 
 -- ---- the loop of write_lengths: the spans of the steps before `step` are in the first m bytes
 abbrev pub SpansWritten : ℕ → List Step → List ℕ → ℕ → List ℕ → ℕ → Type 0
-SpansWritten entryMax ss old step spans m = Remaining old 0 (span_bytes (entries_of entryMax ss)) spans m (span_bytes (entries_of entryMax (drop step ss)))
+SpansWritten entry_max ss old step spans m = Remaining old 0 (span_bytes (entries_of entry_max ss)) spans m (span_bytes (entries_of entry_max (drop step ss)))
 
 spans_length : (es : List (List Step)) → length (span_bytes es) ≡ span_length * length es
 spans_length [] = refl
 spans_length (r ∷ rs) = omega (arith, spans_length rs)
 
 -- room for one span for each step is enough
-spans_room : (entryMax : ℕ) (ss : List Step) → length (span_bytes (entries_of entryMax ss)) ≤ span_length * length ss
-spans_room entryMax ss = omega (arith, spans_length (entries_of entryMax ss), length_group (joins entryMax) ss)
+spans_room : (entry_max : ℕ) (ss : List Step) → length (span_bytes (entries_of entry_max ss)) ≤ span_length * length ss
+spans_room entry_max ss = omega (arith, spans_length (entries_of entry_max ss), length_group (joins entry_max) ss)
 
-module _ (entryMax : ℕ) (ss : List Step) (old : List ℕ) (step : ℕ) (spans : List ℕ) (m : ℕ) (l : SpansWritten entryMax ss old step spans m) where
-  module _ (k sz : ℕ) (f : FirstEntry entryMax (drop step ss) k sz) where
-    spans_next : span_bytes (entries_of entryMax (drop step ss)) ≡ (k ∷ sz ∷ []) ++ span_bytes (entries_of entryMax (drop (step + k) ss))
-    spans_next = ap span_bytes (entries_next entryMax 0 ss step k sz f) ∙ rw (length-take-le k (drop step ss) f.within, ← f.size_is)
+module _ (entry_max : ℕ) (ss : List Step) (old : List ℕ) (step : ℕ) (spans : List ℕ) (m : ℕ) (l : SpansWritten entry_max ss old step spans m) where
+  module _ (k sz : ℕ) (f : FirstEntry entry_max (drop step ss) k sz) where
+    spans_next : span_bytes (entries_of entry_max (drop step ss)) ≡ (k ∷ sz ∷ []) ++ span_bytes (entries_of entry_max (drop (step + k) ss))
+    spans_next = ap span_bytes (entries_next entry_max 0 ss step k sz f) ∙ rw (length-take-le k (drop step ss) f.within, ← f.size_is)
 
     -- the next span has room
     pub span_room : m + span_length ≤ span_length * length ss
-    span_room = omega (arith, l.end, ap length spans_next, spans_room entryMax ss)
+    span_room = omega (arith, l.end, ap length spans_next, spans_room entry_max ss)
 
     -- and after it the loop goes on
-    pub spans_more : SpansWritten entryMax ss old (step + k) (set (set spans m k) (m + 1) sz) (m + span_length)
+    pub spans_more : SpansWritten entry_max ss old (step + k) (set (set spans m k) (m + 1) sz) (m + span_length)
     spans_more =
         remaining_more old 0 _ spans m _ l (k ∷ sz ∷ []) _ _ (m + span_length) spans_next (ap (λ (i : ℕ). set (set spans m k) i sz) (add-one m)) refl
 
   -- after the last step the bytes start with all spans
-  pub spans_end : length ss ≤ step → span_length * length ss ≤ length old → StartsWithSpans entryMax ss spans
+  pub spans_end : length ss ≤ step → span_length * length ss ≤ length old → StartsWithSpans entry_max ss spans
   spans_end d h =
       let none : drop step ss ≡ [] = drop_of_length-le ss {i = step} d in
-      let e : sets old 0 (span_bytes (entries_of entryMax ss)) ≡ sets spans m (span_bytes (entries_of entryMax [])) = rw none at l.bytes in
+      let e : sets old 0 (span_bytes (entries_of entry_max ss)) ≡ sets spans m (span_bytes (entries_of entry_max [])) = rw none at l.bytes in
       record {
-        unused = drop (0 + length (span_bytes (entries_of entryMax ss))) old;
-        starts = sym e ∙ sets-eq (span_bytes (entries_of entryMax ss)) old 0 (omega (arith, spans_room entryMax ss));
+        unused = drop (0 + length (span_bytes (entries_of entry_max ss))) old;
+        starts = sym e ∙ sets-eq (span_bytes (entries_of entry_max ss)) old 0 (omega (arith, spans_room entry_max ss));
       }

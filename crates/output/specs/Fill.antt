@@ -16,20 +16,20 @@ requests_with limits header front ss = map (request_with header front) (batches_
 -- ---- an open list of `size` bytes, its closing zero included, and a next entry with `pdata` bytes of PData
 
 -- whether the list has room for the entry
-abbrev pub fits_list : (listMax size pdata : ℕ) → Bool
-fits_list listMax size pdata = leb (size + entry_size pdata) listMax
+abbrev pub fits_list : (list_max size pdata : ℕ) → Bool
+fits_list list_max size pdata = leb (size + entry_size pdata) list_max
 
 -- size of the list that the entry goes into: the open list, or a new one
-unfoldable pub next_size : (listMax size pdata : ℕ) → ℕ
-next_size listMax size pdata = cond (fits_list listMax size pdata) (size + entry_size pdata) (empty_list_size + entry_size pdata)
+unfoldable pub next_size : (list_max size pdata : ℕ) → ℕ
+next_size list_max size pdata = cond (fits_list list_max size pdata) (size + entry_size pdata) (empty_list_size + entry_size pdata)
 
 -- bytes written before the entry: none, or the open list's closing zero and the prefix of the next request
-unfoldable pub separator_bytes : (listMax : ℕ) (prefix : List ℕ) (size pdata : ℕ) → List ℕ
-separator_bytes listMax prefix size pdata = cond (fits_list listMax size pdata) [] (closing_zero ∷ prefix)
+unfoldable pub separator_bytes : (list_max : ℕ) (prefix : List ℕ) (size pdata : ℕ) → List ℕ
+separator_bytes list_max prefix size pdata = cond (fits_list list_max size pdata) [] (closing_zero ∷ prefix)
 
 -- the length byte of the open list's request if the entry does not fit, where a request has `prefix` bytes before its list
-unfoldable pub length_byte_if_full : (listMax prefix size pdata : ℕ) → List ℕ
-length_byte_if_full listMax prefix size pdata = cond (fits_list listMax size pdata) [] ((size + prefix) ∷ [])
+unfoldable pub length_byte_if_full : (list_max prefix size pdata : ℕ) → List ℕ
+length_byte_if_full list_max prefix size pdata = cond (fits_list list_max size pdata) [] ((size + prefix) ∷ [])
 
 -- ---- spans: what the first pass keeps about each entry for the second, its number of steps and the size of its PData
 
@@ -47,6 +47,6 @@ abbrev pub max_span_bytes : ℕ
 max_span_bytes = span_length * steps_max
 
 -- the bytes start with the spans of these steps' entries
-pub record StartsWithSpans (entryMax : ℕ) (ss : List Step) (bytes : List ℕ) : Type 0 where
+pub record StartsWithSpans (entry_max : ℕ) (ss : List Step) (bytes : List ℕ) : Type 0 where
   pub unused : List ℕ
-  pub starts : bytes ≡ span_bytes (entries_of entryMax ss) ++ unused
+  pub starts : bytes ≡ span_bytes (entries_of entry_max ss) ++ unused

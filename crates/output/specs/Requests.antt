@@ -30,20 +30,20 @@ abbrev pub empty_list_size : ℕ
 empty_list_size = 1
 
 -- whether a list stays within `list_max` with one more entry
-abbrev pub fits_batch : (listMax h : ℕ) → List (List Step) → List Step → Bool
-fits_batch listMax h groups group = leb (length (list_of h (groups ++ (group ∷ [])))) listMax
+abbrev pub fits_batch : (list_max h : ℕ) → List (List Step) → List Step → Bool
+fits_batch list_max h groups group = leb (length (list_of h (groups ++ (group ∷ [])))) list_max
 
 -- the batches of a scene, each a list of entries, filled greedily from the left
-abbrev pub batches_of : (entryMax listMax h : ℕ) → List Step → List (List (List Step))
-batches_of entryMax listMax h ss = group (fits_batch listMax h) (entries_of entryMax ss)
+abbrev pub batches_of : (entry_max list_max h : ℕ) → List Step → List (List (List Step))
+batches_of entry_max list_max h ss = group (fits_batch list_max h) (entries_of entry_max ss)
 
 -- ---- requests
 
 -- the limits, and the bytes in front of the lists: an entry has room for a step, a list for an entry, and a frame for a list
-pub record Limits (entryMax listMax : ℕ) (front : List ℕ) : Type 0 where
-  pub entry : one_step_max ≤ entryMax
-  pub list : empty_list_size + entry_size entryMax ≤ listMax
-  pub frame : length front + listMax ≤ pdata_max
+pub record Limits (entry_max list_max : ℕ) (front : List ℕ) : Type 0 where
+  pub entry : one_step_max ≤ entry_max
+  pub list : empty_list_size + entry_size entry_max ≤ list_max
+  pub frame : length front + list_max ≤ pdata_max
 
 -- a request: the header, the bytes in front of the list, the list
 abbrev pub request_with : Frame → List ℕ → List (List Step) → List ℕ
@@ -54,8 +54,8 @@ abbrev pub request_bytes : (pcmd : ℕ) (front : List ℕ) (a h : ℕ) → List 
 request_bytes pcmd front a h groups = request_with (frame a os_pnum pcmd h) front groups
 
 -- the requests of a scene within two limits, with any PCMD and any bytes in front of the lists
-abbrev pub requests_of : (entryMax listMax pcmd : ℕ) (front : List ℕ) (a h : ℕ) → List Step → List (List ℕ)
-requests_of entryMax listMax pcmd front a h ss = map (request_bytes pcmd front a h) (batches_of entryMax listMax h ss)
+abbrev pub requests_of : (entry_max list_max pcmd : ℕ) (front : List ℕ) (a h : ℕ) → List Step → List (List ℕ)
+requests_of entry_max list_max pcmd front a h ss = map (request_bytes pcmd front a h) (batches_of entry_max list_max h ss)
 
 -- ---- batches to an address
 

@@ -124,12 +124,12 @@ module _ (w : Waiting) (r : WaitingRule w) where
       rw (le-ltb pdata_max n s, eb, l, same_address)
 
   -- `confirm` writes its confirmation
-  pub waiting_confirmed : (net : Network) (dpaValue n : ℕ) (o : List ℕ) → n ≡ w.length → longest_response ≤ length o
-      → confirm_of (take n w.frame) dpaValue w.hops w.response_hops net o ≡ result_in_buffer 0 (confirmation_of net dpaValue (request_in w)) o
+  pub waiting_confirmed : (net : Network) (dpa_value n : ℕ) (o : List ℕ) → n ≡ w.length → longest_response ≤ length o
+      → confirm_of (take n w.frame) dpa_value w.hops w.response_hops net o ≡ result_in_buffer 0 (confirmation_of net dpa_value (request_in w)) o
   unfolding confirmation_of
-  waiting_confirmed net dpaValue n o e room =
-      ap (λ (k : ℕ). confirm_of (take k w.frame) dpaValue w.hops w.response_hops net o) e
-      ∙ Confirmations.confirmation_given (request_in w).frame dpaValue w.hops w.response_hops net o (ap frame_fits same_length ∙ r.fits) room
+  waiting_confirmed net dpa_value n o e room =
+      ap (λ (k : ℕ). confirm_of (take k w.frame) dpa_value w.hops w.response_hops net o) e
+      ∙ Confirmations.confirmation_given (request_in w).frame dpa_value w.hops w.response_hops net o (ap frame_fits same_length ∙ r.fits) room
 
 module _ (q : SendQueue) (f : QueueRule q) where
   -- every place from the count on is empty

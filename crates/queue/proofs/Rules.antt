@@ -233,9 +233,9 @@ queue_test q r =
     (le-leb _ _ r.last_max)) (le-leb _ _ r.next_max)
 
 -- a new queue follows the rule
-pub new_rule : (lp : Bool) (dpaValue : ℕ) → QueueRule (new_queue lp dpaValue)
+pub new_rule : (lp : Bool) (dpa_value : ℕ) → QueueRule (new_queue lp dpa_value)
 unfolding new_queue
-new_rule lp dpaValue =
+new_rule lp dpa_value =
     record {
       network_max = by_cond (λ (n : ℕ). n ≤ 1) lp _ _ (λ e. omega arith) (λ e. omega arith);
       count_max = omega arith;

@@ -35,7 +35,7 @@ wait_after net r =
 
 -- the confirmation of a request
 unfoldable pub confirmation_of : Network → ℕ → Outgoing → List ℕ
-confirmation_of net dpaValue r = confirmation r.frame dpaValue r.hops r.hops_of_response net
+confirmation_of net dpa_value r = confirmation r.frame dpa_value r.hops r.hops_of_response net
 
 -- ---- places
 
@@ -138,12 +138,12 @@ pub record QueueRule (q : SendQueue) : Type 0 where
 
 -- an empty queue, with times 0
 unfoldable pub new_queue : Bool → ℕ → SendQueue
-new_queue lp dpaValue =
+new_queue lp dpa_value =
     record {
       last = 0;
       next = 0;
       network = cond lp 1 0;
-      dpa_value = dpaValue;
+      dpa_value = dpa_value;
       count = 0;
       places = replicate queue_size empty_place;
     }

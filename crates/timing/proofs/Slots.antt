@@ -50,59 +50,59 @@ direction_grows h k slot l =
     omega arith
 
 -- no wait is longer
-pub earliest_max : (hops requestLength delay hops_of_response responseLength : ℕ) (net : Network) (broadcast : Bool) → hops < 256 → delay < 65536 → hops_of_response < 256
-    → earliest_of hops requestLength delay hops_of_response responseLength net broadcast ≤ wait_max
+pub earliest_max : (hops request_length delay hops_of_response response_length : ℕ) (net : Network) (broadcast : Bool) → hops < 256 → delay < 65536 → hops_of_response < 256
+    → earliest_of hops request_length delay hops_of_response response_length net broadcast ≤ wait_max
 unfolding earliest_of
-earliest_max hops requestLength delay hops_of_response responseLength net broadcast h d b =
-    let p : direction_time hops (slot_of requestLength net) ≤ 2560 * 10 = direction_max_lem hops (slot_of requestLength net) 10 h (slot_range requestLength net).1 in
-    let q : direction_time hops_of_response (slot_of responseLength net) ≤ 2560 * 10 = direction_max_lem hops_of_response (slot_of responseLength net) 10 b (slot_range responseLength net).1 in
-    by_cond (λ (w : ℕ). direction_time hops (slot_of requestLength net) + delay + w ≤ wait_max) broadcast _ _ (λ e. omega arith) (λ e. omega arith)
+earliest_max hops request_length delay hops_of_response response_length net broadcast h d b =
+    let p : direction_time hops (slot_of request_length net) ≤ 2560 * 10 = direction_max_lem hops (slot_of request_length net) 10 h (slot_range request_length net).1 in
+    let q : direction_time hops_of_response (slot_of response_length net) ≤ 2560 * 10 = direction_max_lem hops_of_response (slot_of response_length net) 10 b (slot_range response_length net).1 in
+    by_cond (λ (w : ℕ). direction_time hops (slot_of request_length net) + delay + w ≤ wait_max) broadcast _ _ (λ e. omega arith) (λ e. omega arith)
 
 -- nor is one that `earliest_send` answers longer
-pub send_max : (hops requestLength delay hops_of_response responseLength : ℕ) (net : Network) (broadcast : Bool) → hops < 256 → delay < 65536 → hops_of_response < 256
-    → (send_of hops requestLength delay hops_of_response responseLength net broadcast).milliseconds ≤ wait_max
+pub send_max : (hops request_length delay hops_of_response response_length : ℕ) (net : Network) (broadcast : Bool) → hops < 256 → delay < 65536 → hops_of_response < 256
+    → (send_of hops request_length delay hops_of_response response_length net broadcast).milliseconds ≤ wait_max
 unfolding send_of
-send_max hops requestLength delay hops_of_response responseLength net broadcast h d b =
-    by_cond Within (ltb pdata_max requestLength) _ _ (λ e. omega arith)
-    (λ e. by_cond Within (ltb pdata_max responseLength) _ _ (λ t. omega arith) (λ t. earliest_max hops requestLength delay hops_of_response responseLength net broadcast h d b))
+send_max hops request_length delay hops_of_response response_length net broadcast h d b =
+    by_cond Within (ltb pdata_max request_length) _ _ (λ e. omega arith)
+    (λ e. by_cond Within (ltb pdata_max response_length) _ _ (λ t. omega arith) (λ t. earliest_max hops request_length delay hops_of_response response_length net broadcast h d b))
   where
     Within : SendAnswer → Type 0
     Within a = a.milliseconds ≤ wait_max
 
 -- the wait after a broadcast does not depend on the response, as long as its length is in range
-pub broadcast_ignores_response : (hops requestLength delay b b' r r' : ℕ) (net : Network) → r ≤ pdata_max → r' ≤ pdata_max
-    → send_of hops requestLength delay b r net true ≡ send_of hops requestLength delay b' r' net true
+pub broadcast_ignores_response : (hops request_length delay b b' r r' : ℕ) (net : Network) → r ≤ pdata_max → r' ≤ pdata_max
+    → send_of hops request_length delay b r net true ≡ send_of hops request_length delay b' r' net true
 unfolding send_of earliest_of
-broadcast_ignores_response hops requestLength delay b b' r r' net h h' = simp (le-ltb pdata_max r h, le-ltb pdata_max r' h')
+broadcast_ignores_response hops request_length delay b b' r r' net h h' = simp (le-ltb pdata_max r h, le-ltb pdata_max r' h')
 
-earliest_grows : (h h' requestLength delay b b' responseLength : ℕ) (net : Network) (broadcast : Bool) → h ≤ h' → b ≤ b'
-    → earliest_of h requestLength delay b responseLength net broadcast ≤ earliest_of h' requestLength delay b' responseLength net broadcast
+earliest_grows : (h h' request_length delay b b' response_length : ℕ) (net : Network) (broadcast : Bool) → h ≤ h' → b ≤ b'
+    → earliest_of h request_length delay b response_length net broadcast ≤ earliest_of h' request_length delay b' response_length net broadcast
 unfolding earliest_of
-earliest_grows h h' requestLength delay b b' responseLength net true l m = omega (arith, direction_grows h h' (slot_of requestLength net) l)
-earliest_grows h h' requestLength delay b b' responseLength net false l m =
-    omega (arith, direction_grows h h' (slot_of requestLength net) l, direction_grows b b' (slot_of responseLength net) m)
+earliest_grows h h' request_length delay b b' response_length net true l m = omega (arith, direction_grows h h' (slot_of request_length net) l)
+earliest_grows h h' request_length delay b b' response_length net false l m =
+    omega (arith, direction_grows h h' (slot_of request_length net) l, direction_grows b b' (slot_of response_length net) m)
 
 -- more hops in either direction never give an earlier time
-pub send_grows : (h h' requestLength delay b b' responseLength : ℕ) (net : Network) (broadcast : Bool) → h ≤ h' → b ≤ b'
-    → (send_of h requestLength delay b responseLength net broadcast).milliseconds ≤ (send_of h' requestLength delay b' responseLength net broadcast).milliseconds
+pub send_grows : (h h' request_length delay b b' response_length : ℕ) (net : Network) (broadcast : Bool) → h ≤ h' → b ≤ b'
+    → (send_of h request_length delay b response_length net broadcast).milliseconds ≤ (send_of h' request_length delay b' response_length net broadcast).milliseconds
 unfolding send_of
-send_grows h h' requestLength delay b b' responseLength net broadcast l m =
-    by_test (ltb pdata_max requestLength) (λ e. rw e (omega arith))
-    (λ e. by_test (ltb pdata_max responseLength) (λ t. rw (e, t) (omega arith)) (λ t. rw (e, t) (earliest_grows h h' requestLength delay b b' responseLength net broadcast l m)))
+send_grows h h' request_length delay b b' response_length net broadcast l m =
+    by_test (ltb pdata_max request_length) (λ e. rw e (omega arith))
+    (λ e. by_test (ltb pdata_max response_length) (λ t. rw (e, t) (omega arith)) (λ t. rw (e, t) (earliest_grows h h' request_length delay b b' response_length net broadcast l m)))
 
 -- the answers of `earliest_send`, from the slot s and the time w of the request
-module _ (hops requestLength delay hops_of_response responseLength : ℕ) (net : Network) (broadcast : Bool) (a : requestLength ≤ pdata_max) (b : responseLength ≤ pdata_max)
-    (s w : ℕ) (es : s ≡ slot_of requestLength net) (ew : w ≡ direction_time hops s) where
+module _ (hops request_length delay hops_of_response response_length : ℕ) (net : Network) (broadcast : Bool) (a : request_length ≤ pdata_max) (b : response_length ≤ pdata_max)
+    (s w : ℕ) (es : s ≡ slot_of request_length net) (ew : w ≡ direction_time hops s) where
   -- a broadcast
   pub send_broadcast : broadcast ≡ true
-      → send_answer 0 (w + delay) ≡ send_of hops requestLength delay hops_of_response responseLength net broadcast
+      → send_answer 0 (w + delay) ≡ send_of hops request_length delay hops_of_response response_length net broadcast
   unfolding send_of earliest_of
   send_broadcast t =
       let z : w + delay + 0 ≡ w + delay = omega arith in
-      simp (le-ltb pdata_max requestLength a, le-ltb pdata_max responseLength b, t, ← es, ← ew, z)
+      simp (le-ltb pdata_max request_length a, le-ltb pdata_max response_length b, t, ← es, ← ew, z)
 
   -- a request with a response
-  pub send_unicast : broadcast ≡ false → (u v : ℕ) → u ≡ slot_of responseLength net → v ≡ direction_time hops_of_response u
-      → send_answer 0 (w + delay + v) ≡ send_of hops requestLength delay hops_of_response responseLength net broadcast
+  pub send_unicast : broadcast ≡ false → (u v : ℕ) → u ≡ slot_of response_length net → v ≡ direction_time hops_of_response u
+      → send_answer 0 (w + delay + v) ≡ send_of hops request_length delay hops_of_response response_length net broadcast
   unfolding send_of earliest_of
-  send_unicast t u v eu ev = simp (le-ltb pdata_max requestLength a, le-ltb pdata_max responseLength b, t, ew, es, ev, eu)
+  send_unicast t u v eu ev = simp (le-ltb pdata_max request_length a, le-ltb pdata_max response_length b, t, ew, es, ev, eu)

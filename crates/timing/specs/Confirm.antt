@@ -18,20 +18,20 @@ unfoldable pub response_hops_sent : List ℕ → ℕ → ℕ
 response_hops_sent frame hops_of_response = cond (eqb (header_of frame).nadr broadcast_nadr) 0 hops_of_response
 
 -- the request's first six bytes, FF hex, DpaValue, hops, timeslot, response hops
-abbrev pub confirm_bytes : (frame : List ℕ) (dpaValue hops slot hops_of_response : ℕ) → List ℕ
-confirm_bytes frame dpaValue hops slot hops_of_response =
-    take header_size frame ++ (status_confirmation ∷ dpaValue ∷ hops ∷ slot ∷ response_hops_sent frame hops_of_response ∷ [])
+abbrev pub confirm_bytes : (frame : List ℕ) (dpa_value hops slot hops_of_response : ℕ) → List ℕ
+confirm_bytes frame dpa_value hops slot hops_of_response =
+    take header_size frame ++ (status_confirmation ∷ dpa_value ∷ hops ∷ slot ∷ response_hops_sent frame hops_of_response ∷ [])
 
 -- the confirmation of a frame; the slot is that of its PData
-abbrev pub confirmation : (frame : List ℕ) (dpaValue hops hops_of_response : ℕ) (net : Network) → List ℕ
-confirmation frame dpaValue hops hops_of_response net =
-    confirm_bytes frame dpaValue hops (slot_of (length (pdata_of frame)) net) hops_of_response
+abbrev pub confirmation : (frame : List ℕ) (dpa_value hops hops_of_response : ℕ) (net : Network) → List ℕ
+confirmation frame dpa_value hops hops_of_response net =
+    confirm_bytes frame dpa_value hops (slot_of (length (pdata_of frame)) net) hops_of_response
 
 -- `confirm`: not a frame of 6 to 62 bytes: 2; a buffer under 64 bytes: 3; NADR is not tested
-unfoldable pub confirm_of : (frame : List ℕ) (dpaValue hops hops_of_response : ℕ) (net : Network) (o : List ℕ) → LengthResult
-confirm_of frame dpaValue hops hops_of_response net o =
+unfoldable pub confirm_of : (frame : List ℕ) (dpa_value hops hops_of_response : ℕ) (net : Network) (o : List ℕ) → LengthResult
+confirm_of frame dpa_value hops hops_of_response net o =
     cond (frame_fits (length frame))
     (cond (ltb (length o) longest_response)
     (result_in_buffer 3 [] o)
-    (result_in_buffer 0 (confirmation frame dpaValue hops hops_of_response net) o))
+    (result_in_buffer 0 (confirmation frame dpa_value hops hops_of_response net) o))
     (result_in_buffer 2 [] o)

@@ -39,9 +39,9 @@ timeslot_of n net =
     (record { refusal = 0; slot = slot_of n net })
 
 -- time for the request, the node's delay and, unless it is a broadcast, the response
-unfoldable pub earliest_of : (hops requestLength delay hops_of_response responseLength : ℕ) (net : Network) (broadcast : Bool) → ℕ
-earliest_of hops requestLength delay hops_of_response responseLength net broadcast =
-    direction_time hops (slot_of requestLength net) + delay + cond broadcast 0 (direction_time hops_of_response (slot_of responseLength net))
+unfoldable pub earliest_of : (hops request_length delay hops_of_response response_length : ℕ) (net : Network) (broadcast : Bool) → ℕ
+earliest_of hops request_length delay hops_of_response response_length net broadcast =
+    direction_time hops (slot_of request_length net) + delay + cond broadcast 0 (direction_time hops_of_response (slot_of response_length net))
 
 -- no wait is longer: 256 slots of 100 ms in each direction, and the longest delay (proofs/Slots, `earliest_max`)
 abbrev pub wait_max : ℕ
@@ -51,8 +51,8 @@ abbrev pub send_answer : ℕ → ℕ → SendAnswer
 send_answer refusal ms = record { refusal = refusal; milliseconds = ms }
 
 -- `earliest_send`: both lengths are tested, for a broadcast too
-unfoldable pub send_of : (hops requestLength delay hops_of_response responseLength : ℕ) (net : Network) (broadcast : Bool) → SendAnswer
-send_of hops requestLength delay hops_of_response responseLength net broadcast =
-    cond (ltb pdata_max requestLength) (send_answer 5 0)
-    (cond (ltb pdata_max responseLength) (send_answer 5 0)
-    (send_answer 0 (earliest_of hops requestLength delay hops_of_response responseLength net broadcast)))
+unfoldable pub send_of : (hops request_length delay hops_of_response response_length : ℕ) (net : Network) (broadcast : Bool) → SendAnswer
+send_of hops request_length delay hops_of_response response_length net broadcast =
+    cond (ltb pdata_max request_length) (send_answer 5 0)
+    (cond (ltb pdata_max response_length) (send_answer 5 0)
+    (send_answer 0 (earliest_of hops request_length delay hops_of_response response_length net broadcast)))

@@ -50,11 +50,11 @@ module _ (limits : SizeLimits) (header : Frame) (front body : List ℕ) (count :
       omega (arith, ap length all_is, length-append (prefix header front) (all limits header front (steps_in count body)))
 
 -- the span of the next entry
-the_span : (entryMax : ℕ) (spans body : List ℕ) (count step index : ℕ) → one_step_max ≤ entryMax → AllStepsGood body count → step < count
-    → StartsWithSpans entryMax (drop step (steps_in count body)) (drop index spans) → NextSpan entryMax (drop step (steps_in count body)) spans index
-the_span entryMax spans body count step index l good h s =
+the_span : (entry_max : ℕ) (spans body : List ℕ) (count step index : ℕ) → one_step_max ≤ entry_max → AllStepsGood body count → step < count
+    → StartsWithSpans entry_max (drop step (steps_in count body)) (drop index spans) → NextSpan entry_max (drop step (steps_in count body)) spans index
+the_span entry_max spans body count step index l good h s =
     let steps : List Step = steps_in count body in
-    next_span entryMax l (drop step steps) (all_drop Good steps step (good_steps count body good)) spans index
+    next_span entry_max l (drop step steps) (all_drop Good steps step (good_steps count body good)) spans index
     (omega (arith, length-drop step steps, steps_length count body)) s
 
 -- no steps, no requests
