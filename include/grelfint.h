@@ -37,17 +37,17 @@
  * has 184 bytes, a gateway 600, and the largest answer 688 (grelfint_release).
  *
  *     start                       192      confirm            24
- *     tick                        692      uart_receiver       8
- *     tick_in_place               868      uart_receive      512
- *     actual_levels               144      uart_frame        240
- *     handle_request            1,616      gateway_start      16
- *     frc                         245      bond            1,984
- *     view_status                   8      unbond          1,984
- *     compile                     432      clear_bonds       752
- *     compile_default             432      bond_count        720
- *     compile_selected            528      bond_bitmap       688
- *     compile_selected_default    528      send            1,328
- *     timeslot                      8      release         2,017
+ *     tick                        806      uart_receiver       8
+ *     tick_in_place               422      uart_receive      480
+ *     actual_levels               144      uart_frame         80
+ *     handle_request            1,936      gateway_start      16
+ *     frc                         245      bond            2,056
+ *     view_status                   8      unbond          2,056
+ *     compile                     368      clear_bonds       744
+ *     compile_default             368      bond_count         72
+ *     compile_selected            464      bond_bitmap       120
+ *     compile_selected_default    464      send              888
+ *     timeslot                      8      release         1,400
  *     earliest_send                 8
  *
  * Two-byte numbers in frames and books have their low byte first.

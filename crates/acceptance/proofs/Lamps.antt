@@ -18,11 +18,11 @@ use Rattle.dpa.specs.declared.settings.Settings.{Settings}
 use Rattle.dpa.proofs.Bool.{by_test}
 use Rattle.lights.specs.Bits.{bitmap_size, bits, count, bitmap}
 use Rattle.lights.specs.Lamp.{max_level, off}
-use Rattle.lights.specs.Lights.{bit7, keep_power, power_ok, time_ok, seconds_of, change, all_valid, power_entries, new_level, lamp_after, lamps_after, levels_before, change_lamps, lights_request}
+use Rattle.lights.specs.Lights.{bit7, keep_power, power_ok, time_ok, seconds_of, power_entry, all_valid, power_entries, new_level, lamp_after, lamps_after, levels_before, change_lamps, lights_request}
 use Rattle.lights.specs.declared.apply.Command.{Command}
 use Rattle.lights.specs.declared.apply.Command.TheVariants.{Set, Raise, Lower}
 use Rattle.lights.specs.declared.lamp.Lamp.{Lamp}
-use Rattle.lights.specs.declared.power.LampChange.{LampChange}
+use Rattle.lights.specs.declared.power.PowerEntry.{PowerEntry}
 use Rattle.lights.proofs.Bits.{bits_mask}
 use Rattle.node.specs.Node.{with_lamps}
 use Rattle.node.specs.State.{State, with_node}
@@ -105,7 +105,7 @@ module _ {A : Type 0} (target : A → ℕ) where
   pub mask_max : (ss : List A) → Ascending 0 ss → mask_from 0 ss < 2 ^ max_lamps
   mask_max ss a = omega (arith, mask_room ss 0 a (omega arith))
 
-  module _ (change : A → LampChange) (c : Command) where
+  module _ (change : A → PowerEntry) (c : Command) where
     -- one change: lamp `target s - i`, if it is one of the n implemented lamps
     abbrev pub apply_one : ℕ → ℕ → A → List Lamp → List Lamp
     apply_one n i s ls =
@@ -177,15 +177,15 @@ bitmap_bytes_lem m a b d e rest p q r s w =
     sym (bits_mask (a ∷ b ∷ d ∷ e ∷ []) (four_bytes a b d e p q r s)) ∙ ap (bits max_lamps) (sym w)
 
 -- a power without a time, before valid power entries
-pub entry_level : (n v : ℕ) (xs : List ℕ) (es : List LampChange) → v ≤ max_level → power_entries n xs ≡ all_valid es → power_entries (suc n) (v ∷ xs) ≡ all_valid (change v 0 ∷ es)
+pub entry_level : (n v : ℕ) (xs : List ℕ) (es : List PowerEntry) → v ≤ max_level → power_entries n xs ≡ all_valid es → power_entries (suc n) (v ∷ xs) ≡ all_valid (power_entry v 0 1 ∷ es)
 unfolding power_ok
 entry_level n v xs es h e =
     let q : v % bit7 ≡ v = omega arith in
     rw (q, le-leb v max_level h, lt-ltb v bit7 (omega arith), e)
 
 -- a power with a time
-pub entry_timed : (n v t : ℕ) (xs : List ℕ) (es : List LampChange) → v ≤ max_level → time_ok t ≡ true → power_entries n xs ≡ all_valid es
-    → power_entries (suc n) ((v + bit7) ∷ t ∷ xs) ≡ all_valid (change v (seconds_of t) ∷ es)
+pub entry_timed : (n v t : ℕ) (xs : List ℕ) (es : List PowerEntry) → v ≤ max_level → time_ok t ≡ true → power_entries n xs ≡ all_valid es
+    → power_entries (suc n) ((v + bit7) ∷ t ∷ xs) ≡ all_valid (power_entry v (seconds_of t) 2 ∷ es)
 unfolding power_ok
 entry_timed n v t xs es h k e =
     let q : (v + bit7) % bit7 ≡ v = omega arith in
@@ -201,9 +201,9 @@ LampGroup k i (s ∷ ss) = Good s × (s.kind ≡ k) × (i ≤ s.target) × LampG
 abbrev target_of : Step → ℕ
 target_of s = s.target
 
--- the change of a step
-abbrev change_of : Step → LampChange
-change_of s = change s.value (seconds_of s.time)
+-- the power entry of a step
+abbrev change_of : Step → PowerEntry
+change_of s = power_entry s.value (seconds_of s.time) (cond (eqb s.time 0) 1 2)
 
 -- the command of a lamp kind
 abbrev command_of : ℕ → Command

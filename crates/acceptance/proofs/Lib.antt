@@ -7,5 +7,4 @@ pub mod AllRequests
 pub mod Scenes
 pub mod Instance
 pub mod Examples
-pub mod OutputRequests
 pub mod Running

@@ -1,7 +1,6 @@
 -- `run_scene`: the state after it is the one that the step machine reaches.
 use mathlib.Core.Path.{◌≡◌, refl, sym, ap, ◌∙◌, subst}
 use mathlib.Core.Logic.{inl}
-use mathlib.Core.Bool.{true, false}
 use mathlib.Core.List.{List, [], ◌∷◌}
 use Prim.Native.Nat.{ℕ, suc, ◌≤◌}
 use native.Mathlib.Omega.{arith}
@@ -27,24 +26,6 @@ use Rattle.acceptance.proofs.Scenes.{addressed_theorem}
 -- the assumptions of the theorem hold for a sound state, its own address and its own profile
 own_given : (st : State) → SoundState st → Given st (λ _. zero_buffer) st.node.settings.address st.node.settings.hwpid
 own_given st r = record { sound = r; room = λ _. omega arith; address = inl refl; profile = inl refl }
-
-module _ (book : List ℕ) (k : ℕ) (st : State) (out : List ℕ) where
-  -- refused for the node
-  pub run_unsound : node_ok st.node ≡ false → result 1 0 st out ≡ run_scene book k st out
-  unfolding run_scene
-  run_unsound e = rw e
-
-  module _ (ok : node_ok st.node ≡ true) where
-    -- refused for the EEPROM
-    pub run_eeprom : (length st.eeprom ≡ size_of Eeprom → ⊥) → result 4 0 st out ≡ run_scene book k st out
-    unfolding run_scene
-    run_eeprom n = rw (ok, ne_eqb (length st.eeprom) (size_of Eeprom) n)
-
-    module _ (e : length st.eeprom ≡ size_of Eeprom) where
-      -- refused for the external memory
-      pub run_external : (length st.external ≡ size_of External → ⊥) → result 4 0 st out ≡ run_scene book k st out
-      unfolding run_scene
-      run_external n = rw (ok, eq-eqb (length st.eeprom) (size_of Eeprom) e, ne_eqb (length st.external) (size_of External) n)
 
 -- the result of compiling for the node's own address and profile
 abbrev compile_own : List ℕ → ℕ → State → List ℕ → CompileResult

@@ -1,14 +1,16 @@
 -- `run_scene`: compiles a scene for the node's own address and profile, then handles its requests in order.
-use Rattle.std.specs.Prelude.{ℕ, List, cond, length, replicate, eqb}
+use Rattle.std.specs.Prelude.{ℕ, List, cond, length, replicate, eqb, Result, Ok, Err}
 use Rattle.dpa.specs.Frame.{longest_response}
 use Rattle.memory.specs.declared.block.Memory.TheVariants.{Eeprom, External}
 use Rattle.memory.specs.Block.{size_of}
 use Rattle.node.specs.Node.{node_ok}
+use Rattle.node.specs.declared.record.Node.{Node}
 use Rattle.node.specs.State.{State, state}
 use Rattle.book.specs.Book.{scene_of}
 use Rattle.step.specs.Machine.{machine}
 use Rattle.scene.specs.Call.{CompileResult, compile_for}
-use Rattle.acceptance.specs.declared.run.SceneAnswer.{SceneAnswer}
+use Rattle.scene.specs.Answer.{compile_answer}
+use Rattle.scene.specs.declared.compile.CompileError.{CompileError}
 
 -- the response buffer of each call: a scratch buffer of zeros
 abbrev pub zero_buffer : List ℕ
@@ -21,13 +23,14 @@ pub record SceneResult : Type 0 where
   pub after : State
   pub out : List ℕ
 
--- the result of a call that returned r and left these memories and this output buffer
-abbrev pub scene_result : SceneAnswer → (e x o : List ℕ) → SceneResult
-scene_result r e x o = record { refusal = r.refusal; step = r.step; after = state r.node e x; out = o }
-
 -- a result from its parts
 abbrev pub result : ℕ → ℕ → State → List ℕ → SceneResult
 result refusal step st out = record { refusal = refusal; step = step; after = st; out = out }
+
+-- the result of a call for this node that returned r and left these memories and this output buffer: a refused call leaves the node
+abbrev pub scene_result : Node → Result Node CompileError → (e x o : List ℕ) → SceneResult
+scene_result node (Ok after) e x o = result 0 0 (state after e x) o
+scene_result node (Err error) e x o = let refused = compile_answer (Err error) in result refused.refusal refused.step (state node e x) o
 
 -- after compiling: a refusal of the compiler leaves the state unchanged, otherwise it is `done`
 unfoldable pub after_compile : CompileResult → State → State → SceneResult

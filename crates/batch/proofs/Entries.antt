@@ -11,9 +11,7 @@ use Rattle.dpa.specs.Number.{word_at}
 use Rattle.dpa.specs.Lists.{slice}
 use Rattle.dpa.proofs.Bool.{and_left, and_right, by_cond}
 use Rattle.dpa.proofs.Lists.{slice_to_end}
-use Rattle.batch.specs.declared.entry.NextEntry.{NextEntry}
-use Rattle.batch.specs.declared.entry.NextEntry.TheVariants.{Entry, Fault}
-use Rattle.batch.specs.Batch.{entry_head_size, closing_zero, at_end, short_reason, past_end_reason, unclosed_reason, trailing_reason, next_entry, FaultAt, short, past_end, unclosed, trailing}
+use Rattle.batch.specs.Batch.{NextEntry, Entry, Fault, entry_head_size, closing_zero, at_end, short_reason, past_end_reason, unclosed_reason, trailing_reason, next_entry, FaultAt, short, past_end, unclosed, trailing}
 
 module _ (s : List ℕ) where
   -- one byte is the end if it is zero

@@ -1,8 +1,7 @@
 -- Small lists with the reason and the position of their fault. The ErrN of the first two are worked examples of acceptance.
 use mathlib.Core.Path.{◌≡◌, refl}
 use mathlib.Core.List.{[], ◌∷◌}
-use Rattle.batch.specs.declared.list.ListCheck.TheVariants.{Sound, Broken}
-use Rattle.batch.specs.Batch.{closing_zero, short_reason, past_end_reason, unclosed_reason, trailing_reason, next_entry, request_of, reading_from, reading}
+use Rattle.batch.specs.Batch.{Sound, Broken, closing_zero, short_reason, past_end_reason, unclosed_reason, trailing_reason, next_entry, request_of, reading_from, reading}
 
 -- `00` has no entries
 pub zero_alone : reading (closing_zero ∷ []) ≡ record { entries = []; check = Sound }

@@ -1,15 +1,11 @@
 -- Laws of faults: reason, position and ErrN.
-use mathlib.Core.Path.{◌≡◌, refl, ap, subst}
+use mathlib.Core.Path.{◌≡◌, refl, subst}
 use mathlib.Core.List.{List}
 use Prim.Native.Nat.{ℕ, ◌+◌, ◌-◌, ◌≤◌}
 use native.Mathlib.Omega.{arith}
 use lib.ListN.{length, drop, length-drop}
 use lib.Seq.{get_or-drop}
-use Rattle.batch.specs.declared.entry.NextEntry.{NextEntry}
-use Rattle.batch.specs.declared.entry.NextEntry.TheVariants.{Entry, Fault}
-use Rattle.batch.specs.declared.list.ListCheck.{ListCheck}
-use Rattle.batch.specs.declared.list.ListCheck.TheVariants.{Sound, Broken}
-use Rattle.batch.specs.Batch.{next_entry_error, Reading, shift_fault, fault_of, reading, list_error, FaultAt, short, past_end, unclosed, trailing}
+use Rattle.batch.specs.Batch.{NextEntry, Entry, Fault, ListCheck, Sound, Broken, next_entry_error, Reading, shift_fault, fault_of, reading, list_error, FaultAt, short, past_end, unclosed, trailing}
 use Rattle.batch.proofs.Entries.{next_facts_of, entry_sized}
 use Rattle.batch.proofs.Lists.{reading_induction}
 
@@ -77,4 +73,4 @@ error_sound (Broken r a) e = absurd (omega arith)
 
 -- a broken list is not sound
 pub broken_not_sound : {r a : ℕ} → Broken r a ≡ Sound → ⊥
-broken_not_sound e = let z : ◌≡◌ {A = ℕ} 6 0 = ap list_error e in omega arith
+broken_not_sound e = cc

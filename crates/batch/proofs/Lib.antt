@@ -3,6 +3,7 @@ pub mod Lists
 pub mod Faults
 pub mod RoundTrip
 pub mod Places
+pub mod CheckResults
 pub mod Selections
 pub mod Running
 pub mod Examples

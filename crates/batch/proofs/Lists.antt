@@ -9,11 +9,7 @@ use lib.ListN.{length, drop, length-drop}
 use Rattle.dpa.specs.Lists.{slice}
 use Rattle.dpa.proofs.Bool.{by_cond}
 use Rattle.dpa.proofs.Lists.{slice_to_end}
-use Rattle.batch.specs.declared.list.ListCheck.{ListCheck}
-use Rattle.batch.specs.declared.list.ListCheck.TheVariants.{Sound, Broken}
-use Rattle.batch.specs.declared.entry.NextEntry.{NextEntry}
-use Rattle.batch.specs.declared.entry.NextEntry.TheVariants.{Entry, Fault}
-use Rattle.batch.specs.Batch.{entry_head_size, at_end, next_entry, Reading, empty_reading, entry_length, shift_fault, fault_of, prepend_entry, reading_from, reading}
+use Rattle.batch.specs.Batch.{ListCheck, Sound, Broken, NextEntry, Entry, Fault, entry_head_size, at_end, next_entry, Reading, empty_reading, entry_length, shift_fault, prepend_entry, reading_from, reading}
 use Rattle.batch.proofs.Entries.{NextFacts, next_facts, next_unclosed, entry_sized, entry_not_at_end}
 
 -- reading from position k is reading the bytes from there
@@ -67,8 +63,8 @@ module _ (s : List ℕ) where
   check_end o = sym (ap (λ (x : Reading). x.check) (reading_end o))
 
   -- a fault breaks the list
-  pub check_fault : {n : NextEntry} {k a : ℕ} → at_end s ≡ false → n ≡ next_entry s → n ≡ Fault k a → fault_of n ≡ (reading s).check
-  check_fault o e f = ap fault_of f ∙ sym (ap (λ (x : Reading). x.check) (reading_fault o (sym e ∙ f)))
+  pub check_fault : {k a : ℕ} → at_end s ≡ false → Fault k a ≡ next_entry s → Broken k a ≡ (reading s).check
+  check_fault o e = sym (ap (λ (x : Reading). x.check) (reading_fault o (sym e)))
 
   -- after an entry the check of the rest counts
   pub check_entry : {l p c h : ℕ} {x : ListCheck} → next_entry s ≡ Entry l p c h

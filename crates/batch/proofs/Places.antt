@@ -8,13 +8,10 @@ use native.Mathlib.Omega.{arith}
 use lib.ListN.{length, get_or, take, drop, length-drop, take-append-drop}
 use lib.Seq.{get_or-drop, take-append_seam, length-take-le}
 use lib.Dec.{ltb, eqb}
-use Rattle.dpa.specs.Lists.{Bytes}
+use Rattle.dpa.specs.Lists.{Bytes, slice}
 use Rattle.dpa.proofs.Bool.{by_cond}
-use Rattle.batch.specs.declared.entry.NextEntry.{NextEntry}
-use Rattle.batch.specs.declared.entry.NextEntry.TheVariants.{Fault}
-use Rattle.batch.specs.declared.list.ListCheck.{ListCheck}
-use Rattle.batch.specs.declared.list.ListCheck.TheVariants.{Sound, Broken}
-use Rattle.batch.specs.Batch.{entry_head_size, closing_zero, entries_bytes, at_end, next_entry, Reading, shift_fault, fault_of, reading, reason_of, place_of, FaultAt, short, past_end, unclosed, trailing, entries_end, ListFault, SoundList}
+use Rattle.dpa.proofs.Lists.{slice_to_end}
+use Rattle.batch.specs.Batch.{NextEntry, Fault, ListCheck, Sound, Broken, entry_head_size, closing_zero, entries_bytes, at_end, next_entry, Reading, shift_fault, fault_of, reading, reason_of, place_of, FaultAt, short, past_end, unclosed, trailing, entries_end, ListFault, SoundList}
 use Rattle.batch.proofs.Entries.{not_at_end, nonzero_not_at_end, next_unclosed, next_trailing, next_short, next_past_end}
 use Rattle.batch.proofs.Lists.{reading_fault, reading_induction}
 use Rattle.batch.proofs.Faults.{broken_fault, broken_not_sound, reason_range, position_max}
@@ -144,3 +141,9 @@ module _ (s : List ℕ) where
   -- the place is at most the list's length
   pub place_max : place_of (reading s).check ≤ length s
   place_max = check_cases (λ x. place_of x ≤ length s) (omega arith) (λ r a e. position_max (broken_fault s e))
+
+-- a fault after the first n bytes of a list has its place in the list
+pub place_in_list : (s : List ℕ) (n : ℕ) → n ≤ length s → {r a : ℕ} → Broken r a ≡ (reading (slice s n (length s - n))).check → n + a ≤ length s
+place_in_list s n h e =
+    let z = ap place_of e ∙ ap (λ (t : List ℕ). place_of (reading t).check) (slice_to_end n s) in
+    omega (arith, z, place_max (drop n s), length-drop n s)

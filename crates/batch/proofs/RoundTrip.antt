@@ -9,10 +9,7 @@ use lib.Seq.{take-add, take-append_seam, drop_at, drop-drop, length-take-le}
 use Rattle.dpa.specs.Lists.{Bytes, slice, All}
 use Rattle.dpa.specs.Number.{low, high}
 use Rattle.dpa.proofs.Numbers.{word_split, low_word, high_word, word_max}
-use Rattle.batch.specs.declared.entry.NextEntry.TheVariants.{Entry}
-use Rattle.batch.specs.declared.list.ListCheck.{ListCheck}
-use Rattle.batch.specs.declared.list.ListCheck.TheVariants.{Sound, Broken}
-use Rattle.batch.specs.Batch.{Request, request_of, entry_head_size, closing_zero, entry_bytes, entries_bytes, list_bytes, Sendable, next_entry, Reading, shift_fault, prepend_entry, reading}
+use Rattle.batch.specs.Batch.{Entry, ListCheck, Sound, Broken, Request, request_of, entry_head_size, closing_zero, entry_bytes, entries_bytes, list_bytes, Sendable, next_entry, Reading, shift_fault, prepend_entry, reading}
 use Rattle.dpa.proofs.Bytes.{bytes_nil, bytes_cons, bytes_append, bytes_take, bytes_drop}
 use Rattle.batch.proofs.Entries.{NextFacts, at_end_zero, at_end_facts, next_complete, next_facts_of}
 use Rattle.batch.proofs.Lists.{reading_end, reading_entry, reading_fault, reading_induction}

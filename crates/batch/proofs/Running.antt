@@ -9,8 +9,7 @@ use lib.Seq.{drop-drop}
 use Rattle.dpa.specs.Lists.{slice}
 use Rattle.dpa.proofs.Bool.{by_test}
 use Rattle.dpa.proofs.Lists.{slice_to_end}
-use Rattle.batch.specs.declared.entry.NextEntry.TheVariants.{Entry, Fault}
-use Rattle.batch.specs.Batch.{entry_head_size, at_end, next_entry, Request, Reading, reading, request_of, run_entries, errors_of}
+use Rattle.batch.specs.Batch.{Entry, Fault, entry_head_size, at_end, next_entry, Request, Reading, reading, request_of, run_entries, errors_of}
 use Rattle.batch.proofs.Lists.{reading_end, reading_entry, reading_fault}
 
 module _ {S : Type 0} (f : Request → S → S) (s : List ℕ) (st : S) where

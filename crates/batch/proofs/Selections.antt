@@ -1,5 +1,5 @@
 -- The PData of a selective batch: what it is to a node.
-use mathlib.Core.Path.{◌≡◌, refl, ap, subst, ◌∙◌}
+use mathlib.Core.Path.{◌≡◌, refl, sym, ap, subst, ◌∙◌}
 use mathlib.Core.Logic.{◌↔◌}
 use mathlib.Core.List.{List, ◌++◌}
 use mathlib.Core.Bool.{true, false}
@@ -10,15 +10,12 @@ use lib.Seq.{take_at, drop_at}
 use lib.Dec.{ltb}
 use borrow.Author.Tests.{lt-ltb, le-ltb, ltb-false}
 use Rattle.dpa.specs.NodeSet.{node_set_size, selects}
-use Rattle.dpa.specs.Lists.{Bytes}
+use Rattle.dpa.specs.Lists.{Bytes, slice}
 use Rattle.dpa.proofs.Bool.{by_cond}
+use Rattle.dpa.proofs.Lists.{slice_to_end}
 use Rattle.dpa.proofs.Bytes.{bytes_drop}
-use Rattle.batch.specs.declared.list.ListCheck.{ListCheck}
-use Rattle.batch.specs.declared.list.ListCheck.TheVariants.{Sound, Broken}
-use Rattle.batch.specs.declared.selective.Selection.{Selection}
-use Rattle.batch.specs.declared.selective.Selection.TheVariants.{TooShort, NotSelected, Selected}
-use Rattle.batch.specs.Batch.{reading, reason_of, place_of, shift_fault, ListFault}
-use Rattle.batch.specs.Selective.{selective_pdata_min, check_from, selection_of}
+use Rattle.batch.specs.Batch.{ListCheck, Sound, Broken, reading, reason_of, place_of, shift_fault, ListFault}
+use Rattle.batch.specs.Selective.{Selection, TooShort, NotSelected, Selected, selective_pdata_min, check_from, selection_of}
 use Rattle.batch.proofs.Faults.{broken_not_sound}
 use Rattle.batch.proofs.Places.{reported_fault, place_max}
 
@@ -72,6 +69,13 @@ module _ (d : List ℕ) (a : ℕ) where
     pub select_list : selects (take node_set_size d) a ≡ true → selection_of d a ≡ Selected (check_from node_set_size d)
     unfolding selection_of
     select_list e = rw (le-ltb (length d) selective_pdata_min h, e)
+
+    -- the same, from the check of the bytes after the set
+    pub select_named : selects (take node_set_size d) a ≡ true → {x : ListCheck} → x ≡ (reading (slice d node_set_size (length d - node_set_size))).check
+        → selection_of d a ≡ Selected (shift_fault node_set_size x)
+    select_named e q =
+        select_list e
+        ∙ ap (λ (y : ListCheck). Selected (shift_fault node_set_size y)) (sym (q ∙ ap (λ (s : List ℕ). (reading s).check) (slice_to_end node_set_size d)))
 
   -- a property of selections holds for PData if it holds in each of these cases
   pub select_cases : (P : Selection → Type 0) → P TooShort → P NotSelected

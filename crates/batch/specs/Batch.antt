@@ -3,10 +3,6 @@
 use Rattle.std.specs.Prelude.{ℕ, zero, suc, ◌+◌, ◌-◌, ◌≤◌, ◌<◌, List, [], ◌∷◌, ◌++◌, Bool, cond, ◌&&◌, ◌≡◌, length, get_or, take, ltb, eqb}
 use Rattle.dpa.specs.Number.{low, high, word_at}
 use Rattle.dpa.specs.Lists.{Bytes, slice}
-use Rattle.batch.specs.declared.entry.NextEntry.{NextEntry}
-use Rattle.batch.specs.declared.entry.NextEntry.TheVariants.{Entry, Fault}
-use Rattle.batch.specs.declared.list.ListCheck.{ListCheck}
-use Rattle.batch.specs.declared.list.ListCheck.TheVariants.{Sound, Broken}
 
 -- the PCMD of a batch
 abbrev pub batch_pcmd : ℕ
@@ -80,6 +76,11 @@ unclosed_reason = 3
 abbrev pub trailing_reason : ℕ
 trailing_reason = 4
 
+-- what is at the front of a list: an entry with its length, PNUM, PCMD and HWPID, or a reason and a position
+pub data NextEntry : Type 0 where
+  Entry : (length pnum pcmd hwpid : ℕ) → NextEntry
+  Fault : (reason at : ℕ) → NextEntry
+
 -- The front of a list that is not at its end: an entry, or a reason and a position, counted from the first of these bytes.
 unfoldable pub next_entry : List ℕ → NextEntry
 next_entry s =
@@ -93,6 +94,11 @@ next_entry s =
 abbrev pub next_entry_error : NextEntry → ℕ
 next_entry_error (Entry l p c h) = 0
 next_entry_error (Fault r a) = 6
+
+-- what the check of a list gives: it is sound, or it is broken for a reason at a place
+pub data ListCheck : Type 0 where
+  Sound : ListCheck
+  Broken : (reason at : ℕ) → ListCheck
 
 -- a list that was read: the entries before its end or its first fault, and which of the two came
 pub record Reading : Type 0 where

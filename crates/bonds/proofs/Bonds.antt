@@ -104,11 +104,6 @@ last_tested b bytes e first y =
     by_test (eqb (get_or b 31 0) 0) (λ t. t ∙ sym (rule_by_bytes b bytes e first y (eqb-true _ 0 t)))
     (λ f. f ∙ sym (byte_fails b 31 (omega arith) (eqb-false _ 0 f)))
 
--- a bit shifted to its place fits a byte
-pub bit_shifted : (a : ℕ) → 1 * 2 ^ (a % 8) % 256 ≡ 2 ^ (a % 8)
-unfolding all_below
-bit_shifted a = eqb-true _ _ (all_below_elim 8 (λ k. eqb (1 * 2 ^ k % 256) (2 ^ k)) refl (a % 8) (omega arith))
-
 -- ---- adding and removing
 
 -- an address that can be added: a node can have it, and it is not bonded
@@ -214,12 +209,6 @@ changed_back false b a = removed_can_add b a
 pub changed_undone : (add : Bool) (b : List ℕ) (a : ℕ) → bonds_ok b ≡ true → can_change add b a ≡ true → changed_bonds (not add) (changed_bonds add b a) a ≡ b
 changed_undone true b a ok e = add_remove b a (node_inside b a ok (add_facts b a e).0)
 changed_undone false b a ok e = remove_add b a (remove_facts b a e).1
-
--- an address that no node can have cannot be changed
-pub node_untested : (add : Bool) (b : List ℕ) (a : ℕ) → node_address a ≡ false → can_change add b a ≡ false
-unfolding can_add bonded_node
-node_untested true b a e = rw e
-node_untested false b a e = rw e
 
 -- the byte of a change is one of the bonds
 pub changed_inside : (add : Bool) (b : List ℕ) (a : ℕ) → can_change add b a ≡ true → a / 8 < bonds_size

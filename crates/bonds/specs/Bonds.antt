@@ -1,10 +1,12 @@
 -- Document 02, change 6: bonded addresses, in the bitmap of section 3.2.4 of document 000.
-use Rattle.std.specs.Prelude.{ℕ, ◌+◌, ◌-◌, ◌/◌, ◌%◌, ◌^◌, ◌≡◌, List, [], ◌∷◌, Bool, true, cond, not, ◌&&◌, ◌||◌, length, get_or, set, replicate, eqb, ltb}
+use Rattle.std.specs.Prelude.{ℕ, ◌+◌, ◌-◌, ◌/◌, ◌%◌, ◌^◌, ◌≡◌, List, [], ◌∷◌, Bool, true, false, cond, not, ◌&&◌, ◌||◌, length, get_or, set, replicate, eqb, ltb}
 use Rattle.std.specs.Int.Count.{ones}
 use Rattle.dpa.specs.Frame.{broadcast_nadr}
 use Rattle.dpa.specs.Lists.{Bytes, all_below}
 use Rattle.dpa.specs.NodeSet.{selects}
 use Rattle.dpa.specs.Settings.{node_address}
+use Rattle.bonds.specs.declared.addresses.BondChange.{BondChange}
+use Rattle.bonds.specs.declared.addresses.BondChange.TheVariants.{Add, Remove}
 
 -- size in bytes: a bit for each address from 0 to 255
 abbrev pub bonds_size : ℕ
@@ -37,6 +39,11 @@ bonded_node bonds a = node_address a && bonded bonds a
 -- the address can be added
 unfoldable pub can_add : List ℕ → ℕ → Bool
 can_add bonds a = node_address a && not (bonded bonds a)
+
+-- what the code's change means
+abbrev pub adds : BondChange → Bool
+adds Add = true
+adds Remove = false
 
 -- an address that can be added (true) or removed (false), and the bonds after it
 abbrev pub can_change : Bool → List ℕ → ℕ → Bool

@@ -4,6 +4,7 @@ use mathlib.Core.List.{List, [], ◌∷◌}
 use mathlib.Core.Path.{◌≡◌, sym, ap, subst, ◌∙◌}
 use Prim.Native.Nat.{ℕ, zero, suc, ◌+◌, ◌*◌, ◌≤◌, ◌<◌}
 use native.Mathlib.Nat.{add_comm}
+use native.Mathlib.Numerals.{add-one}
 use native.Mathlib.Omega.{arith}
 use lib.Dec.{leb, eqb}
 use lib.ListN.{length, get_or, drop, length-map, get_or-map}
@@ -13,7 +14,7 @@ use Rattle.dpa.proofs.Bool.{and_left, and_right}
 use Rattle.book.specs.declared.locations.SceneLocation.{SceneLocation}
 use Rattle.book.specs.Book.{scenes_max, steps_max, location_length, step_length, location_of, scene_count, steps_in, chained, scene_locations, book_ok, scene_at, scene_of, scenes_of}
 use Rattle.book.specs.Positions.{location_at}
-use Rattle.book.proofs.Records.{records_length, records_at, records_next}
+use Rattle.book.proofs.Records.{records_length, records_at, records_next, records_end}
 use Rattle.book.proofs.Positions.{steps_length}
 
 -- ---- scene locations
@@ -32,6 +33,12 @@ location_at_lem b i h = records_at location_length location_of (scene_count b) (
 -- scene i, then the others
 pub location_next : (b : List ℕ) (i : ℕ) → i < scene_count b → drop i (scene_locations b) ≡ location_at b i ∷ drop (suc i) (scene_locations b)
 location_next b i h = records_next location_length location_of (scene_count b) (drop 1 b) i h ∙ rw (after_count b i)
+
+pub location_after : (b : List ℕ) (i : ℕ) → i < scene_count b → drop i (scene_locations b) ≡ location_at b i ∷ drop (i + 1) (scene_locations b)
+location_after b i h = rw (add-one i) (location_next b i h)
+
+pub locations_end : (b : List ℕ) (i : ℕ) → scene_count b ≤ i → drop i (scene_locations b) ≡ []
+locations_end b i h = records_end location_length location_of (scene_count b) (drop 1 b) i h
 
 -- ---- what a well-formed book guarantees
 

@@ -7,48 +7,22 @@ use native.Mathlib.Numerals.{add-one}
 use native.Mathlib.Omega.{arith}
 use lib.Dec.{ltb, eqb}
 use lib.ListN.{length, drop}
-use borrow.Author.Tests.{le-leb, lt-leb, lt-ltb, le-ltb, ltb-true, ltb-false, eq-eqb, ne_eqb}
+use borrow.Author.Tests.{le-leb, lt-leb, le-ltb, ltb-true, ltb-false, eq-eqb}
 use Rattle.dpa.proofs.Bool.{by_test}
 use Rattle.book.specs.declared.locations.SceneLocation.{SceneLocation}
 use Rattle.book.specs.declared.check.BookFault.{BookFault}
-use Rattle.book.specs.declared.check.BookFault.TheVariants.{Start, Steps, End}
-use Rattle.book.specs.declared.check.BookCheck.TheVariants.{Sound, Bad}
-use Rattle.book.specs.Book.{scenes_max, steps_max, location_length, step_length, location_of, scene_count, scene_locations, chained, book_ok}
+use Rattle.std.specs.Prelude.{Ok, Err}
+use Rattle.book.specs.Book.{scenes_max, steps_max, location_length, step_length, scene_count, scene_locations, chained, book_ok}
 use Rattle.book.specs.Positions.{location_at}
 use Rattle.book.specs.Check.{check_bodies, check_book, book_refusal}
-use Rattle.book.proofs.Records.{records_end}
 use Rattle.book.proofs.Books.{location_next}
 
--- ---- the loop: l is the location of scene k, whose body should start at `start`
-module _ (b : List ℕ) (k start end : ℕ) (l : SceneLocation) (h : k < scene_count b) (e : l ≡ location_at b k) where
-  here : drop k (scene_locations b) ≡ l ∷ drop (suc k) (scene_locations b)
-  here = location_next b k h ∙ ap (λ (m : SceneLocation). m ∷ drop (suc k) (scene_locations b)) (sym e)
-
-  -- a body that fits is followed by the next
-  pub bodies_next : l.offset ≡ start → l.steps ≤ steps_max
-      → check_bodies k start (drop k (scene_locations b)) end ≡ check_bodies (k + 1) (start + step_length * l.steps) (drop (k + 1) (scene_locations b)) end
-  unfolding check_bodies
-  bodies_next p q = rw (add-one k, here, eq-eqb l.offset start p, le-ltb steps_max l.steps q)
-
-  -- a body that starts elsewhere
-  pub wrong_start : (l.offset ≡ start → ⊥) → check_bodies k start (drop k (scene_locations b)) end ≡ Bad (Start k l.offset start)
-  unfolding check_bodies
-  wrong_start p = rw (here, ne_eqb l.offset start p)
-
-  -- a body with too many steps
-  pub too_many_steps : l.offset ≡ start → steps_max < l.steps → check_bodies k start (drop k (scene_locations b)) end ≡ Bad (Steps k l.steps)
-  unfolding check_bodies
-  too_many_steps p q = rw (here, eq-eqb l.offset start p, lt-ltb steps_max l.steps q)
-
--- after the last body only the end is left to compare
-module _ (b : List ℕ) (k start end : ℕ) (h : scene_count b ≤ k) where
-  pub bodies_end : start ≡ end → check_bodies k start (drop k (scene_locations b)) end ≡ Sound
-  unfolding check_bodies
-  bodies_end e = rw (records_end location_length location_of (scene_count b) (drop 1 b) k h, eq-eqb start end e)
-
-  pub wrong_end : (start ≡ end → ⊥) → check_bodies k start (drop k (scene_locations b)) end ≡ Bad (End start)
-  unfolding check_bodies
-  wrong_end n = rw (records_end location_length location_of (scene_count b) (drop 1 b) k h, ne_eqb start end n)
+-- ---- the loop: a body that fits is followed by the next
+pub bodies_next : (b : List ℕ) (k start end : ℕ) → k < scene_count b → (location_at b k).offset ≡ start → (location_at b k).steps ≤ steps_max
+    → check_bodies k start (drop k (scene_locations b)) end
+    ≡ check_bodies (k + 1) (start + step_length * (location_at b k).steps) (drop (k + 1) (scene_locations b)) end
+unfolding check_bodies
+bodies_next b k start end h p q = rw (add-one k, location_next b k h, eq-eqb _ start p, le-ltb steps_max _ q)
 
 -- ---- refusal 6 is given exactly to a book that is not well formed
 
@@ -76,8 +50,8 @@ check_exact b =
     (bodies_exact 0 end (scene_locations b) (length b)))))
 
 -- the check in each case
-pub sound_book : (b : List ℕ) → check_book b ≡ Sound → book_ok b ≡ true
+pub sound_book : (b : List ℕ) → check_book b ≡ Ok tt → book_ok b ≡ true
 sound_book b e = by_test (book_ok b) (λ t. t) (λ f. absurd (let z : ◌≡◌ {A = ℕ} 0 6 = ap book_refusal (sym e) ∙ check_exact b ∙ rw f in omega arith))
 
-pub bad_book : (b : List ℕ) (fault : BookFault) → check_book b ≡ Bad fault → book_ok b ≡ false
+pub bad_book : (b : List ℕ) (fault : BookFault) → check_book b ≡ Err fault → book_ok b ≡ false
 bad_book b fault e = by_test (book_ok b) (λ t. absurd (let z : ◌≡◌ {A = ℕ} 6 0 = ap book_refusal (sym e) ∙ check_exact b ∙ rw t in omega arith)) (λ f. f)

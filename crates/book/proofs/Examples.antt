@@ -5,7 +5,7 @@ use Prim.Native.Nat.{ℕ, zero, suc, ◌*◌}
 use lib.ListN.{replicate, drop}
 use Rattle.book.specs.declared.step.Step.{Step}
 use Rattle.book.specs.declared.check.BookFault.TheVariants.{Empty, Scenes, Locations, Start, Steps, End}
-use Rattle.book.specs.declared.check.BookCheck.TheVariants.{Sound, Bad}
+use Rattle.std.specs.Prelude.{Ok, Err}
 use Rattle.book.specs.Book.{scene_of}
 use Rattle.book.specs.Check.{check_bodies, check_book}
 use Rattle.book.specs.Write.{book_bytes}
@@ -31,7 +31,7 @@ abbrev steps : List Step
 steps = record { kind = 0; target = 0; value = 10; time = 0 } ∷ record { kind = 0; target = 2; value = 100; time = 2 } ∷ []
 
 -- the book, read and written
-pub papers_book : check_book book ≡ Sound
+pub papers_book : check_book book ≡ Ok tt
 unfolding check_bodies check_book
 papers_book = refl
 
@@ -46,19 +46,19 @@ papers_bytes = refl
 -- no byte; no scene, and a byte after the count; 16 scenes and 17; a location that is cut off
 pub count_edges :
     map check_book ([] ∷ (0 ∷ []) ∷ (0 ∷ 0 ∷ []) ∷ (16 ∷ empty_scenes 16) ∷ (17 ∷ empty_scenes 17) ∷ (1 ∷ 4 ∷ 0 ∷ []) ∷ [])
-    ≡ Bad Empty ∷ Sound ∷ Bad (End 1) ∷ Sound ∷ Bad (Scenes 17) ∷ Bad (Locations 4) ∷ []
+    ≡ Err Empty ∷ Ok tt ∷ Err (End 1) ∷ Ok tt ∷ Err (Scenes 17) ∷ Err (Locations 4) ∷ []
 unfolding check_bodies check_book
 count_edges = refl
 
 -- 64 steps and 65
-pub steps_edges : map check_book (one_scene 64 ∷ one_scene 65 ∷ []) ≡ Sound ∷ Bad (Steps 0 65) ∷ []
+pub steps_edges : map check_book (one_scene 64 ∷ one_scene 65 ∷ []) ≡ Ok tt ∷ Err (Steps 0 65) ∷ []
 unfolding check_bodies check_book
 steps_edges = refl
 
 -- the second body starts where the first ends, or later, which is found before its number of steps; too many steps; too few
 pub body_edges :
     map check_book (two_scenes 11 1 ∷ two_scenes 12 65 ∷ two_scenes 11 65 ∷ two_scenes 11 0 ∷ [])
-    ≡ Sound ∷ Bad (Start 1 12 11) ∷ Bad (Steps 1 65) ∷ Bad (End 11) ∷ []
+    ≡ Ok tt ∷ Err (Start 1 12 11) ∷ Err (Steps 1 65) ∷ Err (End 11) ∷ []
 unfolding check_bodies check_book
 body_edges = refl
 

@@ -3,12 +3,11 @@ ghost use Rattle.std.specs.Prelude.{◌≡◌, ◌+◌, ◌*◌, ◌≤◌, leng
 ghost use Rattle.book.specs.Book.{scenes_max, location_length, scene_count, scene_locations};
 ghost use Rattle.book.specs.Check.{check_bodies, check_book};
 
-use crate::locations::{LOCATION_LENGTH, SCENES_MAX, scene_location};
+use crate::locations::{LOCATION_LENGTH, SCENES_MAX, SceneLocation, scene_location};
 use crate::step::{STEP_LENGTH, STEPS_MAX};
-use dpa::number::wide;
 
 // What is wrong, and where: bytes and scenes are counted from 0.
-#[derive(Clone, Copy)]
+#[derive(Clone, Copy, Debug, PartialEq, Eq)]
 pub enum BookFault {
     Empty,
     // Too many scenes.
@@ -36,57 +35,48 @@ pub enum BookFault {
     },
 }
 
-// The result of checking a book.
-#[derive(Clone, Copy)]
-pub enum BookCheck {
-    Sound,
-    Bad(BookFault),
-}
-
 // Checks that the scenes' bodies follow one another and end with the book.
-fn check_bodies(book: &[u8], scenes: usize) -> BookCheck
+#[tactic(auto, using(crate::proofs::Books::location_after, crate::proofs::Books::locations_end), unfolding(crate::specs::Check::check_bodies))]
+fn check_bodies(book: &[u8], scenes: usize) -> Result<(), BookFault>
     requires { (1 + location_length * scenes ≤ length book.now) × (scenes ≤ scenes_max) × (scenes ≡ scene_count book.now) }
     ensures { result ≡ check_bodies 0 (1 + location_length * scenes) (scene_locations book.now) (length book.now) }
 {
     let mut start = 1 + LOCATION_LENGTH * scenes;
-    let mut scene: usize = 0;
-    while scene < scenes {
-        let location = scene_location(book, scene);
-        let offset = location.offset;
-        let steps = location.steps;
+    for scene in 0..scenes {
+        let SceneLocation { offset, steps } = scene_location(book, scene);
         if offset != start {
-            return BookCheck::Bad(BookFault::Start {
+            return Err(BookFault::Start {
                 scene,
                 offset,
                 start,
             });
         }
         if STEPS_MAX < steps {
-            return BookCheck::Bad(BookFault::Steps { scene, steps });
+            return Err(BookFault::Steps { scene, steps });
         }
-        start = start + STEP_LENGTH * steps;
-        scene = scene + 1;
+        start += STEP_LENGTH * steps;
     }
     if start != book.len() {
-        return BookCheck::Bad(BookFault::End { end: start });
+        return Err(BookFault::End { end: start });
     }
-    BookCheck::Sound
+    Ok(())
 }
 
 // Checks a book up to the first fault.
-pub fn check_book(book: &[u8]) -> BookCheck
+#[tactic(auto, unfolding(crate::specs::Check::check_book))]
+pub fn check_book(book: &[u8]) -> Result<(), BookFault>
     ensures { result ≡ check_book book.now }
 {
-    if book.len() < 1 {
-        return BookCheck::Bad(BookFault::Empty);
-    }
-    let scenes = wide(book[0]);
+    let [scenes, ..] = book else {
+        return Err(BookFault::Empty);
+    };
+    let scenes = usize::from(*scenes);
     if SCENES_MAX < scenes {
-        return BookCheck::Bad(BookFault::Scenes { scenes });
+        return Err(BookFault::Scenes { scenes });
     }
     let end = 1 + LOCATION_LENGTH * scenes;
     if book.len() < end {
-        return BookCheck::Bad(BookFault::Locations { end });
+        return Err(BookFault::Locations { end });
     }
     check_bodies(book, scenes)
 }

@@ -1,15 +1,14 @@
 -- The plain sums over a block, reduced once, are the sums with carries.
 use mathlib.Core.Path.{◌≡◌, refl, sym, ap, ◌∙◌}
-use mathlib.Core.List.{List, [], ◌∷◌}
-use Prim.Native.Nat.{ℕ, suc, ◌+◌, ◌%◌, ◌≤◌, ◌<◌}
-use native.Mathlib.Numerals.{add-one}
+use mathlib.Core.List.{List, [], ◌∷◌, ◌++◌}
+use Prim.Native.Nat.{ℕ, suc, ◌+◌, ◌%◌, ◌<◌}
 use native.Mathlib.Omega.{arith}
-use lib.Dec.{eqb}
-use lib.ListN.{length, drop, get_or, drop_of_length-le}
+use Rattle.std.proofs.lemmas.Bool.Decides.{nat_tests}
+use native.Mathlib.Numerals.{add-one}
+use lib.ListN.{length, take, drop, get_or}
 use lib.Seq.{drop-cons}
-use borrow.Author.Tests.{eqb-true, eqb-false}
+use Rattle.std.proofs.lemmas.List.{take_more}
 use Rattle.dpa.specs.Lists.{Bytes}
-use Rattle.dpa.proofs.Bool.{by_cond}
 use Rattle.checksum.specs.declared.sums.Sums.{Sums}
 use Rattle.checksum.specs.declared.sums.PlainSums.{PlainSums}
 use Rattle.checksum.specs.Sums.{byte_max, add_with_carry, add_byte, sums}
@@ -19,31 +18,22 @@ use Rattle.checksum.proofs.Fletcher.{add_with_carry_byte, add_with_carry_remaind
 -- a reduced sum is a byte
 pub reduce_byte : (x : ℕ) → reduce x < 256
 unfolding reduce
-reduce_byte x = by_cond (λ (n : ℕ). n < 256) (eqb x 0) _ _ (λ q. omega arith) (λ q. omega arith)
+reduce_byte x = grind (arith, nat_tests)
 
 -- it is congruent to the sum modulo 255
 pub reduce_remainder : (x : ℕ) → reduce x % byte_max ≡ x % byte_max
 unfolding reduce
-reduce_remainder x =
-    by_cond (λ (n : ℕ). n % byte_max ≡ x % byte_max) (eqb x 0) _ _
-    (λ q. let z : x ≡ 0 = eqb-true x 0 q in omega arith)
-    (λ q. let z : x ≡ 0 → ⊥ = eqb-false x 0 q in omega arith)
+reduce_remainder x = grind (arith, nat_tests)
 
 -- it is 0 only for 0
 pub reduce_zero : (x : ℕ) → reduce x ≡ 0 → x ≡ 0
 unfolding reduce
-reduce_zero x = by_cond (λ (n : ℕ). n ≡ 0 → x ≡ 0) (eqb x 0) _ _ (λ q e. eqb-true x 0 q) (λ q e. absurd (omega arith))
+reduce_zero x e = grind (arith, nat_tests)
 
 -- no other byte is congruent to the sum and 0 exactly where the sum is
 pub reduce_unique : (r x : ℕ) → r < 256 → r % byte_max ≡ x % byte_max → (r ≡ 0 → x ≡ 0) → (x ≡ 0 → r ≡ 0) → r ≡ reduce x
 unfolding reduce
-reduce_unique r x h m f g =
-    by_cond (λ (n : ℕ). r ≡ n) (eqb x 0) _ _
-    (λ q. g (eqb-true x 0 q))
-    (λ q.
-    let z : x ≡ 0 → ⊥ = eqb-false x 0 q in
-    let p : r ≡ 0 → ⊥ = λ e. z (f e) in
-    omega arith)
+reduce_unique r x h m f g = grind (arith, nat_tests)
 
 -- a byte is its own reduction
 pub byte_stays : (x : ℕ) → x < 256 → reduce x ≡ x
@@ -88,13 +78,19 @@ block_sums_lem s block l h k =
     let e : reduce_sums (plainly s) ≡ s = rw (byte_stays s.low l, byte_stays s.high h) in
     ap (λ (t : Sums). sums t block) (sym e) ∙ plain_reduced (plainly s) block k
 
+-- one more byte at the end
+plain_sums_last : (s : PlainSums) (xs : List ℕ) (b : ℕ) → plain_sums s (xs ++ b ∷ []) ≡ add_plain (plain_sums s xs) b
+unfolding plain_sums
+plain_sums_last s [] b = refl
+plain_sums_last s (x ∷ xs) b = plain_sums_last (add_plain s x) xs b
+
+-- the plain sums of the bytes before place i + 1
+pub plain_sums_more : (s r : PlainSums) (block : List ℕ) (i b : ℕ) → i < length block → b ≡ get_or block i 0
+    → r ≡ plain_sums s (take i block) → add_plain r b ≡ plain_sums s (take (i + 1) block)
+plain_sums_more s r block i b h p q = rw (q, p, take_more block i 0 h) (sym (plain_sums_last s (take i block) (get_or block i 0)))
+
 -- the bytes still to add plainly, after one more
 pub plain_next : (block : List ℕ) (s : PlainSums) (i : ℕ) → i < length block
     → plain_sums s (drop i block) ≡ plain_sums (add_plain s (get_or block i 0)) (drop (i + 1) block)
 unfolding plain_sums
 plain_next block s i h = rw (add-one, drop-cons block i 0)
-
--- no bytes are left to add plainly
-pub plain_done : (block : List ℕ) (s : PlainSums) (i : ℕ) → length block ≤ i → plain_sums s (drop i block) ≡ s
-unfolding plain_sums
-plain_done block s i h = rw (drop_of_length-le block {i = i} h)

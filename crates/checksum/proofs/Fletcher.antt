@@ -1,13 +1,9 @@
 -- Laws of the two checksum sums.
-use mathlib.Core.Path.{◌≡◌, refl, sym, ap, ◌∙◌}
+use mathlib.Core.Path.{◌≡◌, refl}
 use mathlib.Core.List.{List, [], ◌∷◌, ◌++◌}
-use Prim.Native.Nat.{ℕ, ◌+◌, ◌-◌, ◌%◌, ◌≤◌, ◌<◌}
+use Prim.Native.Nat.{ℕ, ◌+◌, ◌%◌, ◌≤◌, ◌<◌}
 use native.Mathlib.Omega.{arith}
-use lib.Dec.{ltb}
-use lib.ListN.{length, take, drop, take-append-drop, drop_of_length-le}
-use lib.Seq.{drop-drop}
-use borrow.Author.Tests.{ltb-true, ltb-false}
-use Rattle.dpa.proofs.Bool.{by_cond}
+use Rattle.std.proofs.lemmas.Bool.Decides.{nat_tests}
 use Rattle.checksum.specs.declared.sums.Sums.{Sums}
 use Rattle.checksum.specs.Sums.{byte_max, add_with_carry, add_byte, sums, start}
 
@@ -17,37 +13,20 @@ unfolding sums
 sums_append s [] ys = refl
 sums_append s (x ∷ xs) ys = sums_append (add_byte s x) xs ys
 
--- the bytes still to add, after one more block
-pub sums_next_block : (image : List ℕ) (s r : Sums) (at end : ℕ) → at ≤ end → r ≡ sums s (take (end - at) (drop at image))
-    → sums s (drop at image) ≡ sums r (drop end image)
-sums_next_block image s r at end h e =
-    let k : at + (end - at) ≡ end = omega arith in
-    ap (sums s) (sym (take-append-drop (end - at) (drop at image)))
-    ∙ sums_append s (take (end - at) (drop at image)) (drop (end - at) (drop at image))
-    ∙ rw (← e, drop-drop, k)
-
--- no bytes are left to add
-pub sums_done : (block : List ℕ) (s : Sums) (i : ℕ) → length block ≤ i → sums s (drop i block) ≡ s
-unfolding sums
-sums_done block s i h = rw (drop_of_length-le block {i = i} h)
-
 -- a byte sum is a byte
 pub add_with_carry_byte : (a b : ℕ) → a < 256 → b < 256 → add_with_carry a b < 256
 unfolding add_with_carry
-add_with_carry_byte a b ha hb = by_cond (λ (n : ℕ). n < 256) (ltb byte_max (a + b)) _ _ (λ q. omega arith) (λ q. let k : a + b ≤ byte_max = ltb-false byte_max (a + b) q in omega arith)
+add_with_carry_byte a b ha hb = grind (arith, nat_tests)
 
 -- a byte sum is congruent to the plain sum modulo 255
 pub add_with_carry_remainder : (a b : ℕ) → a < 256 → b < 256 → add_with_carry a b % byte_max ≡ (a + b) % byte_max
 unfolding add_with_carry
-add_with_carry_remainder a b ha hb =
-    by_cond (λ (n : ℕ). n % byte_max ≡ (a + b) % byte_max) (ltb byte_max (a + b)) _ _
-    (λ q. let k : byte_max < a + b = ltb-true byte_max (a + b) q in omega arith)
-    (λ q. refl)
+add_with_carry_remainder a b ha hb = grind (arith, nat_tests)
 
 -- but it is 0 only if both terms are: a byte sum can be 255
 pub add_with_carry_zero : (a b : ℕ) → add_with_carry a b ≡ 0 → a + b ≡ 0
 unfolding add_with_carry
-add_with_carry_zero a b = by_cond (λ (n : ℕ). n ≡ 0 → a + b ≡ 0) (ltb byte_max (a + b)) _ _ (λ q e. absurd (omega arith)) (λ q e. e)
+add_with_carry_zero a b e = grind (arith, nat_tests)
 
 -- neither sum is 0
 abbrev pub Nonzero : Sums → Type 0

@@ -1,3 +1,4 @@
 pub mod Sums
 pub mod Blocks
 pub mod Check
+pub mod Seen

@@ -7,7 +7,7 @@ ghost use Rattle.checksum.specs.Blocks.{block_max, plainly, plain_sums, reduce};
 // The most bytes between two reductions. The high sum then needs 20 bits.
 const BLOCK_MAX: usize = 64;
 
-#[derive(Clone, Copy)]
+#[derive(Clone, Copy, Debug, PartialEq, Eq)]
 pub struct Sums {
     pub low: u8,
     pub high: u8,
@@ -21,6 +21,7 @@ struct PlainSums {
 }
 
 // Reduces a plain sum modulo 255 to a byte: 0 for 0, otherwise 1 to 255. Other multiples of 255 give 255, as they do with carries.
+#[tactic(auto, unfolding(crate::specs::Blocks::reduce))]
 fn reduce(sum: u32) -> u8
     ensures { result ≡ reduce sum }
 {
@@ -42,14 +43,15 @@ impl Sums {
     }
 
     // Adds each byte to the low sum and each new low sum to the high sum, without carries.
+    #[tactic(auto, unfolding(crate::specs::Blocks::plain_sums))]
     fn plain_sums(self, block: &[u8]) -> PlainSums
         requires { length block.now ≤ block_max }
         ensures { result ≡ plain_sums (plainly self) block.now }
     {
-        let mut low = self.low as u32;
-        let mut high = self.high as u32;
-        for i in 0..block.len() {
-            low += block[i] as u32;
+        let mut low = u32::from(self.low);
+        let mut high = u32::from(self.high);
+        for byte in block {
+            low += u32::from(*byte);
             high += low;
         }
         PlainSums { low, high }
@@ -68,27 +70,15 @@ impl Sums {
     }
 }
 
-fn smaller(a: usize, b: usize) -> usize
-    ensures { (result ≤ a) × (result ≤ b) × (1 ≤ a → 1 ≤ b → 1 ≤ result) }
-{
-    if a < b {
-        return a;
-    }
-    b
-}
-
 // The sums over an image, block by block; the last block may be shorter. A block size over 64 is cut to 64, the limit of `add_block`.
+#[tactic(auto, using(crate::proofs::Fletcher::sums_append), unfolding(crate::specs::Sums::sums))]
 pub fn image_sums(image: &[u8], initial_low: u8, block_size: usize) -> Sums
     requires { 1 ≤ block_size }
     ensures { result ≡ sums (start initial_low) image.now }
 {
-    let size = smaller(block_size, BLOCK_MAX);
-    let mut s = Sums::start(initial_low);
-    let mut at: usize = 0;
-    while at < image.len() {
-        let end = at + smaller(size, image.len() - at);
-        s = s.add_block(&image[at..end]);
-        at = end;
+    let mut sums = Sums::start(initial_low);
+    for block in image.chunks(block_size.min(BLOCK_MAX)) {
+        sums = sums.add_block(block);
     }
-    s
+    sums
 }

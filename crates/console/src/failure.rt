@@ -19,10 +19,10 @@ impl Display for Reason {
         let Ok(text) = from_utf8(text.get(..length).unwrap_or(&[])) else {
             return Ok(());
         };
-        match text.split_once(" (os error ") {
-            Some((reason, _)) => f.write_str(reason),
-            None => f.write_str(text),
-        }
+        f.write_str(
+            text.split_once(" (os error ")
+                .map_or(text, |(reason, _)| reason),
+        )
     }
 }
 

@@ -1,77 +1,48 @@
 // Numbers in the arguments.
-ghost use Rattle.std.specs.Prelude.{◌<◌, ◌≤◌};
+ghost use Rattle.std.specs.Prelude.{◌<◌, ◌≤◌, IfSome, length};
 
 use std::rt::Env;
 
-// `value` is 0 if the text is not a number.
-#[derive(Clone, Copy)]
-pub struct Number {
-    pub ok: bool,
-    pub value: usize,
-}
-
-const BAD: Number = Number {
-    ok: false,
-    value: 0,
-};
-
-// Above every digit.
-const NO_DIGIT: usize = 16;
-
-// The value of a decimal or hexadecimal digit.
-fn digit_of(byte: u8) -> usize {
-    match byte {
-        b'0'..=b'9' => (byte - b'0') as usize,
-        b'a'..=b'f' => (byte - b'a') as usize + 10,
-        b'A'..=b'F' => (byte - b'A') as usize + 10,
-        _ => NO_DIGIT,
-    }
-}
-
-// Reads a number of one or more digits, up to `most`. The division keeps the next value from overflowing.
-fn digits(text: &[u8], base: usize, most: usize) -> Number
-    requires { (0 < base) × (base ≤ most) }
-    ensures { result.value ≤ most }
+// Reads a number of one or more digits, up to `most`. The division keeps the next value from overflowing. `from_str_radix` would take a
+// sign too.
+fn digits(text: &[u8], radix: u32, most: usize) -> Option<usize>
+    requires { (2 ≤ radix) × (radix ≤ 36) × (radix ≤ most) }
+    ensures { IfSome result (λ value. value ≤ most) }
 {
-    if text.len() == 0 {
-        return BAD;
+    if text.is_empty() {
+        return None;
     }
-    let mut value: usize = 0;
-    let mut i: usize = 0;
-    while i < text.len() {
-        let digit = digit_of(text[i]);
-        if base <= digit {
-            return BAD;
-        }
+    let base = radix as usize;
+    let mut value = 0;
+    for &byte in text {
+        let digit = char::from(byte).to_digit(radix)? as usize;
         if (most - digit) / base < value {
-            return BAD;
+            return None;
         }
         value = value * base + digit;
-        i = i + 1;
     }
-    Number { ok: true, value }
+    Some(value)
 }
 
 // A longer argument is too long.
 pub const LONGEST_ARGUMENT: usize = 4096;
 
-// Puts argument i at the start of the buffer, and returns its length: 0 if it is missing or does not fit.
-pub fn argument_text(rt: &impl Env, i: usize, text: &mut [u8; LONGEST_ARGUMENT]) -> usize
-    ensures { result ≤ LONGEST_ARGUMENT }
+// Puts argument i at the start of the buffer, and returns it there: an empty text if it is missing or does not fit.
+pub fn argument_text<'a>(rt: &impl Env, i: usize, text: &'a mut [u8; LONGEST_ARGUMENT]) -> &'a [u8]
+    ensures { length result.now ≤ LONGEST_ARGUMENT }
 {
-    rt.arg(i, text).unwrap_or(0)
+    let length = rt.arg(i, text).unwrap_or(0);
+    &text[..length]
 }
 
-// Reads the number that is argument i: decimal, or hexadecimal after `0x`, up to `most`. An argument that is missing or does not fit the
-// buffer is read as an empty text, which is no number.
-pub fn number_argument(rt: &impl Env, i: usize, most: usize) -> Number
+// Reads the number that is argument i: decimal, or hexadecimal after `0x`, up to `most`.
+pub fn number_argument(rt: &impl Env, i: usize, most: usize) -> Option<usize>
     requires { 16 ≤ most }
-    ensures { result.value ≤ most }
+    ensures { IfSome result (λ value. value ≤ most) }
 {
     let mut text = [0u8; LONGEST_ARGUMENT];
-    let length = argument_text(rt, i, &mut text);
-    if 2 <= length && text[0] == b'0' && text[1] == b'x' {
-        return digits(&text[2..length], 16, most);
+    match argument_text(rt, i, &mut text) {
+        [b'0', b'x', hex @ ..] => digits(hex, 16, most),
+        decimal => digits(decimal, 10, most),
     }
-    digits(&text[..length], 10, most)
 }

@@ -1,58 +1,49 @@
 // Numbers in the answers and records of the calls.
 use crate::print_all;
-use batch::fault;
-use lights::{lamp, power, request};
-use node::frc;
-use queue::rule;
-use step::kind;
-use timing::slot::{SLOT_UNIT_MS, WAIT_MAX};
-use uart::{receive, receiver};
+use batch::fault::{self, Reason};
+use lights::{lamp, power};
+use node::frc::{self, FrcValue};
+use queue::rule::TIME_MAX;
+use step::kind::Kind;
+use timing::slot::{Network, SLOT_UNIT_MS, WAIT_MAX};
+use uart::receiver::{DropCause, Event, NO_CAUSE};
 
-const RECORDS: [u64; 33] = [
-    frc::ON as u64,
-    frc::ALARM as u64,
-    frc::NOT_IMPLEMENTED as u64,
-    frc::NO as u64,
-    frc::YES as u64,
-    lamp::MAX_LEVEL as u64,
-    lamp::MAX_SECONDS as u64,
-    power::KEEP as u64,
-    power::BIT_7 as u64,
-    power::BIT_7 as u64,
-    fault::NONE as u64,
-    fault::SHORT as u64,
-    fault::PAST_END as u64,
-    fault::UNCLOSED as u64,
-    fault::TRAILING as u64,
-    request::SET as u64,
-    request::RAISE as u64,
-    request::LOWER as u64,
-    kind::WRITE_RAM as u64,
-    kind::WRITE_EEPROM as u64,
-    receiver::EVENT_NONE as u64,
-    receiver::EVENT_FRAME as u64,
-    receiver::EVENT_DROPPED as u64,
-    receive::NO_CAUSE as u64,
-    receive::TOO_LONG as u64,
-    receive::CUT as u64,
-    receive::SHORT as u64,
-    receive::CHECK_BYTE as u64,
-    SLOT_UNIT_MS as u64,
-    rule::STD as u64,
-    rule::STD_LP as u64,
-    rule::TIME_MAX,
-    WAIT_MAX,
+const RECORDS: [(&str, u64); 33] = [
+    ("FRC_ON", frc::ON as u64),
+    ("FRC_ALARM", frc::ALARM as u64),
+    ("FRC_NOT_IMPLEMENTED", FrcValue::NotImplemented as u64),
+    ("FRC_NO", FrcValue::No as u64),
+    ("FRC_YES", FrcValue::Yes as u64),
+    ("LEVEL_MAX", lamp::MAX_LEVEL as u64),
+    ("SECONDS_MAX", lamp::MAX_SECONDS as u64),
+    ("POWER_KEEP", power::KEEP as u64),
+    ("POWER_TIMED", power::BIT_7 as u64),
+    ("TIME_SECONDS", power::BIT_7 as u64),
+    ("REASON_NONE", fault::NONE as u64),
+    ("REASON_SHORT", Reason::Short as u64),
+    ("REASON_PAST_END", Reason::PastEnd as u64),
+    ("REASON_UNCLOSED", Reason::Unclosed as u64),
+    ("REASON_TRAILING", Reason::Trailing as u64),
+    ("KIND_SET", Kind::Set as u64),
+    ("KIND_RAISE", Kind::Raise as u64),
+    ("KIND_LOWER", Kind::Lower as u64),
+    ("KIND_RAM", Kind::WriteRam as u64),
+    ("KIND_EEPROM", Kind::WriteEeprom as u64),
+    ("EVENT_NONE", Event::None as u64),
+    ("EVENT_FRAME", Event::Frame as u64),
+    ("EVENT_DROPPED", Event::Dropped as u64),
+    ("CAUSE_NONE", NO_CAUSE as u64),
+    ("CAUSE_TOO_LONG", DropCause::TooLong as u64),
+    ("CAUSE_CUT", DropCause::Cut as u64),
+    ("CAUSE_SHORT", DropCause::Short as u64),
+    ("CAUSE_CHECK_BYTE", DropCause::CheckByte as u64),
+    ("SLOT_MS", SLOT_UNIT_MS as u64),
+    ("NETWORK_STD", Network::Std as u64),
+    ("NETWORK_STD_LP", Network::StdLp as u64),
+    ("TIME_MAX", TIME_MAX),
+    ("WAIT_MAX", WAIT_MAX),
 ];
 
 pub fn print_records(rt: &impl Print) {
-    print_all(
-        rt,
-        b"FRC_ON FRC_ALARM FRC_NOT_IMPLEMENTED FRC_NO FRC_YES
-LEVEL_MAX SECONDS_MAX POWER_KEEP POWER_TIMED TIME_SECONDS
-REASON_NONE REASON_SHORT REASON_PAST_END REASON_UNCLOSED REASON_TRAILING
-KIND_SET KIND_RAISE KIND_LOWER KIND_RAM KIND_EEPROM
-EVENT_NONE EVENT_FRAME EVENT_DROPPED CAUSE_NONE CAUSE_TOO_LONG CAUSE_CUT CAUSE_SHORT CAUSE_CHECK_BYTE
-SLOT_MS NETWORK_STD NETWORK_STD_LP TIME_MAX WAIT_MAX",
-        &RECORDS,
-    );
+    print_all(rt, &RECORDS);
 }

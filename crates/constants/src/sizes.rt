@@ -10,81 +10,67 @@ use dpa::sizes::{EEPROM_SIZE, EXTERNAL_SIZE, RAM_SIZE};
 use framing::frame::{LONGEST, LONGEST_FRAMED};
 use lights::lamp::LAMPS;
 use lights::power::BITMAP_SIZE;
-use memory::block::{Memory, longest_of};
+use memory::block::Memory;
 use queue::record::QUEUE_SIZE;
 use scene::compile::MIN_OUTPUT;
 use timing::confirm::{AT_HOPS, AT_RESPONSE_HOPS, AT_TIMESLOT, CONFIRMATION_LENGTH};
 
-const COUNTS: [u64; 7] = [
-    LAMPS as u64,
-    SCENES_MAX as u64,
-    STEPS_MAX as u64,
-    QUEUE_SIZE as u64,
-    RAM_SIZE as u64,
-    EEPROM_SIZE as u64,
-    EXTERNAL_SIZE as u64,
+const COUNTS: [(&str, u64); 7] = [
+    ("LAMPS", LAMPS as u64),
+    ("SCENES", SCENES_MAX as u64),
+    ("STEPS", STEPS_MAX as u64),
+    ("QUEUE", QUEUE_SIZE as u64),
+    ("RAM", RAM_SIZE as u64),
+    ("EEPROM", EEPROM_SIZE as u64),
+    ("EXTERNAL", EXTERNAL_SIZE as u64),
 ];
 
-const SIZES: [u64; 16] = [
-    Frame::HEADER as u64,
-    Frame::PDATA_MAX as u64,
-    Frame::LONGEST as u64,
-    Frame::RESPONSE_HEADER as u64,
-    Frame::RESPONSE_LONGEST as u64,
-    CONFIRMATION_LENGTH as u64,
-    HEAD_SIZE as u64,
-    BITMAP_SIZE as u64,
-    LONGEST as u64,
-    LONGEST_FRAMED as u64,
-    LONGEST_BOOK as u64,
-    LOCATION_LENGTH as u64,
-    STEP_LENGTH as u64,
-    MIN_OUTPUT as u64,
-    NODE_SET_SIZE as u64,
-    BONDS_SIZE as u64,
+const SIZES: [(&str, u64); 16] = [
+    ("FRAME_HEADER", Frame::HEADER as u64),
+    ("PDATA", Frame::PDATA_MAX as u64),
+    ("FRAME", Frame::LONGEST as u64),
+    ("RESPONSE_HEADER", Frame::RESPONSE_HEADER as u64),
+    ("RESPONSE", Frame::RESPONSE_LONGEST as u64),
+    ("CONFIRMATION", CONFIRMATION_LENGTH as u64),
+    ("ENTRY_HEADER", HEAD_SIZE as u64),
+    ("BITMAP", BITMAP_SIZE as u64),
+    ("UART_FRAME", LONGEST as u64),
+    ("UART_FRAMED", LONGEST_FRAMED as u64),
+    ("BOOK", LONGEST_BOOK as u64),
+    ("BOOK_LOCATION", LOCATION_LENGTH as u64),
+    ("BOOK_STEP", STEP_LENGTH as u64),
+    ("COMPILED", MIN_OUTPUT as u64),
+    ("NODE_SET", NODE_SET_SIZE as u64),
+    ("BONDS", BONDS_SIZE as u64),
 ];
 
-const OFFSETS: [u64; 11] = [
-    Frame::AT_NADR as u64,
-    Frame::AT_PNUM as u64,
-    Frame::AT_PCMD as u64,
-    Frame::AT_HWPID as u64,
-    Frame::HEADER as u64,
-    Frame::AT_ERRN as u64,
-    Frame::AT_DPA_VALUE as u64,
-    Frame::RESPONSE_HEADER as u64,
-    AT_HOPS as u64,
-    AT_TIMESLOT as u64,
-    AT_RESPONSE_HOPS as u64,
+const OFFSETS: [(&str, u64); 11] = [
+    ("AT_NADR", Frame::AT_NADR as u64),
+    ("AT_PNUM", Frame::AT_PNUM as u64),
+    ("AT_PCMD", Frame::AT_PCMD as u64),
+    ("AT_HWPID", Frame::AT_HWPID as u64),
+    ("AT_PDATA", Frame::HEADER as u64),
+    ("AT_ERRN", Frame::AT_ERRN as u64),
+    ("AT_DPA_VALUE", Frame::AT_DPA_VALUE as u64),
+    ("AT_DATA", Frame::RESPONSE_HEADER as u64),
+    ("AT_HOPS", AT_HOPS as u64),
+    ("AT_TIMESLOT", AT_TIMESLOT as u64),
+    ("AT_RESPONSE_HOPS", AT_RESPONSE_HOPS as u64),
 ];
 
 // The longest blocks that one request reads or writes.
 fn print_blocks(rt: &impl Print) {
     let blocks = [
-        longest_of(Memory::Ram) as u64,
-        longest_of(Memory::Eeprom) as u64,
-        longest_of(Memory::External) as u64,
+        ("RAM_BLOCK", Memory::Ram.longest() as u64),
+        ("EEPROM_BLOCK", Memory::Eeprom.longest() as u64),
+        ("EXTERNAL_BLOCK", Memory::External.longest() as u64),
     ];
-    print_all(rt, b"RAM_BLOCK EEPROM_BLOCK EXTERNAL_BLOCK", &blocks);
+    print_all(rt, &blocks);
 }
 
 pub fn print_sizes(rt: &impl Print) {
-    print_all(
-        rt,
-        b"LAMPS SCENES STEPS QUEUE
-RAM EEPROM EXTERNAL",
-        &COUNTS,
-    );
+    print_all(rt, &COUNTS);
     print_blocks(rt);
-    print_all(
-        rt,
-        b"FRAME_HEADER PDATA FRAME RESPONSE_HEADER RESPONSE CONFIRMATION ENTRY_HEADER BITMAP UART_FRAME UART_FRAMED
-BOOK BOOK_LOCATION BOOK_STEP COMPILED NODE_SET BONDS",
-        &SIZES,
-    );
-    print_all(
-        rt,
-        b"AT_NADR AT_PNUM AT_PCMD AT_HWPID AT_PDATA AT_ERRN AT_DPA_VALUE AT_DATA AT_HOPS AT_TIMESLOT AT_RESPONSE_HOPS",
-        &OFFSETS,
-    );
+    print_all(rt, &SIZES);
+    print_all(rt, &OFFSETS);
 }

@@ -1,19 +1,23 @@
--- Laws of the check byte: it is linear, so that a block of bytes can be added at once; the table of the code; its loops.
+-- Laws of the check byte: it is linear, so that a block of bytes can be added at once; the table of the code; how the code adds a message.
 use mathlib.Core.Path.{◌≡◌, refl, sym, ap, ◌∙◌}
 use mathlib.Core.Bool.{cond}
 use mathlib.Core.List.{List, [], ◌∷◌}
-use Prim.Native.Nat.{ℕ, zero, suc, ◌+◌, ◌*◌, ◌/◌, ◌%◌, ◌^◌, ◌-◌, ◌≤◌, ◌<◌}
+use Prim.Native.Nat.{ℕ, zero, suc, ◌+◌, ◌*◌, ◌/◌, ◌%◌, ◌<◌}
 use native.Mathlib.Omega.{arith}
-use native.Mathlib.Numerals.{add-one}
-use lib.Bits.{bit_xor, xor_shr, xor_mod, xor_comm, xor_self, xor_zero_r, xor_shifted}
+use Rattle.std.proofs.Common.{zero-add}
+use Rattle.std.specs.List.{fold as list_fold}
+use Rattle.std.specs.Simd.{first_chunks}
+use lib.Bits.{bit_xor, xor_shr, xor_mod, xor_comm, xor_self, xor_zero_r, xor_assoc, xor_shifted}
 use lib.Dec.{eqb}
-use lib.ListN.{length, get_or, take, drop, length-drop, take-append-drop}
-use lib.Seq.{drop-cons, drop-length, drop-drop}
+use lib.ListN.{length, get_or, take, drop, take-append-drop}
+use lib.Seq.{drop-drop}
 use Rattle.dpa.specs.Lists.{fold}
-use Rattle.crc.specs.CheckByte.{polynomial, shift, shifts, crc_byte, crc_bytes}
-use Rattle.crc.specs.ShiftTable.{bytes_at_once, table_from, shift_entry, shift_table}
+use Rattle.crc.specs.CheckByte.{polynomial, initial_crc, shift, shifts, crc_byte, crc_bytes, check_byte}
+use Rattle.crc.specs.declared.check_byte.Digits.{Digits}
+use Rattle.crc.specs.declared.check_byte.TheConstants.{SHIFT_TABLE}
+use Rattle.crc.specs.ShiftTable.{bytes_at_once, table_from, digits_after, shift_table}
 use Rattle.dpa.proofs.Lists.{fold_append}
-use Rattle.crc.proofs.Xor.{by_bit, xor_assoc}
+use Rattle.crc.proofs.Xor.{by_bit}
 
 -- ---- linearity
 
@@ -81,63 +85,67 @@ pub crc_cons : (crc b : ℕ) (bs : List ℕ) → crc_bytes crc (b ∷ bs) ≡ bi
 unfolding crc_byte fold
 crc_cons crc b bs = past (bit_xor crc b) bs (crc_split (shifts 8 (bit_xor crc b)) bs)
 
--- the CRC over the bytes from place i on, k bytes later
-pub crc_later : (bs : List ℕ) (crc crc' i k : ℕ) → crc' ≡ crc_bytes crc (take k (drop i bs)) → crc_bytes crc' (drop (i + k) bs) ≡ crc_bytes crc (drop i bs)
-crc_later bs crc crc' i k e =
-    rw (e, ← drop-drop k i bs) (sym (fold_append crc_byte crc (take k (drop i bs)) (drop k (drop i bs))) ∙ ap (crc_bytes crc) (take-append-drop k (drop i bs)))
-
 -- ---- the table
 
-entry_from : (f : ℕ → ℕ) (i n k : ℕ) → k < n → get_or (table_from f i n) k 0 ≡ f (i + k)
+entry_from : {A : Type 0} (f : ℕ → A) (d : A) (i n k : ℕ) → k < n → get_or (table_from f i n) k d ≡ f (i + k)
 unfolding table_from
-entry_from f i zero k h = absurd (omega arith)
-entry_from f i (suc n) zero h = let z : i + 0 ≡ i = omega arith in rw z
-entry_from f i (suc n) (suc k) h = let z : i + suc k ≡ suc i + k = omega arith in rw z (entry_from f (suc i) n k (omega arith))
+entry_from f d i zero k h = absurd (omega arith)
+entry_from f d i (suc n) zero h = let z : i + 0 ≡ i = omega arith in rw z
+entry_from f d i (suc n) (suc k) h = let z : i + suc k ≡ suc i + k = omega arith in rw z (entry_from f d (suc i) n k (omega arith))
 
-pub table_length : length shift_table ≡ 128
-unfolding table_from shift_table
-table_length = refl
+-- the numbers of the code are those of the definition: the checker computes them
+table_right : SHIFT_TABLE ≡ shift_table
+unfolding shift shifts table_from shift_table
+table_right = refl
 
 -- an entry of the table
-table_entry : (k : ℕ) → k < 128 → get_or shift_table k 0 ≡ shift_entry k
+table_entry : (n : ℕ) (d : Digits) → n < bytes_at_once → get_or SHIFT_TABLE n d ≡ digits_after n
 unfolding shift_table
-table_entry k h = let z : 0 + k ≡ k = omega arith in entry_from shift_entry 0 128 k h ∙ ap shift_entry z
+table_entry n d h = ap (λ (t : List Digits). get_or t n d) table_right ∙ entry_from digits_after d 0 bytes_at_once n h ∙ ap digits_after (zero-add n)
 
--- the entries for the two digits of a byte that n bytes follow
-pub table_digits : (n b low high : ℕ) → n < bytes_at_once → b < 256 → low ≡ b % 16 → high ≡ b / 16
-    → bit_xor (get_or shift_table (32 * n + low) 0) (get_or shift_table (32 * n + 16 + high) 0) ≡ shifts (8 * (n + 1)) b
-table_digits n b low high h l el eh =
-    let low_of : shift_entry (32 * n + low) ≡ shifts (8 * (n + 1)) low = entry_of (32 * n + low) n low 0 low (omega arith) (omega arith) (omega arith) (omega arith) in
-    let high_of : shift_entry (32 * n + 16 + high) ≡ shifts (8 * (n + 1)) (high * 16)
-    = entry_of (32 * n + 16 + high) n high 1 (high * 16) (omega arith) (omega arith) (omega arith) refl in
+-- the numbers of the table for the two digits of a byte that n bytes follow
+pub table_digits : (n b low high : ℕ) (d : Digits) → n < bytes_at_once → b < 256 → low ≡ b % 16 → high ≡ b / 16
+    → bit_xor (get_or (get_or SHIFT_TABLE n d).low low 0) (get_or (get_or SHIFT_TABLE n d).high high 0) ≡ shifts (8 * (n + 1)) b
+table_digits n b low high d h l el eh =
+    let low_of = λ (x : ℕ). shifts (8 * (n + 1)) x in
+    let high_of = λ (x : ℕ). shifts (8 * (n + 1)) (x * 16) in
     let digits : bit_xor low (high * 16) ≡ b = xor_comm low (high * 16) ∙ xor_shifted high 4 low (omega arith) ∙ omega arith in
-    rw (table_entry (32 * n + low) (omega arith), table_entry (32 * n + 16 + high) (omega arith), low_of, high_of)
+    rw (table_entry n d h, entry_from low_of 0 0 16 low (omega arith), entry_from high_of 0 0 16 high (omega arith), zero-add low, zero-add high)
     (sym (shifts_linear (8 * (n + 1)) low (high * 16)) ∙ ap (shifts (8 * (n + 1))) digits)
-  where
-    entry_of : (k n d p x : ℕ) → k / 32 ≡ n → k % 16 ≡ d → k / 16 % 2 ≡ p → d * 16 ^ p ≡ x → shift_entry k ≡ shifts (8 * (n + 1)) x
-    entry_of k n d p x en ed ep ex = rw (en, ed, ep, ex)
 
--- ---- the loops
+-- ---- blocks
 
--- the CRC over the bytes from place i on, one byte later
-pub crc_next : (bs : List ℕ) (crc i : ℕ) → i < length bs → crc_bytes crc (drop i bs) ≡ crc_bytes (shifts 8 (bit_xor crc (get_or bs i 0))) (drop (i + 1) bs)
-unfolding crc_byte fold
-crc_next bs crc i h = rw (add-one, drop-cons bs i 0 h)
+-- a block of four bytes: each is shifted past the later ones
+pub block_sum : (crc : ℕ) (bs : List ℕ) → length bs ≡ bytes_at_once
+    → bit_xor (shifts 32 (bit_xor crc (get_or bs 0 0))) (bit_xor (bit_xor (shifts 24 (get_or bs 1 0)) (shifts 16 (get_or bs 2 0))) (shifts 8 (get_or bs 3 0)))
+    ≡ crc_bytes crc bs
+block_sum crc (a ∷ b ∷ c ∷ d ∷ []) h =
+    simp (crc_cons crc a (b ∷ c ∷ d ∷ []), crc_cons 0 b (c ∷ d ∷ []), crc_cons 0 c (d ∷ []), crc_cons 0 d [], crc_none 0, xor_zero_r, xor_assoc)
+block_sum crc [] h = absurd (omega arith)
+block_sum crc (a ∷ []) h = absurd (omega arith)
+block_sum crc (a ∷ b ∷ []) h = absurd (omega arith)
+block_sum crc (a ∷ b ∷ c ∷ []) h = absurd (omega arith)
+block_sum crc (a ∷ b ∷ c ∷ d ∷ e ∷ rest) h = absurd (omega arith)
 
--- the sum of the bytes up to place i, one byte later
-pub sum_next : (bs : List ℕ) (sum i : ℕ) → i < length bs
-    → bit_xor sum (crc_bytes 0 (drop i bs)) ≡ bit_xor (bit_xor sum (shifts (8 * (length bs - i)) (get_or bs i 0))) (crc_bytes 0 (drop (i + 1) bs))
-sum_next bs sum i h =
-    let b = get_or bs i 0 in
-    let rest = drop (i + 1) bs in
-    let n : suc (length rest) ≡ length bs - i = omega (arith, length-drop (i + 1) bs) in
-    rw (drop-cons bs i 0 h, ← add-one i, crc_cons 0 b rest, n) (sym (xor_assoc sum (shifts (8 * (length bs - i)) b) (crc_bytes 0 rest)))
-
--- the first byte of a block, and the sum of the others
-pub sum_all : (bs : List ℕ) (crc sum n : ℕ) → n ≡ length bs → 1 ≤ n → bit_xor sum (crc_bytes 0 (drop (length bs) bs)) ≡ crc_bytes 0 (drop 1 bs)
-    → bit_xor (shifts (8 * n) (bit_xor crc (get_or bs 0 0))) sum ≡ crc_bytes crc bs
+-- bytes that are added one by one
+bytes_added : (crc : ℕ) (bs : List ℕ) → list_fold crc_byte crc bs ≡ crc_bytes crc bs
 unfolding fold
-sum_all [] crc sum n l h e = absurd (omega arith)
-sum_all (b ∷ bs) crc sum n l h e =
-    let s : sum ≡ crc_bytes 0 bs = sym (xor_zero_r sum) ∙ ap (λ (xs : List ℕ). bit_xor sum (crc_bytes 0 xs)) (sym (drop-length (b ∷ bs))) ∙ e in
-    rw (l, s) (sym (crc_cons crc b bs))
+bytes_added crc [] = refl
+bytes_added crc (b ∷ bs) = bytes_added (crc_byte crc b) bs
+
+-- blocks, and then the bytes after them
+blocks_added : (n crc : ℕ) (bs : List ℕ) → crc_bytes (list_fold crc_bytes crc (first_chunks bytes_at_once n bs)) (drop (n * bytes_at_once) bs) ≡ crc_bytes crc bs
+blocks_added zero crc bs = refl
+blocks_added (suc n) crc bs =
+    let z : bytes_at_once + n * bytes_at_once ≡ suc n * bytes_at_once = omega arith in
+    rw (← z, ← drop-drop (n * bytes_at_once) bytes_at_once bs)
+    (blocks_added n (crc_bytes crc (take bytes_at_once bs)) (drop bytes_at_once bs)
+    ∙ sym (fold_append crc_byte crc (take bytes_at_once bs) (drop bytes_at_once bs))
+    ∙ ap (crc_bytes crc) (take-append-drop bytes_at_once bs))
+
+-- a whole message
+pub message_added : (bs rest : List ℕ) (blocks : List (List ℕ)) (crc sum : ℕ)
+    → blocks ≡ first_chunks bytes_at_once (length bs / bytes_at_once) bs → rest ≡ drop (length bs / bytes_at_once * bytes_at_once) bs
+    → crc ≡ list_fold crc_bytes initial_crc blocks → sum ≡ list_fold crc_byte crc rest → sum ≡ check_byte bs
+message_added bs rest blocks crc sum eb er ec es =
+    es ∙ bytes_added crc rest ∙ rw (ec, eb, er) (blocks_added (length bs / bytes_at_once) initial_crc bs)

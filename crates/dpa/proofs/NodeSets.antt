@@ -1,4 +1,6 @@
 -- Laws of node sets: which addresses a set names, and that reading and writing a set are inverse.
+use Rattle.std.specs.Bool.{MatchBool}
+use Rattle.std.specs.List.{AllWithin, HoldsAt}
 use mathlib.Core.Path.{◌≡◌, refl, sym, ap, ap₂, ◌∙◌}
 use mathlib.Core.Logic.{◌↔◌}
 use mathlib.Core.List.{List, ◌∷◌}
@@ -269,3 +271,9 @@ counts_ones b = eqb (ones b) (number_below 8 (bit_of b))
 pub ones_bits : (b : ℕ) → b < 256 → ones b ≡ number_below 8 (bit_of b)
 unfolding counts_ones ones ones_in number_below all_below
 ones_bits b h = eqb-true (ones b) _ (all_below_elim 256 counts_ones refl b h)
+
+-- a set names an address exactly if a byte of it is not 0
+pub any_exact : (s : List ℕ) (r : Bool) → length s ≡ node_set_size → Bytes s
+    → MatchBool r ((k : ℕ) × (k < length s) × HoldsAt (λ x. x ≡ 0 → ⊥) s k) (AllWithin (λ x. x ≡ 0) s 0 (length s)) → r ≡ selects_any s
+any_exact s true e b h = sym (byte_any s h.0 (omega (arith, e, h.1)) (b h.0) (h.2 0))
+any_exact s false e b h = sym (zeros_none s (λ i l. h i 0 (omega arith) (omega (arith, e))))

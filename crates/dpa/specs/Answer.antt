@@ -1,7 +1,14 @@
 -- What a call leaves that writes to the front of a lent buffer.
-use Rattle.std.specs.Prelude.{ℕ, List, ◌≡◌, length}
+use Rattle.std.specs.Prelude.{ℕ, List, ◌≡◌, length, Result, Ok, Err}
 use Rattle.dpa.specs.declared.answer.LengthAnswer.{LengthAnswer}
+use Rattle.dpa.specs.declared.refusal.Refusal.{Refusal}
 use Rattle.dpa.specs.Lists.{overwrite_front}
+use Rattle.dpa.specs.Refusal.{refusal_number}
+
+-- the answer for C: a refused call has length 0
+abbrev pub length_answer : Result ℕ Refusal → LengthAnswer
+length_answer (Ok n) = record { refusal = 0; length = n }
+length_answer (Err e) = record { refusal = refusal_number e; length = 0 }
 
 -- its answer and the buffer
 pub record LengthResult : Type 0 where

@@ -6,4 +6,6 @@ pub mod Frame
 pub mod Pnum
 pub mod Sizes
 pub mod Reply
+pub mod Error
+pub mod Refusal
 pub mod Answer

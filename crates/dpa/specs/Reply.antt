@@ -1,5 +1,7 @@
 -- The reply of a peripheral to a request, over the part S of the node that the peripheral owns, and the same in a response buffer.
-use Rattle.std.specs.Prelude.{ℕ, List, [], ◌≡◌, length}
+use Rattle.std.specs.Prelude.{ℕ, List, [], ◌≡◌, length, Result, Ok, Err}
+use Rattle.dpa.specs.declared.error.ErrN.{ErrN}
+use Rattle.dpa.specs.Error.{error_of}
 use Rattle.dpa.specs.Lists.{overwrite_front}
 
 -- what a request means: S afterwards, ErrN, and the response's data
@@ -32,6 +34,15 @@ map_state put a = reply (put a.after) a.error a.bytes
 
 abbrev pub reply_seen : {S : Type 0} → S → ℕ → ℕ → List ℕ → SeenReply S
 reply_seen s e n o = record { after = s; error = e; length = n; out = o }
+
+-- the length of the data that a peripheral wrote; an error has none
+abbrev pub length_of : Result ℕ ErrN → ℕ
+length_of (Ok n) = n
+length_of (Err e) = 0
+
+-- the same for a peripheral's outcome
+abbrev pub outcome_seen : {S : Type 0} → S → Result ℕ ErrN → List ℕ → SeenReply S
+outcome_seen s r o = reply_seen s (error_of r) (length_of r) o
 
 -- a reply in a buffer: its data at the front, later bytes unchanged
 abbrev pub reply_in_buffer : {S : Type 0} → Reply S → List ℕ → SeenReply S

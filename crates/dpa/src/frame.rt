@@ -51,17 +51,12 @@ impl Frame {
     pub fn header(nadr: u16, pnum: u8, pcmd: u8, hwpid: u16) -> [u8; Frame::HEADER]
         ensures { result ≡ header_bytes (frame nadr pnum pcmd hwpid) }
     {
-        [
-            (nadr % 256) as u8,
-            (nadr / 256) as u8,
-            pnum,
-            pcmd,
-            (hwpid % 256) as u8,
-            (hwpid / 256) as u8,
-        ]
+        let [nadr_low, nadr_high] = nadr.to_le_bytes();
+        let [hwpid_low, hwpid_high] = hwpid.to_le_bytes();
+        [nadr_low, nadr_high, pnum, pcmd, hwpid_low, hwpid_high]
     }
 
-    // Reads the header at the start of a frame.
+    // Reads the header at the start of a frame. That it is there is a `requires`: C lends frames as bytes of any length.
     pub fn read(s: &[u8]) -> Frame
         requires { header_size ≤ length s.now }
         ensures { result ≡ header_of s.now }

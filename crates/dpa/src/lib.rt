@@ -1,5 +1,5 @@
-// What every other crate shares: two-byte numbers, the header of a frame, peripheral, ErrN and refusal numbers, memory sizes,
-// a node's settings, sets of nodes, the reply of a peripheral, and the answer of a call that writes a buffer.
+// What every other crate shares: two-byte numbers, the header of a frame, peripheral numbers, ErrN, refusals, memory sizes, a node's
+// settings, sets of nodes, and the answer of a call that writes a buffer.
 #![tactic(auto)]
 
 pub mod answer;
@@ -10,6 +10,5 @@ pub mod node_set;
 pub mod number;
 pub mod pnum;
 pub mod refusal;
-pub mod reply;
 pub mod settings;
 pub mod sizes;

@@ -2,8 +2,6 @@
 ghost use Rattle.std.specs.Prelude.{◌≡◌};
 ghost use Rattle.dpa.specs.NodeSet.{selects, selects_any, node_set_ok};
 
-use crate::number::{wide, wide_word};
-
 // Bytes of a set, for the addresses 0 to 239.
 pub const NODE_SET_SIZE: usize = 30;
 
@@ -18,7 +16,7 @@ pub struct NodeSet {
 pub fn selects(set: &[u8], address: u16) -> bool
     ensures { result ≡ selects set.now address }
 {
-    let index = wide_word(address / 8);
+    let index = usize::from(address / 8);
     if set.len() <= index {
         return false;
     }
@@ -29,15 +27,7 @@ pub fn selects(set: &[u8], address: u16) -> bool
 fn selects_any(nodes: NodeSet) -> bool
     ensures { result ≡ selects_any nodes.bits }
 {
-    let bits = nodes.bits;
-    let mut i: usize = 0;
-    while i < NODE_SET_SIZE {
-        if wide(bits[i]) != 0 {
-            return true;
-        }
-        i = i + 1;
-    }
-    false
+    nodes.bits.iter().any(|byte| *byte != 0)
 }
 
 // Whether a scene can be compiled for a set: it names a node, and not address 0, which is the coordinator's.

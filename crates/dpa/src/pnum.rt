@@ -1,4 +1,4 @@
-// Peripheral numbers.
+// Peripheral numbers. They are no enum: a frame may have any byte there, and the definitions (`peripheral_request`) test the number.
 pub const OS: u8 = 2;
 
 pub const EEPROM: u8 = 3;

@@ -11,7 +11,7 @@ pub const LAST_ADDRESS: u16 = 239;
 pub const MAX_LAMPS: u8 = 32;
 
 #[repr(C)]
-#[derive(Clone, Copy)]
+#[derive(Clone, Copy, Default)]
 pub struct Settings {
     pub address: u16,
     pub hwpid: u16,
@@ -54,10 +54,7 @@ pub fn step_ok(step: u8) -> bool
 pub fn settings_ok(settings: Settings) -> bool
     ensures { result ≡ settings_ok settings }
 {
-    if settings.address < 1 {
-        return false;
-    }
-    if LAST_ADDRESS < settings.address {
+    if !node_address(settings.address) {
         return false;
     }
     if settings.lamp_count < 1 {

@@ -20,7 +20,7 @@ use Rattle.outcome.proofs.Parts.{peripheral_settings, peripheral_lamps_lem, peri
 use Rattle.effects.specs.declared.walk.Rest.{Rest}
 use Rattle.effects.specs.declared.walk.Rest.TheVariants.{Ended, Whole, Entries}
 use Rattle.effects.specs.declared.walk.Walk.{Walk}
-use Rattle.effects.specs.Walk.{walk_at, WholeOk, WalkOk, current_lamps, rest_lamps, walk_lamps, walk_memories, start_walk, whole_left}
+use Rattle.effects.specs.Walk.{walk_at, WholeOk, WalkOk, current_lamps, rest_lamps, walk_lamps, walk_memories, start_walk}
 use Rattle.effects.proofs.Tasks.{at_end_remains}
 
 -- the settings are unchanged
@@ -78,12 +78,9 @@ start_ok effect i known = by effect known
     made : (r : Rest) (next : ℕ) → next ≤ length i.pdata → (r ≡ Whole → WholeOk i (walk_at r next)) → WalkOk i (walk_at r next)
     made r next h w = record { next_max = h; remains = at_end_remains i.pdata next h; whole = w }
 
-    not_whole : (r : Rest) → whole_left r ≡ 0 → r ≡ Whole → ⊥
-    not_whole r z e = let y : ◌≡◌ {A = ℕ} 1 0 = sym (ap whole_left e) ∙ z in omega arith
-
     by : (e : Effect) → EffectKnown e i → WalkOk i (start_walk e)
-    by Nothing k = made Ended 0 (omega arith) (λ e. absurd (not_whole Ended refl e))
+    by Nothing k = made Ended 0 (omega arith) (λ e. cc)
     by Lamps k = made Whole 0 (omega arith) (λ _. record { at_start = refl; valid = λ _. k.changes refl })
     by Alone k = made Whole 0 (omega arith) (λ _. record { at_start = refl; valid = λ p. absurd (k.not_lights refl p) })
-    by Batch k = made Entries 0 (omega arith) (λ e. absurd (not_whole Entries refl e))
-    by Selective k = made Entries node_set_size (k.node_set refl) (λ e. absurd (not_whole Entries refl e))
+    by Batch k = made Entries 0 (omega arith) (λ e. cc)
+    by Selective k = made Entries node_set_size (k.node_set refl) (λ e. cc)

@@ -1,7 +1,6 @@
 -- The invariant of the loop in `change_lamps`, and how each way through its body keeps it.
 use mathlib.Core.Path.{◌≡◌, refl, sym, ap, ◌∙◌}
 use mathlib.Core.List.{List}
-use mathlib.Core.Bool.{false}
 use Prim.Native.Nat.{ℕ, ◌≤◌, ◌<◌}
 use native.Mathlib.Omega.{arith}
 use lib.ListN.{length, take, get_or, set, length-set}
@@ -17,10 +16,9 @@ use Rattle.lights.specs.Remaining.{lamp_changed, LampStep}
 use Rattle.lights.proofs.RemainingLamps.{end_lamps, changed_implemented, changed_unimplemented}
 use Rattle.batch.specs.Batch.{Request}
 use Rattle.outcome.specs.Seen.{Memories, Sized}
-use Rattle.effects.specs.declared.lamps.NextTask.{NextTask}
 use Rattle.effects.specs.declared.walk.Task.{Task}
 use Rattle.effects.specs.declared.walk.Walk.{Walk}
-use Rattle.effects.specs.Walk.{task_memories, task_walk, WalkOk, rest_lamps, walk_lamps, walk_memories, Follows, TaskAfter}
+use Rattle.effects.specs.Walk.{task_memories, task_walk, WalkOk, rest_lamps, walk_lamps, walk_memories, Follows, NothingFollows}
 use Rattle.effects.proofs.Walks.{left, step_walk_ok, step_less, step_sized, step_lamps, step_memories}
 
 -- What is before `walk` is done: the rest of the walk gives the same lamps and memories as the whole walk from `start`.
@@ -40,11 +38,11 @@ module _ {s : Settings} {i : Request} {start : Walk} {old : List Lamp} {ms : Mem
     (w : PartlyDone s i start old ms walk after ns) where
   module _ (z : walk.lamps.remaining ≡ 0) where
     -- without a remaining lamp and without a request the walk has ended
-    pub done_end : (x : NextTask) → TaskAfter s i walk x → x.found ≡ false → (after ≡ walk_lamps s i start old) × (ns ≡ walk_memories s i start ms)
+    pub done_end : NothingFollows s i walk → (after ≡ walk_lamps s i start old) × (ns ≡ walk_memories s i start ms)
     unfolding walk_lamps
-    done_end x next f = (
-      sym (next.none_lamps f after) ∙ sym (ap (rest_lamps walk.rest s i walk.next) (end_lamps s.lamp_count (take walk.next i.pdata) walk.lamps z after)) ∙ w.rest_lamps_lem,
-      sym (next.none_memories f ns) ∙ w.rest_memories_lem,
+    done_end none = (
+      sym (none.lamps after) ∙ sym (ap (rest_lamps walk.rest s i walk.next) (end_lamps s.lamp_count (take walk.next i.pdata) walk.lamps z after)) ∙ w.rest_lamps_lem,
+      sym (none.memories ns) ∙ w.rest_memories_lem,
     )
 
     -- a request is executed

@@ -1,15 +1,16 @@
 -- The walk of a request, alone or in a list: it can go on, it ends where the request does, and it gives the lamps after the request.
 use mathlib.Core.Path.{◌≡◌, refl, sym, ap, ◌∙◌}
-use mathlib.Core.List.{List, [], ◌∷◌}
+use mathlib.Core.List.{List}
 use mathlib.Core.Bool.{Bool, true, false, cond, ◌&&◌, and-false}
-use Prim.Native.Nat.{ℕ, zero, suc, ◌-◌, ◌≤◌}
+use Prim.Native.Nat.{ℕ, ◌+◌, ◌-◌, ◌≤◌}
 use native.Mathlib.Omega.{arith}
 use lib.Dec.{leb, eqb}
 use lib.ListN.{length, take, drop}
-use lib.Seq.{take-nil, length-take-le}
+use lib.Seq.{length-take-le}
+use Rattle.std.proofs.lemmas.List.{drop-take}
 use borrow.Author.Tests.{leb-true, eq-eqb, ne_eqb}
 use Rattle.dpa.specs.declared.settings.Settings.{Settings}
-use Rattle.dpa.specs.Lists.{Bytes, slice}
+use Rattle.dpa.specs.Lists.{Bytes}
 use Rattle.dpa.specs.Pnum.{lights_pnum}
 use Rattle.dpa.proofs.Bool.{by_cond, by_test}
 use Rattle.dpa.proofs.Bytes.{bytes_take}
@@ -24,16 +25,11 @@ use Rattle.effects.specs.declared.walk.Task.{Task}
 use Rattle.effects.specs.declared.walk.Walk.{Walk}
 use Rattle.effects.specs.Walk.{task_data, task_lamps, task_memories, TaskOk, walk_at, lights_walk, task_walk, current_lamps}
 
--- a part of the first bytes is a slice
-drop_take : (n m : ℕ) (l : List ℕ) → drop n (take m l) ≡ slice l n (m - n)
-drop_take zero m l = let z : m - 0 ≡ m = omega arith in rw z
-drop_take (suc n) zero l = let z : 0 - suc n ≡ 0 = omega arith in rw z
-drop_take (suc n) (suc m) [] = sym (take-nil (suc m - suc n))
-drop_take (suc n) (suc m) (x ∷ l) = let z : suc m - suc n ≡ m - n = omega arith in rw z (drop_take n m l)
-
 -- the bytes of a task up to its end hold its PData
-pub task_data_lem : (bytes : List ℕ) (t : Task) → drop t.start (take t.end bytes) ≡ task_data bytes t
-task_data_lem bytes t = drop_take t.start t.end bytes
+pub task_data_lem : (bytes : List ℕ) (t : Task) → t.start ≤ t.end → drop t.start (take t.end bytes) ≡ task_data bytes t
+task_data_lem bytes t h =
+    let e : t.end ≡ t.start + (t.end - t.start) = omega arith in
+    ap (λ (n : ℕ). drop t.start (take n bytes)) e ∙ drop-take t.start (t.end - t.start) bytes
 
 module _ (bytes : List ℕ) (t : Task) where
   -- after a test of the power entries, PCMD says whether a request changes lamps
@@ -103,14 +99,14 @@ module _ (s : Settings) (bytes : List ℕ) (t : Task) (good : TaskOk bytes t) wh
     changing : changes_lamps t.pcmd pdata ≡ true
         → TaskWalk s bytes t (λ ls. (lights_request s t.pcmd pdata ls).after) (record { rest = t.rest; next = t.end; lamps = walk_start t.pcmd front t.start })
     changing e =
-        let h : changes_lamps t.pcmd (drop t.start front) ≡ true = ap (changes_lamps t.pcmd) (task_data_lem bytes t) ∙ e in
+        let h : changes_lamps t.pcmd (drop t.start front) ≡ true = ap (changes_lamps t.pcmd) (task_data_lem bytes t good.start_max) ∙ e in
         record {
           remains = start_remains t.pcmd front t.start h (bytes_take t.end bytes small);
           follows = refl;
           ends = refl;
           further = omega arith;
           lamps = λ ls. start_lamps t.pcmd front t.start h (bytes_take t.end bytes small) s ls
-              ∙ ap (λ (d : List ℕ). (lights_request s t.pcmd d ls).after) (task_data_lem bytes t);
+              ∙ ap (λ (d : List ℕ). (lights_request s t.pcmd d ls).after) (task_data_lem bytes t good.start_max);
         }
 
     lights_walk_lem : TaskWalk s bytes t (λ ls. (lights_request s t.pcmd pdata ls).after) (lights_walk bytes t)

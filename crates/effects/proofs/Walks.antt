@@ -6,6 +6,7 @@ use Prim.Native.Nat.{ℕ, ◌+◌, ◌-◌, ◌≤◌, ◌<◌}
 use native.Mathlib.Omega.{arith}
 use lib.ListN.{length, take, drop}
 use lib.Seq.{length-take-le, drop-drop}
+use Rattle.std.proofs.Common.{Option, None, Some}
 use Rattle.dpa.specs.declared.frame.Frame.{Frame}
 use Rattle.dpa.specs.declared.settings.Settings.{Settings}
 use Rattle.dpa.specs.Lists.{Bytes, slice}
@@ -14,67 +15,56 @@ use Rattle.dpa.proofs.Lists.{slice_to_end}
 use Rattle.lights.specs.declared.lamp.Lamp.{Lamp}
 use Rattle.lights.specs.Lights.{changes_lamps}
 use Rattle.lights.proofs.RemainingLamps.{end_lamps}
-use Rattle.batch.specs.declared.entry.NextEntry.TheVariants.{Entry, Fault}
-use Rattle.batch.specs.Batch.{entry_head_size, at_end, next_entry, Request, request_of, Reading, reading, run_entries}
+use Rattle.batch.specs.Batch.{Entry, Fault, entry_head_size, at_end, next_entry, Request, request_of, Reading, run_entries, reading}
 use Rattle.batch.proofs.Entries.{entry_sized_at}
 use Rattle.batch.proofs.Lists.{reading_end, reading_entry, reading_fault}
 use Rattle.outcome.specs.Request.{hwpid_matches, header_request}
 use Rattle.outcome.specs.Seen.{Memories, Sized, peripheral_memories, peripheral_lamps, entry_memories, entry_lamps}
 use Rattle.outcome.proofs.Parts.{peripheral_keeps_sizes}
-use Rattle.effects.specs.declared.lamps.NextTask.{NextTask}
 use Rattle.effects.specs.declared.walk.Rest.{Rest}
 use Rattle.effects.specs.declared.walk.Rest.TheVariants.{Ended, Whole, Entries}
 use Rattle.effects.specs.declared.walk.Task.{Task}
 use Rattle.effects.specs.declared.walk.Walk.{Walk}
-use Rattle.effects.specs.Walk.{task_data, task_lamps, task_memories, whole_task, task_walk, WalkOk, rest_lamps, rest_memories, walk_lamps, walk_memories, EntryAt, whole_left, Follows, TaskAfter}
+use Rattle.effects.specs.Walk.{task_data, task_lamps, task_memories, whole_task, task_walk, WalkOk, rest_lamps, rest_memories, walk_lamps, walk_memories, EntryTask, EntryAt, whole_left, Follows, NothingFollows, TaskAfter}
 use Rattle.effects.proofs.Tasks.{TaskWalk, task_walk_lem}
-
-never : false ≡ true → ⊥
-never e = let z : ◌≡◌ {A = ℕ} 0 1 = cc in omega arith
 
 -- ---- the entry at a place, for each return of `entry_task`
 
-module _ (s : Settings) (bytes : List ℕ) (next : ℕ) (inside : next ≤ length bytes) where
+module _ (bytes : List ℕ) (next : ℕ) where
   -- the rest of the list, as the code reads it
   abbrev rest : List ℕ
   rest = slice bytes next (length bytes - next)
 
-  none_found : (x : NextTask) → x.found ≡ false → (reading (drop next bytes)).entries ≡ [] → EntryAt s bytes next x
-  none_found x f e = record { some = λ t. absurd (never (sym f ∙ t)); none = λ _. e }
-
   -- the closing zero ends a list
-  pub none_at_end : (x : NextTask) → x.found ≡ false → at_end rest ≡ true → EntryAt s bytes next x
-  none_at_end x f o = none_found x f (ap (λ (r : Reading). r.entries) (reading_end (drop next bytes) (ap at_end (sym (slice_to_end next bytes)) ∙ o)))
+  pub none_at_end : at_end rest ≡ true → (reading (drop next bytes)).entries ≡ []
+  none_at_end o = ap (λ (r : Reading). r.entries) (reading_end (drop next bytes) (ap at_end (sym (slice_to_end next bytes)) ∙ o))
 
   -- at a fault nothing more is read
-  pub none_at_fault : (x : NextTask) → x.found ≡ false → at_end rest ≡ false → {k a : ℕ} → next_entry rest ≡ Fault k a → EntryAt s bytes next x
-  none_at_fault x f o e =
+  pub none_at_fault : at_end rest ≡ false → {k a : ℕ} → Fault k a ≡ next_entry rest → (reading (drop next bytes)).entries ≡ []
+  none_at_fault o e =
       let same : rest ≡ drop next bytes = slice_to_end next bytes in
-      none_found x f (ap (λ (r : Reading). r.entries) (reading_fault (drop next bytes) (ap at_end (sym same) ∙ o) (ap next_entry (sym same) ∙ e)))
+      ap (λ (r : Reading). r.entries) (reading_fault (drop next bytes) (ap at_end (sym same) ∙ o) (ap next_entry (sym same) ∙ sym e))
 
-  module _ {l p c h : ℕ} (e : next_entry rest ≡ Entry l p c h) where
+  module _ (inside : next ≤ length bytes) {l p c h : ℕ} (e : Entry l p c h ≡ next_entry rest) where
     -- an entry lies in the bytes
-    pub entry_inside : (entry_head_size ≤ l) × (next + l ≤ length bytes)
-    entry_inside = entry_sized_at bytes next inside e
+    pub entry_inside : next + l ≤ length bytes
+    entry_inside = (entry_sized_at bytes next inside (sym e)).1
 
     -- it is the next task
-    pub entry_found : (a : Bool) → a ≡ hwpid_matches s h
-        → EntryAt s bytes next (record { found = true; task = record { pnum = p; pcmd = c; accepted = a; tested = false; start = next + entry_head_size; end = next + l; rest = Entries } })
-    entry_found a m =
-        let k = entry_inside in
+    pub entry_found : (s : Settings) (a : Bool) → a ≡ hwpid_matches s h
+        → EntryTask s bytes next (record { pnum = p; pcmd = c; accepted = a; tested = false; start = next + entry_head_size; end = next + l; rest = Entries })
+    entry_found s a m =
+        let k = entry_sized_at bytes next inside (sym e) in
         let d : (next + l) - (next + entry_head_size) ≡ l - entry_head_size = omega arith in
         record {
-          some = λ _. record {
-            ok = record { start_max = omega arith; end_max = k.1; valid = λ z _ _. absurd (never z) };
-            later = omega arith;
-            rest = refl;
-            hwpid = h;
-            accepts = m;
-            entries =
-                ap (λ (r : Reading). r.entries) (reading_entry (drop next bytes) (ap next_entry (sym (slice_to_end next bytes)) ∙ e))
-                ∙ rw (d, drop-drop, drop-drop);
-          };
-          none = λ z. absurd (never (sym z));
+          ok = record { start_max = omega arith; end_max = k.1; valid = λ z _ _. cc };
+          later = omega arith;
+          rest = refl;
+          hwpid = h;
+          accepts = m;
+          entries =
+              ap (λ (r : Reading). r.entries) (reading_entry (drop next bytes) (ap next_entry (sym (slice_to_end next bytes)) ∙ sym e))
+              ∙ rw (d, drop-drop, drop-drop);
         }
 
 -- ---- the task that follows, for each rest
@@ -89,72 +79,63 @@ first_run : {S : Type 0} (f : Request → S → S) {is js : List Request} (i : R
 unfolding run_entries
 first_run f i st e = sym (ap (λ (is : List Request). run_entries f is st) e)
 
-module _ (s : Settings) (i : Request) (w : Walk) (good : WalkOk i w) (x : NextTask) where
+module _ (s : Settings) (i : Request) (w : Walk) where
   abbrev pdata : List ℕ
   pdata = i.pdata
 
   -- nothing follows
-  pub after_ended : w.rest ≡ Ended → x.found ≡ false → TaskAfter s i w x
-  after_ended e f =
+  pub after_ended : w.rest ≡ Ended → NothingFollows s i w
+  after_ended e =
       record {
-        some = λ t. absurd (never (sym f ∙ t));
-        none_lamps = λ _ ls. ap (λ (r : Rest). rest_lamps r s i w.next ls) e;
-        none_memories = λ _ ms. ap (λ (r : Rest). rest_memories r s i w.next ms) e;
+        lamps = λ ls. ap (λ (r : Rest). rest_lamps r s i w.next ls) e;
+        memories = λ ms. ap (λ (r : Rest). rest_memories r s i w.next ms) e;
       }
 
   -- an entry, or none
-  pub after_entries : w.rest ≡ Entries → EntryAt s pdata w.next x → TaskAfter s i w x
+  pub after_entries : w.rest ≡ Entries → (x : Option Task) → EntryAt s pdata w.next x → TaskAfter s i w x
   unfolding task_lamps task_memories entry_lamps entry_memories
-  after_entries e entry =
+  after_entries e None none =
       record {
-        some = λ f. let n = entry.some f in
-            let t = x.task in
-            let request = request_of t.pnum t.pcmd n.hwpid (task_data pdata t) in
-            record {
-              ok = n.ok;
-              not_whole = λ z. apart (sym n.rest ∙ z);
-              fewer = λ at h k. fewer t.rest w.rest _ _ n.rest e (omega (arith, n.later));
-              lamps = λ ls.
-                  ap (λ (r : Rest). rest_lamps r s i t.end (task_lamps s pdata t ls)) n.rest
-                  ∙ ap (λ (b : Bool). rest_lamps Entries s i t.end (cond b (peripheral_lamps s t.pnum t.pcmd (task_data pdata t) ls) ls)) n.accepts
-                  ∙ first_run (entry_lamps s) request ls n.entries
-                  ∙ sym (ap (λ (r : Rest). rest_lamps r s i w.next ls) e);
-              memories = λ ms.
-                  ap (λ (r : Rest). rest_memories r s i t.end (task_memories pdata t ms)) n.rest
-                  ∙ ap (λ (b : Bool). rest_memories Entries s i t.end (cond b (peripheral_memories t.pnum t.pcmd (task_data pdata t) ms) ms)) n.accepts
-                  ∙ first_run (entry_memories s) request ms n.entries
-                  ∙ sym (ap (λ (r : Rest). rest_memories r s i w.next ms) e);
-            };
-        none_lamps = λ f ls. ap (λ (r : Rest). rest_lamps r s i w.next ls) e ∙ none_run (entry_lamps s) ls (entry.none f);
-        none_memories = λ f ms. ap (λ (r : Rest). rest_memories r s i w.next ms) e ∙ none_run (entry_memories s) ms (entry.none f);
+        lamps = λ ls. ap (λ (r : Rest). rest_lamps r s i w.next ls) e ∙ none_run (entry_lamps s) ls none;
+        memories = λ ms. ap (λ (r : Rest). rest_memories r s i w.next ms) e ∙ none_run (entry_memories s) ms none;
+      }
+  after_entries e (Some t) n =
+      let request = request_of t.pnum t.pcmd n.hwpid (task_data pdata t) in
+      record {
+        ok = n.ok;
+        not_whole = λ z. let same = sym n.rest ∙ z in cc;
+        fewer = λ at h k. fewer t.rest w.rest _ _ n.rest e (omega (arith, n.later));
+        lamps = λ ls.
+            ap (λ (r : Rest). rest_lamps r s i t.end (task_lamps s pdata t ls)) n.rest
+            ∙ ap (λ (b : Bool). rest_lamps Entries s i t.end (cond b (peripheral_lamps s t.pnum t.pcmd (task_data pdata t) ls) ls)) n.accepts
+            ∙ first_run (entry_lamps s) request ls n.entries
+            ∙ sym (ap (λ (r : Rest). rest_lamps r s i w.next ls) e);
+        memories = λ ms.
+            ap (λ (r : Rest). rest_memories r s i t.end (task_memories pdata t ms)) n.rest
+            ∙ ap (λ (b : Bool). rest_memories Entries s i t.end (cond b (peripheral_memories t.pnum t.pcmd (task_data pdata t) ms) ms)) n.accepts
+            ∙ first_run (entry_memories s) request ms n.entries
+            ∙ sym (ap (λ (r : Rest). rest_memories r s i w.next ms) e);
       }
     where
-      apart : Entries ≡ Whole → ⊥
-      apart z = let y : ◌≡◌ {A = ℕ} 0 1 = ap whole_left z in omega arith
-
       fewer : (q r : Rest) (c d : ℕ) → q ≡ Entries → r ≡ Entries → c < d → whole_left q + c < whole_left r + d
       fewer q r c d p e h = rw (ap whole_left p, ap whole_left e) (omega arith)
 
 -- the request of the frame
-pub after_whole : (s : Settings) (h : Frame) (d : List ℕ) (w : Walk) (good : WalkOk (header_request h d) w) → w.rest ≡ Whole → (x : NextTask) → x.found ≡ true
-    → x.task ≡ whole_task h (length d) → TaskAfter s (header_request h d) w x
+pub after_whole : (s : Settings) (h : Frame) (d : List ℕ) (w : Walk) (t : Task) → t ≡ whole_task h (length d) → WalkOk (header_request h d) w → w.rest ≡ Whole
+    → Follows s (header_request h d) w t
 unfolding task_lamps task_memories
-after_whole s h d w good e x f t =
+after_whole s h d w t q good e =
     let i = header_request h d in
     let known = good.whole e in
     let same : task_data d (whole_task h (length d)) ≡ d = slice_to_end 0 d in
-    let follows : Follows s i w (whole_task h (length d)) = record {
+    let whole : Follows s i w (whole_task h (length d)) = record {
       ok = record { start_max = omega arith; end_max = omega arith; valid = λ _ l c. ap (changes_lamps h.pcmd) same ∙ known.valid l c };
-      not_whole = λ z. let y : ◌≡◌ {A = ℕ} 0 1 = ap whole_left z in omega arith;
+      not_whole = λ z. cc;
       fewer = λ at _ k. rw (ap whole_left e) (omega (arith, known.at_start));
       lamps = λ ls. ap (λ (y : List ℕ). peripheral_lamps s h.pnum h.pcmd y ls) same ∙ sym (ap (λ (r : Rest). rest_lamps r s i w.next ls) e);
       memories = λ ms. ap (λ (y : List ℕ). peripheral_memories h.pnum h.pcmd y ms) same ∙ sym (ap (λ (r : Rest). rest_memories r s i w.next ms) e);
     } in
-    record {
-      some = λ _. subst (Follows s i w) (sym t) follows;
-      none_lamps = λ z. absurd (never (sym z ∙ f));
-      none_memories = λ z. absurd (never (sym z ∙ f));
-    }
+    subst (Follows s i w) (sym q) whole
 
 -- ---- the step over a task
 

@@ -1,6 +1,6 @@
 -- The walk over the effect of a request: the requests that it executes, what its rest does to the lamps and to the memories, and what the
 -- steps of the code leave.
-use Rattle.std.specs.Prelude.{ℕ, ◌+◌, ◌-◌, ◌≤◌, ◌<◌, ◌≡◌, List, [], ◌∷◌, true, false, cond, ◌&&◌, eqb, length, take, drop}
+use Rattle.std.specs.Prelude.{ℕ, ◌+◌, ◌-◌, ◌≤◌, ◌<◌, ◌≡◌, List, [], ◌∷◌, true, cond, ◌&&◌, eqb, length, take, drop, Option, None, Some}
 use Rattle.dpa.specs.declared.frame.Frame.{Frame}
 use Rattle.dpa.specs.declared.settings.Settings.{Settings}
 use Rattle.dpa.specs.Lists.{slice}
@@ -15,7 +15,6 @@ use Rattle.outcome.specs.declared.reply.Effect.{Effect}
 use Rattle.outcome.specs.declared.reply.Effect.TheVariants.{Nothing, Lamps, Alone, Batch, Selective}
 use Rattle.outcome.specs.Request.{hwpid_matches}
 use Rattle.outcome.specs.Seen.{Memories, peripheral_memories, peripheral_lamps, list_memories, list_lamps}
-use Rattle.effects.specs.declared.lamps.NextTask.{NextTask}
 use Rattle.effects.specs.declared.walk.Rest.{Rest}
 use Rattle.effects.specs.declared.walk.Rest.TheVariants.{Ended, Whole, Entries}
 use Rattle.effects.specs.declared.walk.Task.{Task}
@@ -112,10 +111,10 @@ pub record EntryTask (s : Settings) (bytes : List ℕ) (next : ℕ) (t : Task) :
   pub accepts : t.accepted ≡ hwpid_matches s hwpid
   pub entries : (reading (drop next bytes)).entries ≡ request_of t.pnum t.pcmd hwpid (task_data bytes t) ∷ (reading (drop t.end bytes)).entries
 
--- x is that entry, if there is one
-pub record EntryAt (s : Settings) (bytes : List ℕ) (next : ℕ) (x : NextTask) : Type 0 where
-  pub some : x.found ≡ true → EntryTask s bytes next x.task
-  pub none : x.found ≡ false → (reading (drop next bytes)).entries ≡ []
+-- that entry, if there is one
+abbrev pub EntryAt : Settings → List ℕ → ℕ → Option Task → Type 0
+EntryAt s bytes next None = (reading (drop next bytes)).entries ≡ []
+EntryAt s bytes next (Some t) = EntryTask s bytes next t
 
 -- how many whole requests are left: the measure of the loop falls with it, even if PData is empty
 abbrev pub whole_left : Rest → ℕ
@@ -131,8 +130,12 @@ pub record Follows (s : Settings) (i : Request) (w : Walk) (t : Task) : Type 0 w
   pub lamps : (ls : List Lamp) → rest_lamps t.rest s i t.end (task_lamps s i.pdata t ls) ≡ rest_lamps w.rest s i w.next ls
   pub memories : (ms : Memories) → rest_memories t.rest s i t.end (task_memories i.pdata t ms) ≡ rest_memories w.rest s i w.next ms
 
--- x is the task that follows, if there is one
-pub record TaskAfter (s : Settings) (i : Request) (w : Walk) (x : NextTask) : Type 0 where
-  pub some : x.found ≡ true → Follows s i w x.task
-  pub none_lamps : x.found ≡ false → (ls : List Lamp) → rest_lamps w.rest s i w.next ls ≡ ls
-  pub none_memories : x.found ≡ false → (ms : Memories) → rest_memories w.rest s i w.next ms ≡ ms
+-- nothing follows the walk w: what is left of it changes nothing
+pub record NothingFollows (s : Settings) (i : Request) (w : Walk) : Type 0 where
+  pub lamps : (ls : List Lamp) → rest_lamps w.rest s i w.next ls ≡ ls
+  pub memories : (ms : Memories) → rest_memories w.rest s i w.next ms ≡ ms
+
+-- the task that follows, if there is one
+abbrev pub TaskAfter : Settings → Request → Walk → Option Task → Type 0
+TaskAfter s i w None = NothingFollows s i w
+TaskAfter s i w (Some t) = Follows s i w t

@@ -1,19 +1,19 @@
 // The lamps and the memories after the effect of a request.
 ghost use Rattle.std.specs.Prelude.{◌≡◌};
 ghost use Rattle.node.specs.State.{SoundState};
-ghost use Rattle.outcome.specs.Request.{header_request};
 ghost use Rattle.outcome.specs.Effect.{after_effect, EffectKnown};
-ghost use Rattle.outcome.specs.Seen.{state_from_parts};
+ghost use Rattle.outcome.specs.Seen.{state_with, request_seen, SameLent};
 ghost use Rattle.effects.specs.Walk.{start_walk};
 
 use crate::lamps::change_lamps;
 use crate::walk::{Rest, Walk, walk_at};
-use dpa::frame::Frame;
 use dpa::node_set::NODE_SET_SIZE;
 use lights::lamp::{LAMPS, Lamp};
 use lights::walk::lamps_after;
 use node::record::ReadOnly;
+use outcome::memories::Memories;
 use outcome::reply::Effect;
+use outcome::request::Request;
 
 // The walk at the start of an effect.
 fn start_walk(effect: Effect) -> Walk
@@ -21,8 +21,7 @@ fn start_walk(effect: Effect) -> Walk
 {
     match effect {
         Effect::Nothing => walk_at(Rest::Ended, 0),
-        Effect::Lamps => walk_at(Rest::Whole, 0),
-        Effect::Alone => walk_at(Rest::Whole, 0),
+        Effect::Lamps | Effect::Alone => walk_at(Rest::Whole, 0),
         Effect::Batch => walk_at(Rest::Entries, 0),
         Effect::Selective => walk_at(Rest::Entries, NODE_SET_SIZE),
     }
@@ -34,22 +33,18 @@ pub fn apply(
     fixed: ReadOnly,
     lamps: [Lamp; LAMPS],
     effect: Effect,
-    header: Frame,
-    pdata: &[u8],
-    ram: &mut [u8],
-    eeprom: &mut [u8],
-    external: &mut [u8],
+    request: Request,
+    memories: &mut Memories,
 ) -> [Lamp; LAMPS]
-    requires { SoundState (state_from_parts fixed lamps ram.old eeprom.old external.old) × EffectKnown effect (header_request header pdata.now) }
-    ensures { state_from_parts fixed result ram.new eeprom.new external.new
-        ≡ after_effect effect (header_request header pdata.now)
-        (state_from_parts fixed lamps ram.old eeprom.old external.old) }
+    requires { SoundState (state_with fixed lamps memories.old) × EffectKnown effect (request_seen request) }
+    ensures state { state_with fixed result memories.new
+        ≡ after_effect effect (request_seen request.entry) (state_with fixed lamps memories.old) }
+    ensures lent { SameLent memories.old memories.new }
 {
     let settings = fixed.settings;
     // A request to the lights needs no walk over entries.
     if let Effect::Lamps = effect {
-        return lamps_after(settings, header.pcmd, pdata, lamps);
+        return lamps_after(settings, request.header.pcmd, request.pdata, lamps);
     }
-    let start = start_walk(effect);
-    change_lamps(settings, header, lamps, pdata, start, ram, eeprom, external)
+    change_lamps(settings, request, lamps, start_walk(effect), memories)
 }

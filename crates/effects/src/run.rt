@@ -1,81 +1,69 @@
 // Executes a request without an answer. A memory changes at once; a request to the lights returns the walk over its lamps.
-ghost use Rattle.std.specs.Prelude.{◌≡◌, true};
+ghost use Rattle.std.specs.Prelude.{◌≡◌};
+ghost use Rattle.dpa.specs.Lists.{Bytes};
 ghost use Rattle.dpa.specs.Pnum.{lights_pnum};
-ghost use Rattle.lights.specs.Lights.{changes_lamps};
-ghost use Rattle.outcome.specs.Seen.{memories, Sized};
-ghost use Rattle.effects.specs.Walk.{TaskOk, task_data, task_memories, lights_walk, task_walk};
+ghost use Rattle.outcome.specs.Seen.{memories_in, SameLent, Sized};
+ghost use Rattle.effects.specs.Walk.{TaskOk, task_memories, lights_walk, task_walk};
 
 use crate::walk::{Task, Walk, walk_at};
 use dpa::pnum;
-use lights::request::{LOWER, changes_lamps};
+use lights::apply::Command;
+use lights::request::changes_lamps;
 use lights::walk::walk_start;
 use memory::block::Memory;
+use memory::request::change;
+use outcome::memories::Memories;
 
-// Whether a request to the lights changes lamps. Power entries that the answer has tested are not tested again.
-fn changes(task: Task, bytes: &[u8]) -> bool
-    requires { TaskOk bytes.now task × (task.pnum ≡ lights_pnum) }
-    ensures { result ≡ changes_lamps task.pcmd (task_data bytes.now task) }
-{
-    if task.tested {
-        return task.pcmd <= LOWER;
-    }
-    let start = task.start;
-    let end = task.end;
-    changes_lamps(task.pcmd, &bytes[start..end])
-}
-
-// The walk of a request to the lights.
+// The walk of a request to the lights. Power entries that the answer has tested are not tested again.
+#[tactic(auto, using(crate::proofs::Tasks::tested_changes, crate::proofs::Tasks::task_data_lem), unfolding(crate::specs::Walk::lights_walk, lights::specs::Lights::command_read))]
 fn lights_walk(task: Task, bytes: &[u8]) -> Walk
     requires { TaskOk bytes.now task × (task.pnum ≡ lights_pnum) }
     ensures { result ≡ lights_walk bytes.now task }
 {
-    let rest = task.rest;
-    let end = task.end;
-    if !changes(task, bytes) {
-        return walk_at(rest, end);
+    let changes = if task.tested {
+        Command::try_from(task.pcmd).is_ok()
+    } else {
+        changes_lamps(task.pcmd, &bytes[task.start..task.end])
+    };
+    if !changes {
+        return walk_at(task.rest, task.end);
     }
     Walk {
-        rest,
-        next: end,
-        lamps: walk_start(task.pcmd, &bytes[..end], task.start),
+        rest: task.rest,
+        next: task.end,
+        lamps: walk_start(task.pcmd, &bytes[..task.end], task.start),
     }
 }
 
 // Executes a request, by its PNUM. Any PNUM other than those of the peripherals changes nothing.
-pub fn run_task(
-    task: Task,
-    bytes: &[u8],
-    ram: &mut [u8],
-    eeprom: &mut [u8],
-    external: &mut [u8],
-) -> Walk
-    requires { TaskOk bytes.now task × Sized (memories ram.old eeprom.old external.old) }
-    ensures { (result ≡ task_walk bytes.now task)
-        × (memories ram.new eeprom.new external.new
-        ≡ task_memories bytes.now task (memories ram.old eeprom.old external.old)) }
+#[tactic(auto, unfolding(crate::specs::Walk::task_walk, crate::specs::Walk::task_memories, outcome::specs::Seen::peripheral_memories))]
+pub fn run_task(task: Task, bytes: &[u8], memories: &mut Memories) -> Walk
+    requires { TaskOk bytes.now task × Sized (memories_in memories.old) }
+    ensures walk { result ≡ task_walk bytes.now task }
+    ensures memories { memories_in memories.new ≡ task_memories bytes.now task (memories_in memories.old) }
+    ensures lent { SameLent memories.old memories.new }
+    ensures bytes { Bytes bytes.now }
 {
-    let start = task.start;
-    let end = task.end;
-    let rest = task.rest;
-    let done = walk_at(rest, end);
+    let done = walk_at(task.rest, task.end);
     if !task.accepted {
         return done;
     }
-    if task.pnum == pnum::LIGHTS {
-        return lights_walk(task, bytes);
+    let pcmd = task.pcmd;
+    let pdata = &bytes[task.start..task.end];
+    match task.pnum {
+        pnum::LIGHTS => lights_walk(task, bytes),
+        pnum::EEPROM => {
+            change(Memory::Eeprom, memories.eeprom, pcmd, pdata);
+            done
+        }
+        pnum::EXTERNAL => {
+            change(Memory::External, memories.external, pcmd, pdata);
+            done
+        }
+        pnum::RAM => {
+            change(Memory::Ram, memories.ram, pcmd, pdata);
+            done
+        }
+        _ => done,
     }
-    let pdata = &bytes[start..end];
-    if task.pnum == pnum::EEPROM {
-        memory::request::change(Memory::Eeprom, eeprom, task.pcmd, pdata);
-        return done;
-    }
-    if task.pnum == pnum::EXTERNAL {
-        memory::request::change(Memory::External, external, task.pcmd, pdata);
-        return done;
-    }
-    if task.pnum == pnum::RAM {
-        memory::request::change(Memory::Ram, ram, task.pcmd, pdata);
-        return done;
-    }
-    done
 }

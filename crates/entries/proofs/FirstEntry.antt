@@ -1,21 +1,21 @@
 -- Laws of the first entry of a scene: its size, and the loop that finds it.
+use Rattle.std.specs.Prelude.{Some, None}
 use mathlib.Core.List.{List, [], ◌∷◌}
 use mathlib.Core.Path.{◌≡◌, refl, ap, sym, ◌∙◌}
-use mathlib.Core.Bool.{true, false, ◌&&◌, and-false}
-use Prim.Native.Nat.{ℕ, zero, suc, ◌+◌, ◌*◌, ◌-◌, ◌≤◌, ◌<◌}
+use mathlib.Core.Bool.{◌&&◌}
+use Prim.Native.Nat.{ℕ, zero, suc, ◌+◌, ◌-◌, ◌≤◌, ◌<◌}
 use native.Mathlib.Nat.{add_comm}
 use native.Mathlib.Numerals.{add-one}
 use native.Mathlib.Omega.{arith}
 use lib.ListN.{length, drop, get_or, take}
 use lib.Dec.{eqb, leb}
 use lib.Seq.{take-suc}
-use borrow.Author.Tests.{le-leb, lt-leb, leb-true}
-use Rattle.dpa.proofs.Bool.{by_test, by_cond, and_right}
-use Rattle.dpa.proofs.Lists.{slice_to_end}
+use borrow.Author.Tests.{leb-true}
+use Rattle.dpa.proofs.Bool.{by_test, and_right}
 use Rattle.book.specs.declared.step.Step.{Step}
 use Rattle.book.specs.Book.{step_length, step_of, steps_in}
 use Rattle.book.specs.Positions.{step_at}
-use Rattle.book.proofs.Records.{records_drop, records_end}
+use Rattle.book.proofs.Records.{records_end}
 use Rattle.book.proofs.Positions.{zero_step, steps_length, steps_at}
 use Rattle.step.specs.Step.{is_lamp}
 use Rattle.entries.specs.Group.{grow}
@@ -60,31 +60,7 @@ size_one (p ∷ ss) h =
     (λ e. rw e (by_test (eqb p.time 0) (λ t. rw t) (λ t. rw t)))
     (λ e. rw e)
 
--- no step is empty
-step_size_min : (k : ℕ) (s : Step) → 1 ≤ step_size k s
-unfolding step_size power_size
-step_size_min k s =
-    by_cond (λ (m : ℕ). 1 ≤ m) (is_lamp k) _ _
-    (λ _. by_cond (λ (m : ℕ). 1 ≤ m) (eqb s.time 0) _ _ (λ _. omega arith) (λ _. omega arith)) (λ _. omega arith)
-
--- ---- the returns of joined_size
 module _ (limit : ℕ) where
-  -- a step that exceeds the limit does not join
-  pub size_over_limit : (p x : Step) (k size : ℕ) → limit < step_size k x + size → 0 ≡ joined_size limit p x k size
-  unfolding joined_size
-  size_over_limit p x k size h = rw (lt-leb (step_size k x + size) limit h, and-false (follows p x))
-
-  -- a step that follows and stays within the limit joins
-  pub size_joins : (p x : Step) (k size : ℕ) → step_size k x + size ≤ limit → follows p x ≡ true
-      → step_size k x + size ≡ joined_size limit p x k size
-  unfolding joined_size
-  size_joins p x k size h f = rw (le-leb (step_size k x + size) limit h, f)
-
-  -- a step that does not follow does not join
-  pub size_not_follows : (p x : Step) (k size : ℕ) → follows p x ≡ false → 0 ≡ joined_size limit p x k size
-  unfolding joined_size
-  size_not_follows p x k size f = rw f
-
   -- ---- the loop of first_entry: the first k steps are in one entry, of `size` bytes so far
   abbrev pub FirstSteps : ℕ → List ℕ → ℕ → ℕ → Type 0
   FirstSteps n a k size =
@@ -103,43 +79,39 @@ module _ (limit : ℕ) where
       → entries_of limit (steps_in n a) ≡ take k (steps_in n a) ∷ entries_of limit (drop k (steps_in n a)) → FirstEntry limit (steps_in n a) k size
   entry_here n a k size i e = record { some = i.0; within = omega (arith, steps_length n a, i.1); size_max = i.2; size_is = i.3; first = e }
 
-  -- the scene ends with the entry
-  pub first_steps_end : (n : ℕ) (a : List ℕ) (k size : ℕ) → FirstSteps n a k size → n ≤ k → FirstEntry limit (steps_in n a) k size
+  -- the steps end with the entry
+  pub first_steps_end : (n : ℕ) (a : List ℕ) (k size : ℕ) → FirstSteps n a k size → n ≤ k → FirstEntry limit (steps_in n a) n size
   first_steps_end n a k size i h =
-      entry_here n a k size i (i.4 ∙ rw (records_end step_length step_of n a k h))
+      let e : k ≡ n = omega (arith, i.1) in
+      rw e at (entry_here n a k size i (i.4 ∙ rw (records_end step_length step_of n a k h)))
 
-  module _ (n : ℕ) (a : List ℕ) (k size kind r : ℕ) (i : FirstSteps n a k size) (below : k < n) (head : kind ≡ (step_at a 0).kind)
-      (given : r ≡ joined_size limit (step_at a (k - 1)) (step_at a k) kind size) where
-    joins_here : joins limit (take k (steps_in n a)) (get_or (steps_in n a) k zero_step)
-        ≡ (follows (step_at a (k - 1)) (step_at a k) && leb (step_size kind (step_at a k) + size) limit)
+  module _ (n : ℕ) (a : List ℕ) (k size : ℕ) (p x : Step) (kind : ℕ) (i : FirstSteps n a k size) (below : k < n) (last : p ≡ step_at a (k - 1))
+      (next : x ≡ step_at a k) (head : kind ≡ (step_at a 0).kind) where
+    joins_here : joins limit (take k (steps_in n a)) (get_or (steps_in n a) k zero_step) ≡ (follows p x && leb (step_size kind x + size) limit)
     joins_here =
         joins_at limit (steps_in n a) k i.0 (omega (arith, steps_length n a))
-        ∙ rw (steps_at n a (k - 1) (omega arith), steps_at n a k below, steps_at n a 0 (omega arith), head, i.3)
+        ∙ rw (steps_at n a (k - 1) (omega arith), steps_at n a k below, steps_at n a 0 (omega arith), head, i.3, last, next)
 
     -- a step that does not join ends the entry
-    pub first_steps_stop : r ≡ 0 → FirstEntry limit (steps_in n a) k size
+    pub first_steps_stop : joined_size limit p x kind size ≡ None → FirstEntry limit (steps_in n a) k size
     unfolding joined_size
-    first_steps_stop z =
-        by_test (follows (step_at a (k - 1)) (step_at a k) && leb (step_size kind (step_at a k) + size) limit)
-        (λ b. let q : r ≡ step_size kind (step_at a k) + size = given ∙ rw b in absurd (omega (arith, step_size_min kind (step_at a k))))
+    first_steps_stop none =
+        by_test (follows p x && leb (step_size kind x + size) limit)
+        (λ b. let q : Some (step_size kind x + size) ≡ None = rw b at none in cc)
         (λ b. entry_here n a k size i (i.4 ∙ take_not_fits (joins limit) zero_step (steps_in n a) k (omega (arith, steps_length n a)) (joins_here ∙ b)))
 
     -- a step that joins makes the entry longer
-    pub first_steps_next : (r ≡ 0 → ⊥) → FirstSteps n a (k + 1) r
+    pub first_steps_next : {r : ℕ} → joined_size limit p x kind size ≡ Some r → FirstSteps n a (k + 1) r
     unfolding joined_size
-    first_steps_next z =
+    first_steps_next {r} some =
         let ss = steps_in n a in
         let long : k < length ss = omega (arith, steps_length n a) in
-        by_test (follows (step_at a (k - 1)) (step_at a k) && leb (step_size kind (step_at a k) + size) limit)
-        (λ b. let q : r ≡ step_size kind (step_at a k) + size = given ∙ rw b in
-        let w : step_size kind (step_at a k) + size ≤ limit = leb-true _ _ (and_right (follows (step_at a (k - 1)) (step_at a k)) _ b) in
-        let e : length (group_data (take (suc k) ss)) ≡ step_size kind (step_at a k) + size
-        = size_more ss k i.0 long ∙ rw (steps_at n a k below, steps_at n a 0 (omega arith), head, i.3) in
+        by_test (follows p x && leb (step_size kind x + size) limit)
+        (λ b. let s : Some (step_size kind x + size) ≡ Some r = rw b at some in
+        let q : r ≡ step_size kind x + size = cc in
+        let w : step_size kind x + size ≤ limit = leb-true _ _ (and_right (follows p x) _ b) in
+        let e : length (group_data (take (suc k) ss)) ≡ step_size kind x + size
+        = size_more ss k i.0 long ∙ rw (steps_at n a k below, steps_at n a 0 (omega arith), head, i.3, next) in
         rw (add-one k)
         (omega arith, omega arith, omega arith, q ∙ sym e, i.4 ∙ take_fits (joins limit) zero_step ss k long (joins_here ∙ b)))
-        (λ b. absurd (z (given ∙ rw b)))
-
--- the first entry of the steps from step d on, found in their bytes
-pub first_entry_from : (limit n d : ℕ) (a : List ℕ) (k size : ℕ) → d ≤ n
-    → FirstEntry limit (steps_in (n - d) (take (length a - step_length * d) (drop (step_length * d) a))) k size → FirstEntry limit (drop d (steps_in n a)) k size
-first_entry_from limit n d a k size h f = rw (slice_to_end (step_length * d) a, records_drop step_length step_of n d a h) at f
+        (λ b. let q : None ≡ Some r = rw b at some in cc)

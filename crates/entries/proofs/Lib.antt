@@ -3,5 +3,6 @@ pub mod EntrySize
 pub mod EntryGroups
 pub mod FirstEntry
 pub mod EntryWritable
+pub mod Writers
 pub mod Writing
 pub mod Examples

@@ -7,6 +7,7 @@ use Rattle.memory.specs.Block.{memory_pnum, write_command}
 use Rattle.lights.specs.Lights.{bit7}
 use Rattle.batch.specs.Batch.{Request, request_of}
 use Rattle.book.specs.declared.step.Step.{Step}
+use Rattle.book.specs.Records.{bytes_of}
 use Rattle.step.specs.Step.{ram_kind, is_lamp}
 
 -- the bitmap of lamp steps: the bit of each target
@@ -17,11 +18,6 @@ bitmap_of (s ∷ ss) = 2 ^ s.target + bitmap_of ss
 -- a bitmap's four bytes, low byte first
 abbrev pub bitmap_bytes : ℕ → List ℕ
 bitmap_bytes m = low m ∷ low (high m) ∷ low (high (high m)) ∷ low (high (high (high m))) ∷ []
-
--- the bytes of each step, one step after another
-abbrev pub bytes_of : (Step → List ℕ) → List Step → List ℕ
-bytes_of f [] = []
-bytes_of f (s ∷ ss) = f s ++ bytes_of f ss
 
 -- the power byte of a lamp step, and its time byte if it has one
 unfoldable pub power_bytes : Step → List ℕ

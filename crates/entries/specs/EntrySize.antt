@@ -1,5 +1,5 @@
 -- The PData size of an entry, for any limit, and the first entry of a list of steps.
-use Rattle.std.specs.Prelude.{cond, ◌&&◌, List, ◌∷◌, ◌≡◌, ℕ, ◌+◌, ◌≤◌, leb, eqb, length, take, drop}
+use Rattle.std.specs.Prelude.{cond, ◌&&◌, Option, Some, None, List, ◌∷◌, ◌≡◌, ℕ, ◌+◌, ◌≤◌, leb, eqb, length, take, drop}
 use Rattle.dpa.specs.Frame.{pdata_max}
 use Rattle.lights.specs.Bits.{bitmap_size}
 use Rattle.book.specs.declared.step.Step.{Step}
@@ -26,9 +26,9 @@ first_size s = step_size s.kind s + cond (is_lamp s.kind) bitmap_size address_le
 abbrev pub one_step_max : ℕ
 one_step_max = bitmap_size + 2
 
--- the PData size of an entry of kind k and `size` bytes after x joins it, or 0 if x does not join; p is its last step
-unfoldable pub joined_size : (limit : ℕ) (p x : Step) (k size : ℕ) → ℕ
-joined_size limit p x k size = cond (follows p x && leb (step_size k x + size) limit) (step_size k x + size) 0
+-- the PData size of an entry of kind k and `size` bytes after x joins it, or none if x does not join; p is its last step
+unfoldable pub joined_size : (limit : ℕ) (p x : Step) (k size : ℕ) → Option ℕ
+joined_size limit p x k size = cond (follows p x && leb (step_size k x + size) limit) (Some (step_size k x + size)) None
 
 -- a usable limit: any single step fits into an entry, and the entry's PData fits into a frame
 pub record EntryLimit (limit : ℕ) : Type 0 where

@@ -3,3 +3,4 @@ pub mod Entry
 pub mod Join
 pub mod EntrySize
 pub mod Writing
+pub mod Writer

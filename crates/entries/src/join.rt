@@ -1,12 +1,10 @@
 // Joining steps into entries.
-ghost use Rattle.std.specs.Prelude.{◌≡◌, ◌+◌, ◌*◌, ◌-◌, ◌≤◌, ◌<◌, length, drop};
-ghost use Rattle.book.specs.Book.{steps_max, step_length, steps_in};
-ghost use Rattle.book.specs.Positions.{step_at};
+ghost use Rattle.std.specs.Prelude.{◌≡◌, ◌≤◌, ◌<◌};
+ghost use Rattle.book.specs.Steps.{steps_of};
 ghost use Rattle.entries.specs.Join.{follows};
 ghost use Rattle.entries.specs.EntrySize.{one_step_max, EntryLimit, step_size, first_size, joined_size, FirstEntry};
 
-use book::step::{STEP_LENGTH, Step, step_at};
-use dpa::number::wide;
+use book::step::{Step, Steps};
 use lights::power::BITMAP_SIZE;
 use step::kind::is_lamp;
 
@@ -14,21 +12,22 @@ use step::kind::is_lamp;
 const ADDRESS_LENGTH: usize = 1;
 
 // Whether a step may follow `before`, the last step of an entry.
+#[tactic(auto, unfolding(crate::specs::Join::follows))]
 fn may_follow(before: Step, step: Step) -> bool
     ensures { result ≡ follows before step }
 {
-    if step.kind == before.kind {
-        if is_lamp(before.kind) {
-            before.target < step.target
-        } else {
-            wide(step.target) == wide(before.target) + 1
-        }
+    if step.kind != before.kind {
+        return false;
+    }
+    if is_lamp(before.kind) {
+        before.target < step.target
     } else {
-        false
+        usize::from(step.target) == usize::from(before.target) + 1
     }
 }
 
 // The PData size of a step in an entry of this kind: a power byte, and a time byte if the step has a time; or a value byte.
+#[tactic(auto, unfolding(crate::specs::EntrySize::step_size, crate::specs::EntrySize::power_size))]
 fn step_size(kind: u8, step: Step) -> usize
     ensures { (result ≡ step_size kind step) × (result ≤ 2) }
 {
@@ -40,6 +39,7 @@ fn step_size(kind: u8, step: Step) -> usize
 }
 
 // The PData size of an entry of one step.
+#[tactic(auto, unfolding(crate::specs::EntrySize::first_size))]
 fn first_size(step: Step) -> usize
     ensures { (result ≡ first_size step) × (result ≤ one_step_max) }
 {
@@ -51,53 +51,50 @@ fn first_size(step: Step) -> usize
     }
 }
 
-// The PData size of an entry after the next step joins it, or 0 if that step does not join. The entry has `steps` steps and
-// `size` bytes.
-fn joined_size(body: &[u8], steps: usize, kind: u8, size: usize, limit: usize) -> usize
-    requires { (0 < steps) × (step_length * steps + step_length ≤ length body.now) × (size ≤ limit) × (steps ≤ steps_max) × EntryLimit limit }
-    ensures { result ≡ joined_size limit (step_at body.now (steps - 1)) (step_at body.now steps) kind size }
+// The PData size of an entry of this kind and `size` bytes after a step joins it, if that step joins. Its last step is `before`.
+#[tactic(auto, unfolding(crate::specs::EntrySize::joined_size))]
+fn joined_size(before: Step, step: Step, kind: u8, size: usize, limit: usize) -> Option<usize>
+    requires { (size ≤ limit) × EntryLimit limit }
+    ensures { result ≡ joined_size limit before step kind size }
 {
-    let before = step_at(body, steps - 1);
-    let step = step_at(body, steps);
     let joined = step_size(kind, step) + size;
     if limit < joined {
-        return 0;
+        return None;
     }
-    if may_follow(before, step) { joined } else { 0 }
+    if may_follow(before, step) {
+        Some(joined)
+    } else {
+        None
+    }
 }
 
-// The number of steps of an entry, and its PData size.
+// The number of steps of an entry, and its PData size: two bytes for each entry of a scene.
 #[derive(Clone, Copy)]
 pub struct EntrySpan {
-    pub steps: usize,
-    pub size: usize,
+    pub steps: u8,
+    pub size: u8,
 }
 
-// The first entry of a scene, with at most `limit` bytes of PData.
-pub fn first_entry(body: &[u8], count: usize, limit: usize) -> EntrySpan
-    requires { (step_length * count ≤ length body.now) × (0 < count) × (count ≤ steps_max) × EntryLimit limit }
-    ensures { FirstEntry limit (steps_in count body.now) result.steps result.size }
+// The first entry of steps, with at most `limit` bytes of PData. That there is a step is a `requires`, here and where it is written: a type
+// for it would repeat the methods of `Steps`.
+pub fn first_entry(steps: Steps, limit: usize) -> EntrySpan
+    requires { (0 < steps.count) × EntryLimit limit }
+    ensures { FirstEntry limit (steps_of steps.entry) result.steps result.size }
 {
-    let first = step_at(body, 0);
-    let kind = first.kind;
+    let first = steps.step(0);
     let mut size = first_size(first);
-    let mut steps: usize = 1;
-    while steps < count {
-        let joined = joined_size(body, steps, kind, size, limit);
-        if joined == 0 {
-            return EntrySpan { steps, size };
-        }
+    for i in 1..steps.count {
+        let before = steps.step(i - 1);
+        let Some(joined) = joined_size(before, steps.step(i), first.kind, size, limit) else {
+            return EntrySpan {
+                steps: i as u8,
+                size: size as u8,
+            };
+        };
         size = joined;
-        steps = steps + 1;
     }
-    EntrySpan { steps, size }
-}
-
-// The entry that starts at step `first`.
-pub fn entry_from(body: &[u8], count: usize, first: usize, limit: usize) -> EntrySpan
-    requires { (step_length * count ≤ length body.now) × (first < count) × (count ≤ steps_max) × EntryLimit limit }
-    ensures { FirstEntry limit (drop first (steps_in count body.now)) result.steps result.size }
-{
-    let start = STEP_LENGTH * first;
-    first_entry(&body[start..], count - first, limit)
+    EntrySpan {
+        steps: steps.count as u8,
+        size: size as u8,
+    }
 }

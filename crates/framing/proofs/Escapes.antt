@@ -1,38 +1,35 @@
 -- Laws of escaped bytes, of the loop that writes them, and of a framed message.
 use mathlib.Core.Path.{◌≡◌, refl, sym, ap, ◌∙◌}
-use mathlib.Core.Bool.{true, false}
 use mathlib.Core.List.{List, [], ◌∷◌, ◌++◌, append_assoc, append-nil}
 use Prim.Native.Nat.{ℕ, ◌+◌, ◌*◌, ◌≤◌, ◌<◌}
 use native.Mathlib.Omega.{arith}
 use native.Mathlib.Numerals.{add-one}
+use Rattle.std.proofs.lemmas.Bool.Decides.{nat_tests}
+use Rattle.std.specs.List.{sum_by}
+use Rattle.std.proofs.lemmas.List.Sums.{sum_by-cons}
 use lib.ListN.{length, get_or, take, drop, set, replicate, length-append, drop_of_length-le}
 use lib.Seq.{drop-cons, take-append_seam, get_or-append_seam, sets, length-sets}
 use Rattle.dpa.specs.Lists.{overwrite_front, fold}
-use Rattle.dpa.proofs.Bool.{by_cond}
 use Rattle.dpa.proofs.Lists.{sets_append, sets_front}
 use Rattle.crc.specs.CheckByte.{shift, shifts, crc_byte, check_byte}
-use Rattle.framing.specs.Framing.{flag, escape, flipped, reserved, escaped, escaped_all, with_check_byte, framed, LongestFramed}
-
--- a reserved byte is written as two bytes
-pub escaped_reserved : (b : ℕ) → reserved b ≡ true → escaped b ≡ escape ∷ flipped b ∷ []
-unfolding escaped
-escaped_reserved b e = rw e
-
--- any other byte as itself
-pub escaped_plain : (b : ℕ) → reserved b ≡ false → escaped b ≡ b ∷ []
-unfolding escaped
-escaped_plain b e = rw e
+use Rattle.framing.specs.Framing.{flag, escape, reserved, escaped, escaped_all, with_check_byte, framed, LongestFramed}
 
 -- a byte takes one or two bytes on the line
 pub escaped_size : (b : ℕ) → (1 ≤ length (escaped b)) × (length (escaped b) ≤ 2)
 unfolding escaped
-escaped_size b = by_cond (λ (xs : List ℕ). (1 ≤ length xs) × (length xs ≤ 2)) (reserved b) _ _ (λ e. (omega arith, omega arith)) (λ e. (omega arith, omega arith))
+escaped_size b = (grind (arith, nat_tests), grind (arith, nat_tests))
 
 -- and a message at most twice its bytes
 pub escaped_max : (m : List ℕ) → length (escaped_all m) ≤ 2 * length m
 unfolding escaped_all
 escaped_max [] = omega arith
 escaped_max (b ∷ bs) = omega (arith, length-append (escaped b) (escaped_all bs), escaped_size b, escaped_max bs)
+
+-- a message takes what its bytes take
+pub escaped_sum : (m : List ℕ) → sum_by (λ b. length (escaped b)) m ≡ length (escaped_all m)
+unfolding escaped_all
+escaped_sum [] = refl
+escaped_sum (b ∷ bs) = sum_by-cons (λ (x : ℕ). length (escaped x)) b bs ∙ ap (λ (n : ℕ). length (escaped b) + n) (escaped_sum bs) ∙ sym (length-append (escaped b) (escaped_all bs))
 
 -- a message of one byte
 pub escaped_one : (b : ℕ) → escaped_all (b ∷ []) ≡ escaped b
@@ -117,6 +114,10 @@ module _ (m : List ℕ) (c : ℕ) (e : c ≡ check_byte m) where
   -- its length
   pub framed_length : length (framed m) ≡ length (escaped_all m) + length (escaped c) + 2
   framed_length = omega (arith, ap length framed_parts, length-append (escaped_all m) (escaped c ++ (flag ∷ [])), length-append (escaped c) (flag ∷ []))
+
+  -- a buffer that has room for it has room for its parts
+  pub framed_room : (old : List ℕ) → length (framed m) ≤ length old → length (escaped_all m) + length (escaped c) + 2 ≤ length old
+  framed_room old h = omega (arith, framed_length)
 
   -- at most two bytes for each byte of the message and for the check byte, and the flags
   pub framed_max : length (framed m) ≤ 2 * length m + 4

@@ -18,38 +18,32 @@ pub fn flipped(byte: u8) -> u8
 }
 
 // Whether a byte of a message is written as two bytes.
+#[tactic(auto, unfolding(crate::specs::Framing::reserved))]
 fn reserved(byte: u8) -> bool
     ensures { result ≡ reserved byte }
 {
-    if byte == FLAG {
-        return true;
-    }
-    byte == ESCAPE
+    byte == FLAG || byte == ESCAPE
 }
 
 // How many bytes a byte of a message takes on the line.
+#[tactic(auto, unfolding(crate::specs::Framing::escaped))]
 pub fn escaped_length(byte: u8) -> usize
     ensures { (result ≡ length (escaped byte)) × (result ≤ 2) }
 {
-    if reserved(byte) {
-        return 2;
-    }
-    1
+    if reserved(byte) { 2 } else { 1 }
 }
 
 // How many bytes the bytes of a message take on the line.
+#[tactic(auto, using(crate::proofs::Escapes::escaped_sum), unfolding(crate::specs::Framing::escaped_all))]
 pub fn escaped_all_length(message: &[u8]) -> usize
     requires { length message.now ≤ longest }
     ensures { (result ≡ length (escaped_all message.now)) × (result ≤ longest + longest) }
 {
-    let mut n: usize = 0;
-    for i in 0..message.len() {
-        n += escaped_length(message[i]);
-    }
-    n
+    message.iter().map(|byte| escaped_length(*byte)).sum()
 }
 
 // Writes one byte of a message at a place and returns the place after it.
+#[tactic(auto, unfolding(crate::specs::Framing::escaped))]
 pub fn write_escaped(out: &mut [u8], at: usize, byte: u8) -> usize
     requires { at + length (escaped byte) ≤ length out.old }
     ensures { (result ≡ at + length (escaped byte)) × (out.new ≡ sets out.old at (escaped byte)) }
@@ -69,8 +63,8 @@ pub fn write_escaped_all(out: &mut [u8], at: usize, message: &[u8]) -> usize
     ensures { (result ≡ at + length (escaped_all message.now)) × (out.new ≡ sets out.old at (escaped_all message.now)) }
 {
     let mut next = at;
-    for i in 0..message.len() {
-        next = write_escaped(out, next, message[i]);
+    for byte in message {
+        next = write_escaped(out, next, *byte);
     }
     next
 }

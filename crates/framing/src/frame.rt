@@ -1,14 +1,13 @@
 // Framing: a message between two flags, with its check byte.
 ghost use Rattle.std.specs.Prelude.{◌≡◌, ◌≤◌, leb, length};
-ghost use Rattle.dpa.specs.Answer.{length_result};
+ghost use Rattle.dpa.specs.Answer.{length_answer, length_result};
 ghost use Rattle.dpa.specs.Lists.{overwrite_front};
 ghost use Rattle.crc.specs.CheckByte.{check_byte};
 ghost use Rattle.framing.specs.Framing.{longest, framed, LongestFramed, frame_of};
 
 use crate::escape::{FLAG, escaped_all_length, escaped_length, write_escaped, write_escaped_all};
 use crc::check_byte::check_byte;
-use dpa::answer::LengthAnswer;
-use dpa::refusal;
+use dpa::refusal::Refusal;
 
 // The shortest and the longest message, in bytes without the check byte.
 pub const SHORTEST: usize = 6;
@@ -20,6 +19,7 @@ pub const LONGEST_FRAMED: usize = 2 * LONGEST + 4;
 
 // Whether a framed message fits. LONGEST_FRAMED bytes are enough for any. Escapes are counted only if the room is not enough for every message
 // of this length.
+#[tactic(auto, using(crate::proofs::Escapes::framed_length, crate::proofs::Escapes::framed_max, crate::proofs::Escapes::longest_framed))]
 fn fits(message: &[u8], check: u8, room: usize) -> bool
     requires { (length message.now ≤ longest) × (check ≡ check_byte message.now) }
     ensures { (result ≡ leb (length (framed message.now)) room) × LongestFramed LONGEST_FRAMED }
@@ -31,6 +31,7 @@ fn fits(message: &[u8], check: u8, room: usize) -> bool
 }
 
 // Writes a framed message to the front of a buffer and returns its length.
+#[tactic(auto, using(crate::proofs::Escapes::framed_length, crate::proofs::Escapes::framed_written))]
 fn write_framed(message: &[u8], check: u8, out: &mut [u8]) -> usize
     requires { (check ≡ check_byte message.now) × (length (framed message.now) ≤ length out.old) }
     ensures { (result ≡ length (framed message.now)) × (out.new ≡ overwrite_front (framed message.now) out.old) }
@@ -42,26 +43,17 @@ fn write_framed(message: &[u8], check: u8, out: &mut [u8]) -> usize
     last + 1
 }
 
-fn length_answer(refusal: u8, length: usize) -> LengthAnswer
-    ensures { result ≡ record { refusal = refusal; length = length } }
-{
-    LengthAnswer { refusal, length }
-}
-
 // Frames a message into a buffer, whose later bytes stay. The room is tested with all escapes before anything is written.
-pub fn frame(message: &[u8], out: &mut [u8]) -> LengthAnswer
-    ensures { length_result result out.new ≡ frame_of message.now out.old }
+#[tactic(auto, unfolding(crate::specs::Framing::frame_of))]
+pub fn frame(message: &[u8], out: &mut [u8]) -> Result<usize, Refusal>
+    ensures { length_result (length_answer result) out.new ≡ frame_of message.now out.old }
 {
-    if message.len() < SHORTEST {
-        return length_answer(refusal::FRAME, 0);
-    }
-    if LONGEST < message.len() {
-        return length_answer(refusal::FRAME, 0);
+    if message.len() < SHORTEST || LONGEST < message.len() {
+        return Err(Refusal::Frame);
     }
     let check = check_byte(message);
     if !fits(message, check, out.len()) {
-        return length_answer(refusal::FRAMED, 0);
+        return Err(Refusal::Framed);
     }
-    let size = write_framed(message, check, out);
-    length_answer(refusal::NONE, size)
+    Ok(write_framed(message, check, out))
 }

@@ -7,7 +7,7 @@ use native.Mathlib.Omega.{arith}
 use lib.ListN.{length, drop, replicate}
 use lib.Seq.{take-append_seam}
 use lib.Dec.{eqb, ltb, leb}
-use borrow.Author.Tests.{eqb-true, eqb-false, eq-eqb, ne_eqb, ltb-false, le-ltb, le-leb, not-false}
+use borrow.Author.Tests.{eqb-true, eqb-false, ne_eqb, ltb-false, le-ltb, le-leb, not-false}
 use Rattle.dpa.specs.Frame.{longest_frame, longest_response, broadcast_nadr, frame_fits}
 use Rattle.dpa.specs.Settings.{node_address, address_ok}
 use Rattle.dpa.proofs.Bool.{and_right, both, by_cond, by_test, else_taken}
@@ -95,16 +95,6 @@ send_address bonds a e = first (eqb a broadcast_nadr) (node_address a) (bonded b
     first false true z e = refl
     first false false z e = e
 
--- a frame to all nodes can be sent
-pub sent_to_all : (bonds : List ℕ) (a : ℕ) → a ≡ broadcast_nadr → can_send bonds a ≡ true
-unfolding can_send
-sent_to_all bonds a e = rw (eq-eqb a broadcast_nadr e)
-
--- another one if its node is bonded
-pub sent_to_one : (bonds : List ℕ) (x a : ℕ) (b : Bool) → x ≡ a → (x ≡ broadcast_nadr → ⊥) → b ≡ bonded_node bonds x → b ≡ can_send bonds a
-unfolding can_send bonded_node
-sent_to_one bonds x a b e n c = rw (sym e, ne_eqb x broadcast_nadr n) c
-
 -- no refusal gives these facts
 pub send_facts : (g : Gateway) (r : Outgoing) (t : ℕ) → send_refusal g r.frame t ≡ 0 → Sendable g r t
 unfolding send_refusal
@@ -132,16 +122,6 @@ module _ (g : Gateway) (r : Outgoing) (t : ℕ) where
   unfolding send_request
   send_cases P refused f =
       by_cond P (eqb (send_refusal g r.frame t) 0) _ _ (λ e. f (send_facts g r t (eqb-true _ _ e))) (λ e. refused (send_refusal g r.frame t) (eqb-false _ _ e))
-
-  -- by its refusal k
-  pub send_refusal_answer : (k : ℕ) → k ≡ send_refusal g r.frame t → (k ≡ 0 → ⊥) → send_request g r t ≡ gateway_answer k g
-  unfolding send_request
-  send_refusal_answer k e n = rw (sym e, ne_eqb k 0 n)
-
-  -- without a refusal
-  pub send_answer_lem : send_refusal g r.frame t ≡ 0 → send_request g r t ≡ gateway_answer 0 (gateway_from g.bonds (with_request g.queue r t))
-  unfolding send_request
-  send_answer_lem e = rw e
 
   -- a refused `send` answers only its refusal and the gateway as it was
   pub send_refused : ((send_request g r t).refusal ≡ 0 → ⊥) → send_request g r t ≡ gateway_answer (send_request g r t).refusal g

@@ -1,7 +1,10 @@
 -- Document 02, change 6: the gateway record, its rule, and the calls. Each call gives the first refusal that applies, in the order written.
-use Rattle.std.specs.Prelude.{ℕ, List, [], Bool, true, false, cond, not, ◌&&◌, length, eqb, ltb}
+use Rattle.std.specs.Prelude.{ℕ, List, [], Bool, true, false, cond, not, ◌&&◌, length, eqb, ltb, Result, Ok, Err}
 use Rattle.dpa.specs.Frame.{longest_response, frame_fits}
 use Rattle.dpa.specs.Lists.{overwrite_front}
+use Rattle.dpa.specs.declared.refusal.Refusal.{Refusal}
+use Rattle.dpa.specs.Refusal.{refusal_number}
+use Rattle.bonds.specs.declared.addresses.Bonds.{Bonds}
 use Rattle.queue.specs.declared.record.SendQueue.{SendQueue}
 use Rattle.gateway.specs.declared.record.Gateway.{Gateway}
 use Rattle.gateway.specs.declared.record.BondAnswer.{BondAnswer}
@@ -39,6 +42,11 @@ bonds_answer g bonds = record { refusal = 0; count = bond_count bonds; gateway =
 abbrev pub bond_refused : ℕ → Gateway → BondAnswer
 bond_refused refusal g = record { refusal = refusal; count = 0; gateway = g }
 
+-- the answer for C of a call on the bonds, from its outcome: the bonds after it, or a refusal
+abbrev pub bond_answer_of : Gateway → Result Bonds Refusal → BondAnswer
+bond_answer_of g (Ok b) = bonds_answer g b.bytes
+bond_answer_of g (Err e) = bond_refused (refusal_number e) g
+
 -- an address is added (true) or removed (false): a broken record: 1; an address that no node can have, one that is bonded when it is to be
 -- added, or not bonded when it is to be removed: 12
 unfoldable pub change_of : Bool → Gateway → ℕ → BondAnswer
@@ -59,9 +67,19 @@ unbond_of g a = change_of false g a
 unfoldable pub clear_of : Gateway → BondAnswer
 clear_of g = cond (gateway_ok g) (bonds_answer g no_bonds) (bond_refused 1 g)
 
+-- the answer for C: a refused call counts no bonds
+abbrev pub count_answer_of : Result ℕ Refusal → CountAnswer
+count_answer_of (Ok n) = record { refusal = 0; count = n }
+count_answer_of (Err e) = record { refusal = refusal_number e; count = 0 }
+
 -- `bond_count`: a broken record: 1
 unfoldable pub bond_count_of : Gateway → CountAnswer
 bond_count_of g = cond (gateway_ok g) (record { refusal = 0; count = bond_count g.bonds }) (record { refusal = 1; count = 0 })
+
+-- the answer for C: a refused call has no bits
+abbrev pub bitmap_answer_of : Result (List ℕ) Refusal → BitmapAnswer
+bitmap_answer_of (Ok bits) = record { refusal = 0; bitmap = bits }
+bitmap_answer_of (Err e) = record { refusal = refusal_number e; bitmap = no_bonds }
 
 -- `bond_bitmap`: a broken record: 1
 unfoldable pub bond_bitmap_of : Gateway → BitmapAnswer

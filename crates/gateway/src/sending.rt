@@ -1,36 +1,20 @@
 // The calls on the send queue: a request is put into it, and released when the air is free.
 ghost use Rattle.std.specs.Prelude.{◌≡◌, true, List, ℕ, ◌≤◌, length};
 ghost use Rattle.dpa.specs.Frame.{header_size, longest_response};
+ghost use Rattle.dpa.specs.Refusal.{refusal_of};
 ghost use Rattle.bonds.specs.Bonds.{can_send};
 ghost use Rattle.queue.specs.Queue.{outgoing, nadr_of, time_max, due};
-ghost use Rattle.gateway.specs.Gateway.{gateway_from, gateway_ok, send_refusal, gateway_answer, send_request, release_refusal, release_result, not_released, release_effect, release_of};
+ghost use Rattle.gateway.specs.Gateway.{gateway_ok, send_refusal, send_request, release_refusal, release_result, not_released, release_effect, release_of};
 
-use crate::bonding::gateway_ok;
 use crate::record::{Gateway, GatewayAnswer, ReleaseAnswer};
-use bonds::addresses::can_change;
+use bonds::addresses::{BondChange, can_change};
 use dpa::frame::Frame;
-use dpa::number::wide;
-use dpa::refusal;
+use dpa::refusal::{NONE, Refusal};
 use queue::places::placed;
-use queue::record::SendQueue;
-use queue::rule::{STD_LP, clock_ok, due, is_full};
-use queue::updates::{confirm_waiting, oldest, with_request, with_time, without_oldest};
-
-fn gateway_answer(refusal: u8, gateway: Gateway) -> GatewayAnswer
-    ensures { result ≡ gateway_answer refusal gateway }
-{
-    GatewayAnswer { refusal, gateway }
-}
-
-// The gateway with another queue.
-fn with_queue(gateway: Gateway, queue: SendQueue) -> Gateway
-    ensures { result ≡ gateway_from gateway.bonds queue }
-{
-    let bonds = gateway.bonds;
-    Gateway { bonds, queue }
-}
+use queue::updates::confirm_waiting;
 
 // Returns whether a frame can be sent: to all nodes, or to a bonded one.
+#[tactic(auto, unfolding(bonds::specs::Bonds::can_send))]
 fn can_send(bonds: &[u8], frame: &[u8]) -> bool
     requires { header_size ≤ length frame.now }
     ensures { result ≡ can_send bonds.now (nadr_of frame.now) }
@@ -40,35 +24,32 @@ fn can_send(bonds: &[u8], frame: &[u8]) -> bool
         return true;
     }
     // A bond that could be removed.
-    can_change(false, bonds, header.nadr)
+    can_change(BondChange::Remove, bonds, header.nadr)
 }
 
-// Why a send is refused.
-#[tactic(auto, unfolding(crate::specs::Gateway::send_refusal))]
-fn send_refusal(gateway: Gateway, frame: &[u8], time: u64) -> u8
-    ensures { result ≡ send_refusal gateway frame.now time }
+// Tests whether a request can be put into the queue.
+#[tactic(auto, using(dpa::proofs::Headers::fits_sizes), unfolding(crate::specs::Gateway::send_refusal))]
+fn send_refusal(gateway: &Gateway, frame: &[u8], time: u64) -> Result<(), Refusal>
+    ensures { refusal_of result ≡ send_refusal gateway.now frame.now time }
 {
-    if !gateway_ok(gateway) {
-        return refusal::NODE;
-    }
+    let bonds = gateway.sound_bonds()?;
     if !Frame::fits(frame.len()) {
-        return refusal::FRAME;
+        return Err(Refusal::Frame);
     }
-    let bonds = gateway.bonds;
-    let queue = gateway.queue;
-    if !can_send(&bonds, frame) {
-        return refusal::ADDRESS;
+    if !can_send(&bonds.bytes, frame) {
+        return Err(Refusal::Address);
     }
-    if is_full(queue.count) {
-        return refusal::FULL;
+    if gateway.queue.is_full() {
+        return Err(Refusal::Full);
     }
-    if !clock_ok(queue.last, time) {
-        return refusal::TIME;
+    if !gateway.queue.clock_ok(time) {
+        return Err(Refusal::Time);
     }
-    refusal::NONE
+    Ok(())
 }
 
 // Puts a request into the queue.
+#[tactic(auto, using(queue::proofs::Changes::numbered), unfolding(crate::specs::Gateway::send_request))]
 pub fn send(
     gateway: Gateway,
     frame: &[u8],
@@ -79,31 +60,33 @@ pub fn send(
 ) -> GatewayAnswer
     ensures { result ≡ send_request gateway (outgoing frame.now hops response_hops delay) time }
 {
-    let refusal = send_refusal(gateway, frame, time);
-    if refusal != refusal::NONE {
-        return gateway_answer(refusal, gateway);
+    if let Err(refusal) = send_refusal(&gateway, frame, time) {
+        return GatewayAnswer {
+            refusal: u8::from(refusal),
+            gateway,
+        };
     }
     let place = placed(frame, hops, response_hops, delay);
-    let queue = gateway.queue;
-    let sent = with_request(queue, place, time);
-    gateway_answer(refusal::NONE, with_queue(gateway, sent))
+    let queue = gateway.queue.with_request(place, time);
+    GatewayAnswer {
+        refusal: NONE,
+        gateway: Gateway { queue, ..gateway },
+    }
 }
 
-// Why a release is refused.
-fn release_refusal(gateway: Gateway, time: u64, size: usize) -> u8
-    ensures { result ≡ release_refusal gateway time size }
+// Tests whether a release can be answered.
+#[tactic(auto, unfolding(crate::specs::Gateway::release_refusal))]
+fn release_refusal(gateway: &Gateway, time: u64, size: usize) -> Result<(), Refusal>
+    ensures { refusal_of result ≡ release_refusal gateway.now time size }
 {
-    if !gateway_ok(gateway) {
-        return refusal::NODE;
-    }
+    gateway.sound_bonds()?;
     if size < Frame::RESPONSE_LONGEST {
-        return refusal::RESPONSE;
+        return Err(Refusal::Response);
     }
-    let queue = gateway.queue;
-    if !clock_ok(queue.last, time) {
-        return refusal::TIME;
+    if !gateway.queue.clock_ok(time) {
+        return Err(Refusal::Time);
     }
-    refusal::NONE
+    Ok(())
 }
 
 // The answer of a release that releases nothing.
@@ -121,37 +104,38 @@ fn not_released(refusal: u8, gateway: Gateway) -> ReleaseAnswer
 }
 
 // Releases the oldest request and writes its confirmation.
+#[tactic(auto, using(queue::proofs::Changes::due_facts, crate::proofs::Calls::gateway_queue, crate::proofs::Calls::queue_rule))]
 fn release_oldest(gateway: Gateway, time: u64, out: &mut [u8]) -> ReleaseAnswer
     requires { (gateway_ok gateway ≡ true) × (due gateway.queue.count gateway.queue.next time ≡ true) × (time ≤ time_max) × (longest_response ≤ length out.old) }
     ensures { release_result result out.new ≡ release_effect gateway time out.old }
 {
-    let queue = gateway.queue;
-    let waiting = oldest(queue);
-    let length = confirm_waiting(queue.network == STD_LP, queue.dpa_value, waiting, out);
-    let after = without_oldest(queue, time);
-    let frame = waiting.frame;
+    let waiting = gateway.queue.oldest();
+    let network = gateway.queue.network_type();
+    let length = confirm_waiting(network, gateway.queue.dpa_value, waiting, out);
     ReleaseAnswer {
-        refusal: refusal::NONE,
+        refusal: NONE,
         released: true,
         length,
-        frame_length: wide(waiting.length),
-        frame,
-        gateway: with_queue(gateway, after),
+        frame_length: usize::from(waiting.length),
+        frame: waiting.frame,
+        gateway: Gateway {
+            queue: gateway.queue.without_oldest(time),
+            ..gateway
+        },
     }
 }
 
 // Releases the oldest request if one waits and it is not too early; otherwise only records the time.
+#[tactic(auto, using(queue::proofs::Changes::numbered, queue::proofs::Changes::time_facts, crate::proofs::Calls::release_facts), unfolding(crate::specs::Gateway::release_of, crate::specs::Gateway::release_effect))]
 pub fn release(gateway: Gateway, time: u64, out: &mut [u8]) -> ReleaseAnswer
     ensures { release_result result out.new ≡ release_of gateway time out.old }
 {
-    let refusal = release_refusal(gateway, time, out.len());
-    if refusal != refusal::NONE {
-        return not_released(refusal, gateway);
+    if let Err(refusal) = release_refusal(&gateway, time, out.len()) {
+        return not_released(u8::from(refusal), gateway);
     }
-    let queue = gateway.queue;
-    if !due(queue.count, queue.next, time) {
-        let waits = with_time(queue, time);
-        return not_released(refusal::NONE, with_queue(gateway, waits));
+    if !gateway.queue.is_due(time) {
+        let queue = gateway.queue.with_time(time);
+        return not_released(NONE, Gateway { queue, ..gateway });
     }
     release_oldest(gateway, time, out)
 }

@@ -41,14 +41,14 @@ pub extern "C" fn grelfint_clear_bonds(gateway: Gateway) -> BondAnswer
 pub extern "C" fn grelfint_bond_count(gateway: Gateway) -> CountAnswer
     ensures { result ≡ bond_count_of gateway }
 {
-    bond_count(gateway)
+    bond_count(gateway).into()
 }
 
 #[unsafe(no_mangle)]
 pub extern "C" fn grelfint_bond_bitmap(gateway: Gateway) -> BitmapAnswer
     ensures { result ≡ bond_bitmap_of gateway }
 {
-    bond_bitmap(gateway)
+    bond_bitmap(gateway).into()
 }
 
 #[unsafe(no_mangle)]

@@ -5,6 +5,7 @@ ghost use Rattle.node.specs.State.{state};
 ghost use Rattle.outcome.specs.Request.{handle_request};
 ghost use Rattle.outcome.specs.Seen.{call_result};
 
+use dpa::refusal::status_of;
 use handler::request::handle_request;
 use memory::view::view_status;
 use node::record::Node;
@@ -35,5 +36,5 @@ pub extern "C" fn grelfint_view_status(
 ) -> u8
     ensures { result ≡ view_status eeprom.now external.now pnum start count }
 {
-    view_status(eeprom, external, pnum, start, count)
+    status_of(view_status(eeprom, external, pnum, start, count))
 }

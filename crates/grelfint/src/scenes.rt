@@ -18,7 +18,7 @@ pub extern "C" fn grelfint_compile(
 ) -> CompileAnswer
     ensures { compile_result result out.new ≡ compile_for book.now scene address hwpid out.old }
 {
-    compile(book, scene, address, hwpid, out)
+    compile(book, scene, address, hwpid, out).into()
 }
 
 #[unsafe(no_mangle)]
@@ -30,7 +30,7 @@ pub extern "C" fn grelfint_compile_default(
 ) -> CompileAnswer
     ensures { compile_result result out.new ≡ compile_for book.now scene address any_hwpid out.old }
 {
-    compile_default(book, scene, address, out)
+    compile_default(book, scene, address, out).into()
 }
 
 #[unsafe(no_mangle)]
@@ -43,7 +43,7 @@ pub extern "C" fn grelfint_compile_selected(
 ) -> CompileAnswer
     ensures { compile_result result out.new ≡ compile_selected book.now scene nodes.bits hwpid out.old }
 {
-    compile_selected(book, scene, nodes, hwpid, out)
+    compile_selected(book, scene, nodes, hwpid, out).into()
 }
 
 #[unsafe(no_mangle)]
@@ -55,5 +55,5 @@ pub extern "C" fn grelfint_compile_selected_default(
 ) -> CompileAnswer
     ensures { compile_result result out.new ≡ compile_selected book.now scene nodes.bits any_hwpid out.old }
 {
-    compile_selected_default(book, scene, nodes, out)
+    compile_selected_default(book, scene, nodes, out).into()
 }

@@ -26,5 +26,5 @@ pub extern "C" fn grelfint_uart_receive(receiver: Receiver, bytes: &[u8]) -> Rec
 pub extern "C" fn grelfint_uart_frame(frame: &[u8], out: &mut [u8]) -> LengthAnswer
     ensures { length_result result out.new ≡ frame_of frame.now out.old }
 {
-    framing::frame::frame(frame, out)
+    framing::frame::frame(frame, out).into()
 }

@@ -6,7 +6,7 @@ ghost use Rattle.timing.specs.Slot.{network_of, timeslot_of, send_of};
 
 use dpa::answer::LengthAnswer;
 use timing::confirm::confirm;
-use timing::slot::{SendAnswer, SlotAnswer, earliest_send, network_of, timeslot};
+use timing::slot::{SendAnswer, SlotAnswer, earliest_send, timeslot};
 
 #[unsafe(no_mangle)]
 pub extern "C" fn grelfint_confirm(
@@ -19,14 +19,14 @@ pub extern "C" fn grelfint_confirm(
 ) -> LengthAnswer
     ensures { length_result result out.new ≡ confirm_of frame.now dpa_value hops response_hops (network_of lp) out.old }
 {
-    confirm(frame, dpa_value, hops, response_hops, network_of(lp), out)
+    confirm(frame, dpa_value, hops, response_hops, lp.into(), out).into()
 }
 
 #[unsafe(no_mangle)]
 pub extern "C" fn grelfint_timeslot(pdata_length: usize, lp: bool) -> SlotAnswer
     ensures { result ≡ timeslot_of pdata_length (network_of lp) }
 {
-    timeslot(pdata_length, network_of(lp))
+    timeslot(pdata_length, lp.into()).into()
 }
 
 #[unsafe(no_mangle)]
@@ -47,7 +47,8 @@ pub extern "C" fn grelfint_earliest_send(
         delay,
         response_hops,
         response_length,
-        network_of(lp),
+        lp.into(),
         broadcast,
     )
+    .into()
 }

@@ -48,6 +48,12 @@ unfolding bits
 bits_length zero n = refl
 bits_length (suc k) n = ap suc (bits_length k (n / 2))
 
+-- no bit of 0 is 1
+pub count_none : (k : ℕ) → count (bits k 0) ≡ 0
+unfolding bits
+count_none zero = refl
+count_none (suc k) = count_none k
+
 -- no more ones than bits
 pub count_length : (bs : List ℕ) → count bs ≤ length bs
 count_length [] = zero-le

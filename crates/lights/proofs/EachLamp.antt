@@ -13,13 +13,13 @@ use Rattle.lights.specs.Bits.{count}
 use Rattle.lights.specs.Lamp.{off, actual_level}
 use Rattle.lights.specs.Lights.{lamp_after, lamps_after, levels_before}
 use Rattle.lights.proofs.Bits.{is_set}
-use Rattle.lights.proofs.PowerEntries.{zero_change}
+use Rattle.lights.proofs.PowerEntries.{zero_entry}
 use Rattle.lights.specs.declared.apply.Command.{Command}
 use Rattle.lights.specs.declared.lamp.Lamp.{Lamp}
-use Rattle.lights.specs.declared.power.LampChange.{LampChange}
+use Rattle.lights.specs.declared.power.PowerEntry.{PowerEntry}
 
 -- a lamp after its change
-abbrev pub lamp_after_entry : Command → Lamp → LampChange → Lamp
+abbrev pub lamp_after_entry : Command → Lamp → PowerEntry → Lamp
 lamp_after_entry c l e = lamp_after c l e.power e.seconds
 
 ltb_less : (i n : ℕ) → ltb i (n - 1) ≡ ltb (suc i) n
@@ -30,32 +30,32 @@ ltb_less i n = go (ltb (suc i) n) refl
     go false e = le-ltb i (n - 1) (omega (arith, ltb-false (suc i) n e))
 
 -- a selected, implemented lamp takes the change whose index is the number of selected lamps below it; any other lamp is unchanged
-pub lamps_after_at : (c : Command) (n : ℕ) (bs : List ℕ) (es : List LampChange) (ls : List Lamp) (k : ℕ) → length bs ≤ length ls → count bs ≤ length es
+pub lamps_after_at : (c : Command) (n : ℕ) (bs : List ℕ) (es : List PowerEntry) (ls : List Lamp) (k : ℕ) → length bs ≤ length ls → count bs ≤ length es
     → get_or (lamps_after c n bs es ls) k off
-    ≡ cond (is_set (get_or bs k 0) && ltb k n) (lamp_after_entry c (get_or ls k off) (get_or es (count (take k bs)) zero_change)) (get_or ls k off)
+    ≡ cond (is_set (get_or bs k 0) && ltb k n) (lamp_after_entry c (get_or ls k off) (get_or es (count (take k bs)) zero_entry)) (get_or ls k off)
 unfolding lamps_after
 lamps_after_at c n [] es ls k h q = refl
 lamps_after_at c n (b ∷ bs) es [] k h q = absurd (omega arith)
 lamps_after_at c n (zero ∷ bs) es (l ∷ ls) zero h q = refl
 lamps_after_at c n (zero ∷ bs) es (l ∷ ls) (suc k) h q =
     lamps_after_at c (n - 1) bs es ls k (omega arith) q
-    ∙ ap (λ (t : Bool). cond (is_set (get_or bs k 0) && t) (lamp_after_entry c (get_or ls k off) (get_or es (count (take k bs)) zero_change)) (get_or ls k off)) (ltb_less k n)
+    ∙ ap (λ (t : Bool). cond (is_set (get_or bs k 0) && t) (lamp_after_entry c (get_or ls k off) (get_or es (count (take k bs)) zero_entry)) (get_or ls k off)) (ltb_less k n)
 lamps_after_at c n (suc b ∷ bs) [] (l ∷ ls) k h q = absurd (omega arith)
 lamps_after_at c n (suc b ∷ bs) (e ∷ es) (l ∷ ls) zero h q = refl
 lamps_after_at c n (suc b ∷ bs) (e ∷ es) (l ∷ ls) (suc k) h q =
     lamps_after_at c (n - 1) bs es ls k (omega arith) (omega arith)
-    ∙ ap (λ (t : Bool). cond (is_set (get_or bs k 0) && t) (lamp_after_entry c (get_or ls k off) (get_or es (count (take k bs)) zero_change)) (get_or ls k off)) (ltb_less k n)
+    ∙ ap (λ (t : Bool). cond (is_set (get_or bs k 0) && t) (lamp_after_entry c (get_or ls k off) (get_or es (count (take k bs)) zero_entry)) (get_or ls k off)) (ltb_less k n)
 
 -- an unimplemented lamp is unchanged
-pub lamp_unimplemented : (c : Command) (n : ℕ) (bs : List ℕ) (es : List LampChange) (ls : List Lamp) (k : ℕ) → length bs ≤ length ls → count bs ≤ length es → n ≤ k
+pub lamp_unimplemented : (c : Command) (n : ℕ) (bs : List ℕ) (es : List PowerEntry) (ls : List Lamp) (k : ℕ) → length bs ≤ length ls → count bs ≤ length es → n ≤ k
     → get_or (lamps_after c n bs es ls) k off ≡ get_or ls k off
 lamp_unimplemented c n bs es ls k h q l =
     lamps_after_at c n bs es ls k h q
-    ∙ ap (λ (t : Bool). cond t (lamp_after_entry c (get_or ls k off) (get_or es (count (take k bs)) zero_change)) (get_or ls k off))
+    ∙ ap (λ (t : Bool). cond t (lamp_after_entry c (get_or ls k off) (get_or es (count (take k bs)) zero_entry)) (get_or ls k off))
     (and_right_false (is_set (get_or bs k 0)) (ltb k n) (le-ltb k n l))
 
 -- the number of lamps is unchanged
-pub lamps_length : (c : Command) (n : ℕ) (bs : List ℕ) (es : List LampChange) (ls : List Lamp) → length (lamps_after c n bs es ls) ≡ length ls
+pub lamps_length : (c : Command) (n : ℕ) (bs : List ℕ) (es : List PowerEntry) (ls : List Lamp) → length (lamps_after c n bs es ls) ≡ length ls
 unfolding lamps_after
 lamps_length c n [] es ls = refl
 lamps_length c n (b ∷ bs) es [] = refl

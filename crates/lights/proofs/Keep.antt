@@ -7,30 +7,30 @@ use lib.Dec.{eqb}
 use borrow.Author.Tests.{eq-eqb, ne_eqb}
 use Rattle.dpa.proofs.Bool.{by_cond}
 use Rattle.lights.specs.Lamp.{changed}
-use Rattle.lights.specs.Lights.{keep_power, power_ok, time_ok, seconds_of, change, first_power_entry, kept, lamp_after}
+use Rattle.lights.specs.Lights.{keep_power, power_ok, time_ok, seconds_of, power_entry, first_power_entry, kept, lamp_after}
 use Rattle.lights.specs.declared.apply.Command.{Command}
 use Rattle.lights.specs.declared.lamp.Lamp.{Lamp}
-use Rattle.lights.specs.declared.power.PowerEntry.TheVariants.{Valid, Invalid}
+use Rattle.std.specs.Prelude.{Some, None}
 
 -- ---- its bytes
 
 -- 7F hex is keep without a time
-pub keep_alone : (xs : List ℕ) → first_power_entry (0x7F ∷ xs) ≡ Valid (change keep_power 0) 1
+pub keep_alone : (xs : List ℕ) → first_power_entry (0x7F ∷ xs) ≡ Some (power_entry keep_power 0 1)
 unfolding power_ok
 keep_alone xs = refl
 
 -- FF hex is keep with the time that follows
-pub keep_timed : (t : ℕ) (xs : List ℕ) → time_ok t ≡ true → first_power_entry (0xFF ∷ t ∷ xs) ≡ Valid (change keep_power (seconds_of t)) 2
+pub keep_timed : (t : ℕ) (xs : List ℕ) → time_ok t ≡ true → first_power_entry (0xFF ∷ t ∷ xs) ≡ Some (power_entry keep_power (seconds_of t) 2)
 unfolding power_ok
 keep_timed t xs k = rw k
 
 -- that time has to be valid
-pub keep_bad_time : (t : ℕ) (xs : List ℕ) → time_ok t ≡ false → first_power_entry (0xFF ∷ t ∷ xs) ≡ Invalid
+pub keep_bad_time : (t : ℕ) (xs : List ℕ) → time_ok t ≡ false → first_power_entry (0xFF ∷ t ∷ xs) ≡ None
 unfolding power_ok
 keep_bad_time t xs k = rw k
 
 -- and has to be there
-pub keep_no_time : first_power_entry (0xFF ∷ []) ≡ Invalid
+pub keep_no_time : first_power_entry (0xFF ∷ []) ≡ None
 unfolding power_ok
 keep_no_time = refl
 

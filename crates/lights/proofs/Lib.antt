@@ -3,6 +3,7 @@ pub mod Bits
 pub mod Selected
 pub mod PowerEntries
 pub mod WellFormed
+pub mod Commands
 pub mod Remaining
 pub mod Replies
 pub mod RemainingLamps
@@ -13,3 +14,5 @@ pub mod ValidChanges
 pub mod Keep
 pub mod Requests
 pub mod Examples
+pub mod Rules
+pub mod Powers

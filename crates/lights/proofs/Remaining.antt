@@ -17,7 +17,7 @@ use Rattle.lights.specs.Remaining.{lamp_changed}
 use Rattle.lights.proofs.Bits.{bits_cons, by_lowest}
 use Rattle.lights.specs.declared.apply.Command.{Command}
 use Rattle.lights.specs.declared.lamp.Lamp.{Lamp}
-use Rattle.lights.specs.declared.power.LampChange.{LampChange}
+use Rattle.lights.specs.declared.power.PowerEntry.{PowerEntry}
 
 -- lamp i + 1 of n is lamp i of the n - 1 after the first
 ltb_later : (i n : ℕ) → ltb (suc i) n ≡ ltb i (n - 1)
@@ -32,14 +32,14 @@ module _ (c : Command) where
   unfolding lamp_changed
   changed_later n i power seconds x ls = rw (ltb_later i n) (by_test (ltb i (n - 1)) (λ t. rw t) (λ f. rw f))
 
-  lamps_odd : (k m n : ℕ) (e : LampChange) (es : List LampChange) (ls : List Lamp) → m % 2 ≡ 1 → length ls ≡ suc k
+  lamps_odd : (k m n : ℕ) (e : PowerEntry) (es : List PowerEntry) (ls : List Lamp) → m % 2 ≡ 1 → length ls ≡ suc k
       → lamps_after c n (bits (suc k) m) (e ∷ es) ls ≡ lamps_after c n (bits (suc k) (m - 1)) es (lamp_changed c n 0 e.power e.seconds ls)
   unfolding lamps_after lamp_changed
   lamps_odd k m n e es [] z l = absurd (omega arith)
   lamps_odd k m n e es (x ∷ ls) z l =
       rw (bits_cons k m 1 (m / 2) z refl, bits_cons k (m - 1) 0 (m / 2) (omega arith) (omega arith)) (by_test (ltb 0 n) (λ t. rw t) (λ f. rw f))
 
-  lamps_even : (k m i r n : ℕ) (e : LampChange) (es : List LampChange) (ls : List Lamp) → m % 2 ≡ 0 → length ls ≡ suc k
+  lamps_even : (k m i r n : ℕ) (e : PowerEntry) (es : List PowerEntry) (ls : List Lamp) → m % 2 ≡ 0 → length ls ≡ suc k
       → ((xs : List Lamp) → length xs ≡ k
       → lamps_after c (n - 1) (bits k (m / 2)) (e ∷ es) xs ≡ lamps_after c (n - 1) (bits k r) es (lamp_changed c (n - 1) i e.power e.seconds xs))
       → lamps_after c n (bits (suc k) m) (e ∷ es) ls ≡ lamps_after c n (bits (suc k) (r * 2)) es (lamp_changed c n (suc i) e.power e.seconds ls)
@@ -50,18 +50,18 @@ module _ (c : Command) where
       (ap (λ (xs : List Lamp). x ∷ xs) (p ls (omega arith)))
 
   -- the lowest lamp is changed, then the others
-  pub lamps_lowest : (k m : ℕ) → (m ≡ 0 → ⊥) → m < 2 ^ k → (n : ℕ) (e : LampChange) (es : List LampChange) (ls : List Lamp) → length ls ≡ k
+  pub lamps_lowest : (k m : ℕ) → (m ≡ 0 → ⊥) → m < 2 ^ k → (n : ℕ) (e : PowerEntry) (es : List PowerEntry) (ls : List Lamp) → length ls ≡ k
       → lamps_after c n (bits k m) (e ∷ es) ls
       ≡ lamps_after c n (bits k (m - 2 ^ count_trailing_zeros k m)) es (lamp_changed c n (count_trailing_zeros k m) e.power e.seconds ls)
   lamps_lowest =
       by_lowest
-      (λ (k m i r : ℕ). (n : ℕ) (e : LampChange) (es : List LampChange) (ls : List Lamp) → length ls ≡ k
+      (λ (k m i r : ℕ). (n : ℕ) (e : PowerEntry) (es : List PowerEntry) (ls : List Lamp) → length ls ≡ k
       → lamps_after c n (bits k m) (e ∷ es) ls ≡ lamps_after c n (bits k r) es (lamp_changed c n i e.power e.seconds ls))
       (λ k m z n e es ls l. lamps_odd k m n e es ls z l)
       (λ k m i r some z p n e es ls l. lamps_even k m i r n e es ls z l (p (n - 1) e es))
 
   -- no lamp remains
-  pub lamps_none : (k n : ℕ) (es : List LampChange) (ls : List Lamp) → lamps_after c n (bits k 0) es ls ≡ ls
+  pub lamps_none : (k n : ℕ) (es : List PowerEntry) (ls : List Lamp) → lamps_after c n (bits k 0) es ls ≡ ls
   unfolding lamps_after bits
   lamps_none zero n es ls = refl
   lamps_none (suc k) n es [] = refl

@@ -14,7 +14,7 @@ use Rattle.dpa.specs.Reply.{Reply}
 use Rattle.dpa.proofs.Bytes.{bytes_drop}
 use Rattle.lights.specs.Bits.{bitmap_size, bits, count, lowest_lamp, without_lowest}
 use Rattle.lights.specs.Lamp.{off}
-use Rattle.lights.specs.Lights.{PowerEntries, change, first_power_entry, is_valid, prepend, power_entries, are_valid, changes_of, lamp_after, lamps_after, lights_request, changes_lamps, command_of}
+use Rattle.lights.specs.Lights.{PowerEntries, first_power_entry, is_valid, prepend, power_entries, are_valid, changes_of, lamp_after, lamps_after, lights_request, changes_lamps, command_of}
 use Rattle.lights.specs.Remaining.{remaining_entries, remaining_lamps, Remaining, walk_end, walk_start, lamp_changed, LampStep}
 use Rattle.lights.proofs.Bits.{mask_max, bits_mask, lowest_inside, lowest_less, lowest_counts}
 use Rattle.lights.proofs.PowerEntries.{first_valid, first_size_lem, valid_prepend, changes_prepend}
@@ -23,8 +23,8 @@ use Rattle.lights.proofs.Replies.{change_applied, known_pcmd}
 use Rattle.lights.proofs.Remaining.{lamps_lowest, lamps_none}
 use Rattle.lights.specs.declared.apply.Command.{Command}
 use Rattle.lights.specs.declared.lamp.Lamp.{Lamp}
-use Rattle.lights.specs.declared.power.LampChange.{LampChange}
-use Rattle.lights.specs.declared.power.PowerEntry.TheVariants.{Valid}
+use Rattle.lights.specs.declared.power.PowerEntry.{PowerEntry}
+use Rattle.std.specs.Prelude.{Some}
 use Rattle.lights.specs.declared.walk.LampWalk.{LampWalk}
 
 -- a request that changes lamps, at its start
@@ -92,26 +92,26 @@ module _ {src : List ℕ} {w : LampWalk} (g : Remaining src w) (some : w.remaini
       first_valid (first_power_entry bytes) (λ size. power_entries (count (bits max_lamps (without_lowest w.remaining))) (drop size bytes))
       (ap are_valid (sym entries_first) ∙ g.entries_valid)
 
-  module _ (power seconds size : ℕ) (q : first_power_entry bytes ≡ Valid (change power seconds) size) where
+  module _ (e : PowerEntry) (q : first_power_entry bytes ≡ Some e) where
     -- it has a byte and ends inside the request
-    pub next_room : (0 < size) × (w.at + size ≤ length src)
+    pub next_room : (0 < e.size) × (w.at + e.size ≤ length src)
     next_room =
-        let f = first_size_lem bytes (change power seconds) size q in
+        let f = first_size_lem bytes e q in
         let n : length bytes ≡ length src - w.at = length-drop w.at src in
         (f.0, omega (arith, g.at_max))
 
     -- the walk after it
     abbrev after : LampWalk
-    after = record { command = w.command; remaining = without_lowest w.remaining; at = w.at + size }
+    after = record { command = w.command; remaining = without_lowest w.remaining; at = w.at + e.size }
 
-    entries_next : remaining_entries src w ≡ prepend (change power seconds) (remaining_entries src after)
+    entries_next : remaining_entries src w ≡ prepend e (remaining_entries src after)
     entries_next = entries_first ∙ rw (q, drop-drop)
 
     after_valid : are_valid (remaining_entries src after) ≡ true
-    after_valid = sym (valid_prepend (change power seconds) (remaining_entries src after)) ∙ ap are_valid (sym entries_next) ∙ g.entries_valid
+    after_valid = sym (valid_prepend e (remaining_entries src after)) ∙ ap are_valid (sym entries_next) ∙ g.entries_valid
 
     -- the lamp is changed, then those above it
-    pub next_step : LampStep src w (record { lamp = lowest_lamp w.remaining; power = power; seconds = seconds; rest = after })
+    pub next_step : LampStep src w (record { lamp = lowest_lamp w.remaining; power = e.power; seconds = e.seconds; rest = after })
     unfolding remaining_lamps
     next_step =
         record {
@@ -124,9 +124,9 @@ module _ {src : List ℕ} {w : LampWalk} (g : Remaining src w) (some : w.remaini
           further = omega (arith, next_room.0);
           lamps = λ n ls l.
               sym
-              (ap (λ (es : List LampChange). lamps_after w.command n (bits max_lamps w.remaining) es ls)
-              (ap changes_of entries_next ∙ changes_prepend (change power seconds) (remaining_entries src after) after_valid)
-              ∙ lamps_lowest w.command max_lamps w.remaining some g.mask_max n (change power seconds) (changes_of (remaining_entries src after)) ls l);
+              (ap (λ (es : List PowerEntry). lamps_after w.command n (bits max_lamps w.remaining) es ls)
+              (ap changes_of entries_next ∙ changes_prepend e (remaining_entries src after) after_valid)
+              ∙ lamps_lowest w.command max_lamps w.remaining some g.mask_max n e (changes_of (remaining_entries src after)) ls l);
         }
 
 module _ (c : Command) (n i power seconds : ℕ) (ls : List Lamp) where

@@ -8,12 +8,14 @@ use lib.ListN.{length}
 use lib.Dec.{ltb}
 use borrow.Author.Tests.{le-ltb, ltb-false, ne_eqb}
 use Rattle.dpa.specs.Lists.{overwrite_front}
-use Rattle.dpa.specs.Reply.{Reply, reply, error_reply, reply_seen, reply_in_buffer}
-use Rattle.dpa.specs.declared.reply.Reply as code
+use Rattle.dpa.specs.Reply.{Reply, reply, error_reply, reply_seen, outcome_seen, reply_in_buffer}
+use Rattle.std.specs.Prelude.{Err}
+use Rattle.dpa.specs.Error.{error_number}
+use Rattle.dpa.specs.declared.error.ErrN.{ErrN}
 use Rattle.dpa.specs.declared.settings.Settings.{Settings}
 use Rattle.dpa.proofs.Bool.{by_test}
 use Rattle.lights.specs.Bits.{bitmap_size, count, bitmap}
-use Rattle.lights.specs.Lights.{command_pcmd, enumerate_pcmd, malformed_error, lamps_after, levels_before, levels_reply, well_formed, command_of, change_lamps, enumerate_lamps, lights_request}
+use Rattle.lights.specs.Lights.{command_pcmd, enumerate_pcmd, malformed_error, lamps_after, levels_before, levels_reply, well_formed, command_of, change_lamps, lights_request}
 use Rattle.lights.proofs.PowerEntries.{valid_changes, not_valid_malformed}
 use Rattle.lights.proofs.WellFormed.{entries_in, changes_in, well_formed_entries, bitmap_there, entries_valid}
 use Rattle.lights.specs.declared.apply.Command.{Command}
@@ -21,10 +23,9 @@ use Rattle.lights.specs.declared.apply.Command.TheVariants.{Set, Raise, Lower}
 use Rattle.lights.specs.declared.lamp.Lamp.{Lamp}
 
 -- a refused request leaves the lent buffer
-pub reply_error : (r : code.Reply) (x : Reply (List Lamp)) (e : ℕ) (ls : List Lamp) (o : List ℕ)
-    → r ≡ record { error = e; length = 0 } → x ≡ error_reply ls e
-    → reply_seen x.after r.error r.length o ≡ reply_in_buffer x o
-reply_error r x e ls o p q = rw (p, q)
+pub refused : (x : Reply (List Lamp)) (e : ErrN) (ls : List Lamp) (o : List ℕ) → x ≡ error_reply ls (error_number e)
+    → outcome_seen x.after (Err e) o ≡ reply_in_buffer x o
+refused x e ls o q = rw q
 
 -- there is a level for each selected lamp
 pub levels_length : (s : Settings) (n : ℕ) (bs : List ℕ) (ls : List Lamp) → length bs ≤ length ls → length (levels_before s n bs ls) ≡ count bs
@@ -63,11 +64,6 @@ module _ (s : Settings) (c : Command) (xs : List ℕ) (ls : List Lamp) where
         → out ≡ overwrite_front (levels_before s s.lamp_count (bitmap xs) ls) old
         → reply_seen (change_lamps s c xs ls).after 0 k out ≡ reply_in_buffer (change_lamps s c xs ls) old
     change_answered k out old p q = rw (change_done, p, q)
-
--- enumerate with PData is refused
-pub enumerate_with_data : (s : Settings) (xs : List ℕ) (ls : List Lamp) → (length xs ≡ 0 → ⊥) → enumerate_lamps s xs ls ≡ error_reply ls 5
-unfolding enumerate_lamps
-enumerate_with_data s xs ls h = rw (ne_eqb (length xs) 0 h)
 
 -- set, raise and lower
 pub known_pcmd : (s : Settings) (p : ℕ) (xs : List ℕ) (ls : List Lamp) → p ≤ command_pcmd Lower → lights_request s p xs ls ≡ change_lamps s (command_of p) xs ls

@@ -18,7 +18,7 @@ use Rattle.lights.specs.Lights.{command_pcmd, enumerate_pcmd, keep_power, PowerE
 use Rattle.lights.proofs.Lamps.{fits_test, fits_rule, fits_above, zero_facts}
 use Rattle.lights.proofs.Bits.{is_set, count_length}
 use Rattle.lights.proofs.Selected.{bitmap_length, count_selected, rank_selected, selected_bit}
-use Rattle.lights.proofs.PowerEntries.{zero_change, power_entries_length}
+use Rattle.lights.proofs.PowerEntries.{zero_entry, power_entries_length}
 use Rattle.lights.proofs.WellFormed.{changes_in}
 use Rattle.lights.proofs.EachLamp.{lamp_after_entry, lamps_after_at, lamp_unimplemented, lamps_length, levels_before_at}
 use Rattle.lights.proofs.Replies.{levels_length, change_malformed, known_pcmd, unknown_pcmd}
@@ -27,16 +27,16 @@ use Rattle.lights.proofs.Keep.{keep_after}
 use Rattle.lights.specs.declared.apply.Command.{Command}
 use Rattle.lights.specs.declared.apply.Command.TheVariants.{Set, Raise, Lower}
 use Rattle.lights.specs.declared.lamp.Lamp.{Lamp}
-use Rattle.lights.specs.declared.power.LampChange.{LampChange}
+use Rattle.lights.specs.declared.power.PowerEntry.{PowerEntry}
 
 -- the change for lamp k
-abbrev pub change_for : List ℕ → ℕ → LampChange
-change_for xs k = get_or (changes_in xs) (number_below k (selected xs)) zero_change
+abbrev pub change_for : List ℕ → ℕ → PowerEntry
+change_for xs k = get_or (changes_in xs) (number_below k (selected xs)) zero_entry
 
 module _ (s : Settings) (xs : List ℕ) (ls : List Lamp) where
   -- set, raise and lower are refused with 6, or all power entries are valid
   pub change_cases : (c : Command) (P : Reply (List Lamp) → Type 0) → P (error_reply ls malformed_error)
-      → ((es : List LampChange) → bitmap_size ≤ length xs → power_entries (count (bitmap xs)) (drop bitmap_size xs) ≡ all_valid es
+      → ((es : List PowerEntry) → bitmap_size ≤ length xs → power_entries (count (bitmap xs)) (drop bitmap_size xs) ≡ all_valid es
       → P (reply (lamps_after c s.lamp_count (bitmap xs) es ls) 0 (levels_before s s.lamp_count (bitmap xs) ls)))
       → P (change_lamps s c xs ls)
   unfolding change_lamps
@@ -51,7 +51,7 @@ module _ (s : Settings) (xs : List ℕ) (ls : List Lamp) where
   pub request_cases : (p : ℕ) (P : Reply (List Lamp) → Type 0)
       → ((e : ℕ) → (e ≡ 0 → ⊥) → P (error_reply ls e))
       → P (reply ls 0 (s.lamp_count ∷ []))
-      → ((c : Command) (es : List LampChange) → bitmap_size ≤ length xs → power_entries (count (bitmap xs)) (drop bitmap_size xs) ≡ all_valid es
+      → ((c : Command) (es : List PowerEntry) → bitmap_size ≤ length xs → power_entries (count (bitmap xs)) (drop bitmap_size xs) ≡ all_valid es
       → P (reply (lamps_after c s.lamp_count (bitmap xs) es ls) 0 (levels_before s s.lamp_count (bitmap xs) ls)))
       → P (lights_request s p xs ls)
   unfolding lights_request enumerate_lamps
@@ -80,7 +80,7 @@ module _ (s : Settings) (xs : List ℕ) (ls : List Lamp) where
     bitmap_fits : length (bitmap xs) ≤ length ls
     bitmap_fits = omega (arith, bitmap_length xs)
 
-    changes_enough : (es : List LampChange) → power_entries (count (bitmap xs)) (drop bitmap_size xs) ≡ all_valid es → count (bitmap xs) ≤ length es
+    changes_enough : (es : List PowerEntry) → power_entries (count (bitmap xs)) (drop bitmap_size xs) ≡ all_valid es → count (bitmap xs) ≤ length es
     changes_enough es e = omega (arith, power_entries_length (count (bitmap xs)) (drop bitmap_size xs) es e)
 
     -- a successful change returns a byte for each selected lamp
@@ -111,7 +111,7 @@ module _ (s : Settings) (xs : List ℕ) (ls : List Lamp) where
         let f : es ≡ changes_in xs = sym (ap changes_of e) in
         let r : count (take k (bitmap xs)) ≡ number_below k (selected xs) = rank_selected xs k (omega arith) in
         lamps_after_at c s.lamp_count (bitmap xs) es ls k bitmap_fits (changes_enough es e)
-        ∙ (λ i. cond (d i && ltb k s.lamp_count) (lamp_after_entry c l (get_or (f i) (r i) zero_change)) l))
+        ∙ (λ i. cond (d i && ltb k s.lamp_count) (lamp_after_entry c l (get_or (f i) (r i) zero_entry)) l))
 
     -- an implemented lamp with a keep entry is `kept` after a successful change, whatever the command is
     pub kept_at : (c : Command) (k : ℕ) → k < max_lamps → (change_lamps s c xs ls).error ≡ 0
@@ -148,10 +148,10 @@ module _ (s : Settings) (xs : List ℕ) (ls : List Lamp) where
         fits_test n k (get_or (lights_request s p xs ls).after k off)
         (λ _. request_cases p (λ (x : Reply (List Lamp)). LampRule (get_or x.after k off)) (λ e z. rule) rule
         (λ c es _ e.
-        let valid : (i : ℕ) → ChangeRule (get_or es i zero_change) = power_entries_rule (count (bitmap xs)) (drop bitmap_size xs) es e in
+        let valid : (i : ℕ) → ChangeRule (get_or es i zero_entry) = power_entries_rule (count (bitmap xs)) (drop bitmap_size xs) es e in
         rw (lamps_after_at c n (bitmap xs) es ls k bitmap_fits (changes_enough es e))
         (by_cond (λ (l : Lamp). LampRule l) (is_set (get_or (bitmap xs) k 0) && ltb k n) _ _
-        (λ _. lamp_after_rule c (get_or ls k off) (get_or es (count (take k (bitmap xs))) zero_change) rule (valid (count (take k (bitmap xs)))))
+        (λ _. lamp_after_rule c (get_or ls k off) (get_or es (count (take k (bitmap xs))) zero_entry) rule (valid (count (take k (bitmap xs)))))
         (λ _. rule))))
         (λ h. unimplemented_stays p k h ∙ zero_facts (get_or ls k off) (sym (fits_above n k (get_or ls k off) h) ∙ fit))
 

@@ -10,16 +10,16 @@ use borrow.Author.Tests.{leb-true, ltb-true, eqb-false}
 use Rattle.dpa.proofs.Bool.{by_cond}
 use Rattle.lights.specs.Lamp.{max_level, max_seconds, changed, LampRule}
 use Rattle.lights.specs.Lights.{keep_power, bit7, power_ok, seconds_of, first_power_entry, all_valid, power_entries, new_level, with_timer, lamp_after}
-use Rattle.lights.proofs.PowerEntries.{zero_change, first_cases, power_entries_each}
+use Rattle.lights.proofs.PowerEntries.{zero_entry, first_cases, power_entries_each}
 use Rattle.lights.proofs.EachLamp.{lamp_after_entry}
 use Rattle.lights.specs.declared.apply.Command.{Command}
 use Rattle.lights.specs.declared.apply.Command.TheVariants.{Set, Raise, Lower}
 use Rattle.lights.specs.declared.lamp.Lamp.{Lamp}
-use Rattle.lights.specs.declared.power.LampChange.{LampChange}
-use Rattle.lights.specs.declared.power.PowerEntry.TheVariants.{Valid}
+use Rattle.lights.specs.declared.power.PowerEntry.{PowerEntry}
+use Rattle.std.specs.Prelude.{Some}
 
 -- a change within its limits
-pub record ChangeRule (e : LampChange) : Type 0 where
+pub record ChangeRule (e : PowerEntry) : Type 0 where
   pub power : power_ok e.power ≡ true
   pub seconds : e.seconds ≤ max_seconds
 
@@ -29,19 +29,19 @@ seconds_max : (t : ℕ) → seconds_of t ≤ max_seconds
 unfolding seconds_of
 seconds_max t = by_cond (λ (n : ℕ). n ≤ max_seconds) (ltb t bit7) _ _ (λ e. omega (arith, ltb-true t bit7 e)) (λ e. omega arith)
 
-first_power_entry_rule : (xs : List ℕ) (e : LampChange) (size : ℕ) → first_power_entry xs ≡ Valid e size → ChangeRule e
+first_power_entry_rule : (xs : List ℕ) (e : PowerEntry) → first_power_entry xs ≡ Some e → ChangeRule e
 first_power_entry_rule =
-    first_cases (λ xs (e : LampChange) size. ChangeRule e)
+    first_cases (λ xs (e : PowerEntry). ChangeRule e)
     (λ b xs p. record { power = p; seconds = omega arith })
     (λ b t xs p k. record { power = p; seconds = seconds_max t })
 
-zero_change_rule : ChangeRule zero_change
+zero_entry_rule : ChangeRule zero_entry
 unfolding power_ok
-zero_change_rule = record { power = refl; seconds = omega arith }
+zero_entry_rule = record { power = refl; seconds = omega arith }
 
 -- every change of valid power entries is within its limits
-pub power_entries_rule : (n : ℕ) (xs : List ℕ) (es : List LampChange) → power_entries n xs ≡ all_valid es → (i : ℕ) → ChangeRule (get_or es i zero_change)
-power_entries_rule n xs es h = (power_entries_each ChangeRule zero_change_rule n xs es (λ j. first_power_entry_rule (drop j xs)) h).1
+pub power_entries_rule : (n : ℕ) (xs : List ℕ) (es : List PowerEntry) → power_entries n xs ≡ all_valid es → (i : ℕ) → ChangeRule (get_or es i zero_entry)
+power_entries_rule n xs es h = (power_entries_each ChangeRule zero_entry_rule n xs es (λ j. first_power_entry_rule (drop j xs)) h).1
 
 -- ---- a lamp after such a change
 
@@ -66,7 +66,7 @@ timer_rule l v s m n =
     (λ u. record { level_max = m; seconds_max = n; seconds_off = λ z. absurd (eqb-false v 0 u z) })
 
 -- a valid lamp stays valid
-pub lamp_after_rule : (c : Command) (l : Lamp) (e : LampChange) → LampRule l → ChangeRule e → LampRule (lamp_after_entry c l e)
+pub lamp_after_rule : (c : Command) (l : Lamp) (e : PowerEntry) → LampRule l → ChangeRule e → LampRule (lamp_after_entry c l e)
 unfolding lamp_after
 lamp_after_rule c l e r q =
     by_cond (λ (x : Lamp). LampRule x) (eqb e.power keep_power) _ _

@@ -7,21 +7,18 @@ use native.Mathlib.Omega.{arith}
 use lib.ListN.{length, drop}
 use lib.Dec.{ltb, leb}
 use borrow.Author.Tests.{lt-ltb, le-ltb, ltb-false, leb-true}
-use Rattle.dpa.specs.Settings.{max_lamps}
-use Rattle.dpa.specs.Lists.{Bytes}
 use Rattle.dpa.proofs.Bool.{and_left, and_right}
-use Rattle.lights.specs.Bits.{bitmap_size, bits, count, bitmap, mask_of}
+use Rattle.lights.specs.Bits.{bitmap_size, count, bitmap}
 use Rattle.lights.specs.Lights.{command_pcmd, PowerEntries, power_entries, are_valid, changes_of, well_formed, changes_lamps}
 use Rattle.lights.specs.declared.apply.Command.TheVariants.{Lower}
-use Rattle.lights.specs.declared.power.LampChange.{LampChange}
-use Rattle.lights.proofs.Bits.{bits_mask}
+use Rattle.lights.specs.declared.power.PowerEntry.{PowerEntry}
 
 -- the power entries that PData holds, one for each selected lamp
 abbrev pub entries_in : List ℕ → PowerEntries
 entries_in xs = power_entries (count (bitmap xs)) (drop bitmap_size xs)
 
 -- the changes that PData holds
-abbrev pub changes_in : List ℕ → List LampChange
+abbrev pub changes_in : List ℕ → List PowerEntry
 changes_in xs = changes_of (entries_in xs)
 
 not_short : (a b : Bool) → cond a false b ≡ true → (a ≡ false) × (b ≡ true)
@@ -48,10 +45,6 @@ module _ (xs : List ℕ) where
     -- and its power entries are valid
     pub entries_valid : are_valid (entries_in xs) ≡ true
     entries_valid = sym (well_formed_entries bitmap_there) ∙ w
-
--- the power entries by the mask
-pub entries_by_mask : (xs : List ℕ) (m k : ℕ) → Bytes xs → m ≡ mask_of xs → k ≡ count (bits max_lamps m) → power_entries k (drop bitmap_size xs) ≡ entries_in xs
-entries_by_mask xs m k small e q = rw (q, e, bits_mask xs small)
 
 module _ (pcmd : ℕ) (xs : List ℕ) (h : changes_lamps pcmd xs ≡ true) where
   -- a request that changes lamps is set, raise or lower

@@ -1,13 +1,13 @@
 -- Document 01, "Lights 71": set, raise and lower by a list of power entries, and enumerate. Document 02, change 2: keep with a time.
-use Rattle.std.specs.Prelude.{ℕ, zero, suc, ◌+◌, ◌-◌, ◌*◌, ◌%◌, min, List, [], ◌∷◌, Bool, true, false, cond, not, ◌&&◌, ◌||◌, length, drop, ltb, leb, eqb}
+use Rattle.std.specs.Prelude.{ℕ, zero, suc, ◌+◌, ◌-◌, ◌*◌, ◌%◌, min, List, [], ◌∷◌, Bool, true, false, cond, not, ◌&&◌, ◌||◌, length, drop, ltb, leb, eqb, Option, Some, None, Result, Ok, Err}
 use Rattle.dpa.specs.Reply.{Reply, reply, error_reply}
+use Rattle.dpa.specs.declared.error.ErrN.{ErrN}
+use Rattle.dpa.specs.declared.error.ErrN.TheVariants.{Pcmd}
 use Rattle.dpa.specs.declared.settings.Settings.{Settings}
 use Rattle.lights.specs.Bits.{bitmap_size, count, bitmap}
 use Rattle.lights.specs.Lamp.{max_level, changed, actual_level}
 use Rattle.lights.specs.declared.lamp.Lamp.{Lamp}
-use Rattle.lights.specs.declared.power.LampChange.{LampChange}
 use Rattle.lights.specs.declared.power.PowerEntry.{PowerEntry}
-use Rattle.lights.specs.declared.power.PowerEntry.TheVariants.{Valid, Invalid}
 use Rattle.lights.specs.declared.apply.Command.{Command}
 use Rattle.lights.specs.declared.apply.Command.TheVariants.{Set, Raise, Lower}
 
@@ -42,38 +42,38 @@ time_ok t = not (eqb (t % bit7) 0)
 unfoldable pub seconds_of : ℕ → ℕ
 seconds_of t = cond (ltb t bit7) (60 * t) (t % bit7)
 
--- what a power entry changes; the seconds are 0 exactly if it has no time byte (proofs/PowerEntries: `untimed_exact`)
-abbrev pub change : ℕ → ℕ → LampChange
-change p s = record { power = p; seconds = s }
+-- a power entry: what it changes, and its size; the seconds are 0 exactly if it has no time byte (proofs/PowerEntries: `untimed_exact`)
+abbrev pub power_entry : (power seconds size : ℕ) → PowerEntry
+power_entry p s n = record { power = p; seconds = s; size = n }
 
 -- the power entry of power p whose time byte comes next
-abbrev pub timed_power_entry : ℕ → List ℕ → PowerEntry
-timed_power_entry p [] = Invalid
-timed_power_entry p (t ∷ xs) = cond (time_ok t) (Valid (change p (seconds_of t)) 2) Invalid
+abbrev pub timed_power_entry : ℕ → List ℕ → Option PowerEntry
+timed_power_entry p [] = None
+timed_power_entry p (t ∷ xs) = cond (time_ok t) (Some (power_entry p (seconds_of t) 2)) None
 
--- the power entry at the front of the bytes, with its size: a power byte and, if bit 7 is set, a time byte
-abbrev pub first_power_entry : List ℕ → PowerEntry
-first_power_entry [] = Invalid
+-- the power entry at the front of the bytes: a power byte and, if bit 7 is set, a time byte; none if it is invalid
+abbrev pub first_power_entry : List ℕ → Option PowerEntry
+first_power_entry [] = None
 first_power_entry (b ∷ xs) =
     cond (power_ok (b % bit7))
-    (cond (ltb b bit7) (Valid (change (b % bit7) 0) 1) (timed_power_entry (b % bit7) xs))
-    Invalid
+    (cond (ltb b bit7) (Some (power_entry (b % bit7) 0 1)) (timed_power_entry (b % bit7) xs))
+    None
 
 -- ---- all power entries, checked before any lamp changes
 
 -- malformed: an invalid power entry, too few bytes or too many
 pub data PowerEntries : Type 0 where
-  all_valid : List LampChange → PowerEntries
+  all_valid : List PowerEntry → PowerEntries
   malformed : PowerEntries
 
-abbrev pub prepend : LampChange → PowerEntries → PowerEntries
+abbrev pub prepend : PowerEntry → PowerEntries → PowerEntries
 prepend e (all_valid es) = all_valid (e ∷ es)
 prepend e malformed = malformed
 
 -- a power entry and the power entries after it; `rest` takes its size
-abbrev pub followed_by : PowerEntry → (ℕ → PowerEntries) → PowerEntries
-followed_by (Valid e size) rest = prepend e (rest size)
-followed_by Invalid rest = malformed
+abbrev pub followed_by : Option PowerEntry → (ℕ → PowerEntries) → PowerEntries
+followed_by (Some e) rest = prepend e (rest e.size)
+followed_by None rest = malformed
 
 -- exactly n valid power entries, and no byte after them
 abbrev pub power_entries : ℕ → List ℕ → PowerEntries
@@ -106,7 +106,7 @@ lamp_after c l power seconds = cond (eqb power keep_power) (kept l seconds) (wit
 -- (lamp by lamp in proofs/Requests: `lamp_at`, `level_at`)
 
 -- a power entry for an unimplemented lamp has no effect
-unfoldable pub lamps_after : Command → ℕ → List ℕ → List LampChange → List Lamp → List Lamp
+unfoldable pub lamps_after : Command → ℕ → List ℕ → List PowerEntry → List Lamp → List Lamp
 lamps_after c n [] es ls = ls
 lamps_after c n (b ∷ bs) es [] = []
 lamps_after c n (zero ∷ bs) es (l ∷ ls) = l ∷ lamps_after c (n - 1) bs es ls
@@ -124,13 +124,13 @@ levels_before s n (suc b ∷ bs) (l ∷ ls) = cond (ltb 0 n) (actual_level s l.l
 -- ---- the request
 
 -- the ErrN of each case of a power entry
-abbrev pub power_entry_error : PowerEntry → ℕ
-power_entry_error (Valid e size) = 0
-power_entry_error Invalid = 6
+abbrev pub power_entry_error : Option PowerEntry → ℕ
+power_entry_error (Some e) = 0
+power_entry_error None = 6
 
 -- the ErrN of a request with a missing bitmap, or with power entries of which one is invalid or missing or that do not fill PData
 abbrev pub malformed_error : ℕ
-malformed_error = power_entry_error Invalid
+malformed_error = power_entry_error None
 
 -- the reply to set, raise and lower
 abbrev pub levels_reply : Settings → Command → List ℕ → List Lamp → PowerEntries → Reply (List Lamp)
@@ -160,7 +160,7 @@ lights_request s pcmd xs ls =
 -- ---- results of inner functions of the code
 
 -- a power entry is valid if it has no error
-abbrev pub is_valid : PowerEntry → Bool
+abbrev pub is_valid : Option PowerEntry → Bool
 is_valid entry = eqb (power_entry_error entry) 0
 
 -- all power entries are valid, and they fill PData
@@ -169,7 +169,7 @@ are_valid (all_valid es) = true
 are_valid malformed = false
 
 -- the changes of the power entries; none if they are malformed
-abbrev pub changes_of : PowerEntries → List LampChange
+abbrev pub changes_of : PowerEntries → List PowerEntry
 changes_of (all_valid es) = es
 changes_of malformed = []
 
@@ -184,3 +184,7 @@ changes_lamps pcmd xs = leb pcmd (command_pcmd Lower) && well_formed xs
 -- the command of a PCMD up to lower's
 unfoldable pub command_of : ℕ → Command
 command_of pcmd = cond (eqb pcmd (command_pcmd Set)) Set (cond (eqb pcmd (command_pcmd Raise)) Raise Lower)
+
+-- the same for any PCMD: one above lower's is none of the three
+unfoldable pub command_read : ℕ → Result Command ErrN
+command_read pcmd = cond (leb pcmd (command_pcmd Lower)) (Ok (command_of pcmd)) (Err Pcmd)

@@ -3,23 +3,19 @@ ghost use Rattle.std.specs.Prelude.{◌≡◌, ◌≤◌, ◌<◌, length};
 ghost use Rattle.dpa.specs.Settings.{max_lamps};
 ghost use Rattle.lights.specs.Bits.{bitmap_size, bits, count, mask_of, lowest_lamp, without_lowest};
 
-use dpa::number::{wide_word, word_of};
-
 // The bitmap as a number: bit k selects lamp k.
 pub fn mask_of(src: &[u8]) -> u32
     requires { bitmap_size ≤ length src.now }
     ensures { result ≡ mask_of src.now }
 {
-    let low = word_of(src[0], src[1]);
-    let high = word_of(src[2], src[3]);
-    (wide_word(low) + 65536 * wide_word(high)) as u32
+    u32::from_le_bytes([src[0], src[1], src[2], src[3]])
 }
 
 // The number of lamps that the bitmap selects.
 pub fn selected_count(mask: u32) -> usize
     ensures { (result ≡ count (bits max_lamps mask)) × (result ≤ max_lamps) }
 {
-    u32::count_ones(mask) as usize
+    mask.count_ones() as usize
 }
 
 // The lowest lamp that a mask selects.
@@ -27,10 +23,11 @@ pub fn lowest_lamp(mask: u32) -> usize
     requires { mask ≡ 0 → ⊥ }
     ensures { (result ≡ lowest_lamp mask) × (result < max_lamps) }
 {
-    u32::trailing_zeros(mask) as usize
+    mask.trailing_zeros() as usize
 }
 
 // The mask without its lowest lamp.
+#[tactic(auto, using(crate::proofs::Bits::lowest_removed))]
 pub fn without_lowest(mask: u32) -> u32
     requires { mask ≡ 0 → ⊥ }
     ensures { result ≡ without_lowest mask }

@@ -1,9 +1,8 @@
-// One lamp: its valid values, its actual level, and its timer.
-ghost use Rattle.std.specs.Prelude.{◌≡◌, true, ◌≤◌};
-ghost use Rattle.dpa.specs.Settings.{settings_ok};
-ghost use Rattle.lights.specs.Lamp.{max_level, lamp_ok, lamp_zero, actual_level, step_inverse, tick_lamp};
+// One lamp: its valid values, and its timer.
+ghost use Rattle.std.specs.Prelude.{◌≡◌};
+ghost use Rattle.lights.specs.Lamp.{lamp_ok, lamp_zero, tick_lamp};
 
-use dpa::settings::{MAX_LAMPS, Settings};
+use dpa::settings::MAX_LAMPS;
 
 // Lamp records in a node. Those at and above the lamp count are unused.
 pub const LAMPS: usize = MAX_LAMPS as usize;
@@ -14,11 +13,9 @@ pub const MAX_LEVEL: u8 = 100;
 // The longest timer: 127 minutes.
 pub const MAX_SECONDS: u16 = 7620;
 
-// The scale of a step's inverse.
-const INVERSE_SCALE: u32 = 65536;
-
+// C interface (`grelfint_lamp`): the fields, so that 0 seconds stand for no timer.
 #[repr(C)]
-#[derive(Clone, Copy)]
+#[derive(Clone, Copy, Default)]
 pub struct Lamp {
     // The requested level, 0 to 100.
     pub level: u8,
@@ -27,6 +24,7 @@ pub struct Lamp {
 }
 
 // Whether an implemented lamp has valid values. It has no branches, so that a loop over lamps can be vectorized.
+#[tactic(auto, unfolding(crate::specs::Lamp::lamp_ok))]
 pub fn lamp_ok(lamp: Lamp) -> bool
     ensures { result ≡ lamp_ok lamp }
 {
@@ -35,42 +33,25 @@ pub fn lamp_ok(lamp: Lamp) -> bool
         & ((lamp.level != 0) | (lamp.seconds == 0))
 }
 
-// Whether an unimplemented lamp has valid values: all zero.
+// Whether an unimplemented lamp has valid values: all zero. It has no branches either.
+#[tactic(auto, unfolding(crate::specs::Lamp::lamp_zero))]
 pub fn lamp_zero(lamp: Lamp) -> bool
     ensures { result ≡ lamp_zero lamp }
 {
     (lamp.level == 0) & (lamp.seconds == 0)
 }
 
-// Rounding multiplies by this number in place of dividing by the step: a division for each lamp is slow.
-pub fn step_inverse(settings: Settings) -> u32
-    requires { settings_ok settings ≡ true }
-    ensures { result ≡ step_inverse settings }
-{
-    INVERSE_SCALE / (settings.step as u32) + 1
-}
-
-// The level that the lamp shows: the requested level rounded up to a multiple of the step.
-pub fn actual_level(settings: Settings, inverse: u32, level: u8) -> u8
-    requires { (settings_ok settings ≡ true) × (level ≤ max_level) × (inverse ≡ step_inverse settings) }
-    ensures { result ≡ actual_level settings level }
-{
-    let step = settings.step as u32;
-    let quotient = (level as u32 + (step - 1)) * inverse / INVERSE_SCALE;
-    (quotient * step) as u8
-}
-
 // The lamp one second later.
+#[tactic(auto, unfolding(crate::specs::Lamp::tick_lamp))]
 pub fn tick_lamp(lamp: Lamp) -> Lamp
     ensures { result ≡ tick_lamp lamp }
 {
-    if lamp.seconds == 0 {
-        return lamp;
+    match lamp.seconds {
+        0 => lamp,
+        1 => Lamp::default(),
+        seconds => Lamp {
+            seconds: seconds - 1,
+            ..lamp
+        },
     }
-    let mut next = lamp;
-    next.seconds = lamp.seconds - 1;
-    if next.seconds == 0 {
-        next.level = 0;
-    }
-    next
 }

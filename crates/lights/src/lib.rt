@@ -7,4 +7,5 @@ pub mod lamp;
 pub mod levels;
 pub mod power;
 pub mod request;
+pub mod rounding;
 pub mod walk;

@@ -1,18 +1,18 @@
-// Requests to the lights peripheral: whether a request changes lamps, its command, and its answer.
+// Requests to the lights peripheral: whether a request changes lamps, and its answer.
 ghost use Rattle.std.specs.Prelude.{◌≡◌, List, true, ◌≤◌, length};
 ghost use Rattle.dpa.specs.Frame.{pdata_max};
-ghost use Rattle.dpa.specs.Reply.{reply_seen, reply_in_buffer};
+ghost use Rattle.dpa.specs.Reply.{outcome_seen, reply_in_buffer};
 ghost use Rattle.dpa.specs.Settings.{settings_ok, max_lamps};
 ghost use Rattle.lights.specs.Lamp.{SoundLevels};
-ghost use Rattle.lights.specs.Lights.{command_of, well_formed, changes_lamps, change_lamps, enumerate_lamps, lights_request};
+ghost use Rattle.lights.specs.Lights.{well_formed, changes_lamps, enumerate_lamps, lights_request};
 
 use crate::apply::Command;
 use crate::bitmap::{mask_of, selected_count};
 use crate::lamp::{LAMPS, Lamp};
 use crate::levels::write_levels;
 use crate::power::{BITMAP_SIZE, power_entries_ok};
-use dpa::error;
-use dpa::reply::Reply;
+use crate::rounding::Rounding;
+use dpa::error::ErrN;
 use dpa::settings::Settings;
 
 // PCMD of each request.
@@ -25,6 +25,7 @@ pub const LOWER: u8 = 0x02;
 pub const ENUMERATE: u8 = 0x3E;
 
 // Whether PData of set, raise and lower is the bitmap and a valid power entry for each selected lamp.
+#[tactic(auto, using(crate::proofs::Rules::for_well_formed))]
 fn well_formed(pdata: &[u8]) -> bool
     ensures { result ≡ well_formed pdata.now }
 {
@@ -35,82 +36,47 @@ fn well_formed(pdata: &[u8]) -> bool
 }
 
 // Whether a request changes lamps.
+#[tactic(auto, unfolding(crate::specs::Lights::changes_lamps, crate::specs::Lights::command_read))]
 pub fn changes_lamps(pcmd: u8, pdata: &[u8]) -> bool
     ensures { result ≡ changes_lamps pcmd pdata.now }
 {
-    if LOWER < pcmd {
-        return false;
-    }
-    well_formed(pdata)
-}
-
-// The command of a PCMD up to LOWER.
-pub fn command_of(pcmd: u8) -> Command
-    ensures { result ≡ command_of pcmd }
-{
-    match pcmd {
-        SET => Command::Set,
-        RAISE => Command::Raise,
-        _ => Command::Lower,
-    }
-}
-
-// A reply with an error has no data.
-fn error_reply(error: u8) -> Reply
-    ensures { result ≡ record { error = error; length = 0 } }
-{
-    Reply { error, length: 0 }
-}
-
-// The answer to set, raise and lower is the same for each command: the levels before the change.
-fn answer_levels(settings: Settings, lamps: [Lamp; LAMPS], pdata: &[u8], out: &mut [u8]) -> Reply
-    requires { (settings_ok settings ≡ true) × SoundLevels settings.lamp_count lamps × (max_lamps ≤ length out.old) }
-    ensures { (c : Command) → reply_seen (change_lamps settings c pdata.now lamps).after result.error result.length out.new
-        ≡ reply_in_buffer (change_lamps settings c pdata.now lamps) out.old }
-{
-    if !well_formed(pdata) {
-        return error_reply(error::DATA);
-    }
-    let length = write_levels(settings, pdata, lamps, out);
-    Reply {
-        error: error::NONE,
-        length,
-    }
+    Command::try_from(pcmd).is_ok() && well_formed(pdata)
 }
 
 // The answer to enumerate is the lamp count, whatever the lamps are.
-fn enumerate(settings: Settings, pdata: &[u8], out: &mut [u8]) -> Reply
+#[tactic(auto, unfolding(crate::specs::Lights::enumerate_lamps))]
+fn enumerate(settings: Settings, pdata: &[u8], out: &mut [u8]) -> Result<usize, ErrN>
     requires { max_lamps ≤ length out.old }
-    ensures { (ls : List Lamp) → reply_seen (enumerate_lamps settings pdata.now ls).after result.error result.length out.new
+    ensures { (ls : List Lamp) → outcome_seen (enumerate_lamps settings pdata.now ls).after result out.new
         ≡ reply_in_buffer (enumerate_lamps settings pdata.now ls) out.old }
 {
-    if pdata.len() != 0 {
-        return error_reply(error::DATA_LEN);
+    if !pdata.is_empty() {
+        return Err(ErrN::DataLen);
     }
     out[0] = settings.lamp_count;
-    Reply {
-        error: error::NONE,
-        length: 1,
-    }
+    Ok(1)
 }
 
-// Answers a request: the response data is written to the front of out. The lamps are left to the caller.
+// Answers a request: the response data is written to the front of out. The lamps are left to the caller. The answer to set, raise and
+// lower is the same for each command: the levels before the change.
+#[tactic(auto, using(crate::proofs::Rules::for_request), unfolding(crate::specs::Lights::lights_request))]
 pub fn request(
     settings: Settings,
     lamps: [Lamp; LAMPS],
     pcmd: u8,
     pdata: &[u8],
     out: &mut [u8],
-) -> Reply
+) -> Result<usize, ErrN>
     requires { (settings_ok settings ≡ true) × SoundLevels settings.lamp_count lamps × (pdata_max ≤ length out.old) }
-    ensures { reply_seen (lights_request settings pcmd pdata.now lamps).after result.error result.length out.new
+    ensures { outcome_seen (lights_request settings pcmd pdata.now lamps).after result out.new
         ≡ reply_in_buffer (lights_request settings pcmd pdata.now lamps) out.old }
 {
     if pcmd == ENUMERATE {
         return enumerate(settings, pdata, out);
     }
-    if LOWER < pcmd {
-        return error_reply(error::PCMD);
+    Command::try_from(pcmd)?;
+    if !well_formed(pdata) {
+        return Err(ErrN::Data);
     }
-    answer_levels(settings, lamps, pdata, out)
+    Ok(write_levels(Rounding::new(settings), pdata, lamps, out))
 }

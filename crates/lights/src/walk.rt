@@ -3,12 +3,10 @@ ghost use Rattle.std.specs.Prelude.{◌≡◌, true, ◌≤◌, drop};
 ghost use Rattle.lights.specs.Lights.{command_pcmd, changes_lamps, lights_request};
 ghost use Rattle.lights.specs.Remaining.{walk_end, walk_start, Remaining, LampStep};
 
-use crate::apply::{Command, lamp_after};
+use crate::apply::{Command, command_of, lamp_after};
 use crate::bitmap::{lowest_lamp, mask_of, without_lowest};
 use crate::lamp::{LAMPS, Lamp};
 use crate::power::{BITMAP_SIZE, valid_power_entry_at};
-use crate::request::{LOWER, command_of};
-use dpa::number::wide;
 use dpa::settings::Settings;
 
 // What remains of a request.
@@ -42,6 +40,7 @@ pub fn walk_end(end: usize) -> LampWalk
 }
 
 // The walk at the start of a request that changes lamps. Its PData is from start to the end of src.
+#[tactic(auto, using(crate::proofs::Rules::for_walk_start))]
 pub fn walk_start(pcmd: u8, src: &[u8], start: usize) -> LampWalk
     requires { changes_lamps pcmd (drop start src.now) ≡ true }
     ensures { result ≡ walk_start pcmd src.now start }
@@ -53,33 +52,36 @@ pub fn walk_start(pcmd: u8, src: &[u8], start: usize) -> LampWalk
     }
 }
 
-// The lowest remaining lamp takes the next power entry. It was tested, so nothing is tested again.
+// The lowest remaining lamp takes the next power entry. It was tested, so that no power entry is tested again.
+#[tactic(auto, using(crate::proofs::RemainingLamps::next_valid))]
 pub fn next_lamp(src: &[u8], walk: LampWalk) -> NextLamp
     requires { Remaining src.now walk × (walk.remaining ≡ 0 → ⊥) }
     ensures { LampStep src.now walk result }
 {
-    let power_entry = valid_power_entry_at(src, walk.at);
-    let mut rest = walk;
-    rest.remaining = without_lowest(walk.remaining);
-    rest.at = walk.at + power_entry.size;
+    let entry = valid_power_entry_at(src, walk.at);
     NextLamp {
         lamp: lowest_lamp(walk.remaining),
-        power: power_entry.power,
-        seconds: power_entry.seconds,
-        rest,
+        power: entry.power,
+        seconds: entry.seconds,
+        rest: LampWalk {
+            remaining: without_lowest(walk.remaining),
+            at: walk.at + entry.size,
+            ..walk
+        },
     }
 }
 
 // The lamps after a request whose power entries were tested; only set, raise and lower change lamps. One place of the array is replaced
 // for each selected lamp.
+#[tactic(auto, using(crate::proofs::Rules::for_lamps_after), unfolding(crate::specs::Lights::changes_lamps))]
 pub fn lamps_after(settings: Settings, pcmd: u8, src: &[u8], lamps: [Lamp; LAMPS]) -> [Lamp; LAMPS]
     requires { pcmd ≤ command_pcmd Command.Lower → changes_lamps pcmd src.now ≡ true }
     ensures { result ≡ (lights_request settings pcmd src.now lamps).after }
 {
-    if LOWER < pcmd {
+    if Command::try_from(pcmd).is_err() {
         return lamps;
     }
-    let implemented = wide(settings.lamp_count);
+    let implemented = usize::from(settings.lamp_count);
     let mut after = lamps;
     let mut walk = walk_start(pcmd, src, 0);
     while walk.remaining != 0 {
@@ -87,9 +89,7 @@ pub fn lamps_after(settings: Settings, pcmd: u8, src: &[u8], lamps: [Lamp; LAMPS
         walk = change.rest;
         let i = change.lamp;
         if i < implemented {
-            let command = walk.command;
-            let lamp = after[i];
-            after[i] = lamp_after(command, lamp, change.power, change.seconds);
+            after[i] = lamp_after(walk.command, after[i], change.power, change.seconds);
         }
     }
     after

@@ -1,22 +1,21 @@
 -- Laws of read and write requests.
 use mathlib.Core.Path.{◌≡◌, refl, ap, ◌∙◌}
-use mathlib.Core.List.{List, [], ◌∷◌, ◌++◌}
+use mathlib.Core.List.{List, [], ◌∷◌}
 use mathlib.Core.Bool.{false}
 use Prim.Native.Nat.{ℕ, ◌+◌, ◌-◌, ◌≤◌, ◌<◌}
 use native.Mathlib.Omega.{arith}
-use lib.Dec.{eqb, leb}
-use lib.ListN.{length, take, drop, get_or, length-take, length-drop}
-use borrow.Author.Tests.{eqb-true, leb-false, eq-eqb, ne_eqb, lt-leb}
+use Rattle.std.proofs.lemmas.Bool.Decides.{nat_tests}
+use lib.Dec.{eqb}
+use lib.ListN.{length, drop, length-take, length-drop}
+use borrow.Author.Tests.{eqb-true}
 use Rattle.dpa.specs.Frame.{pdata_max}
 use Rattle.dpa.specs.Lists.{slice}
-use Rattle.dpa.specs.Reply.{Harmless, Reply, reply, error_reply, reply_seen, reply_in_buffer}
-use Rattle.dpa.proofs.Bool.{by_cond, by_test, then_taken, else_taken}
-use Rattle.dpa.proofs.Lists.{slice_to_end}
+use Rattle.dpa.specs.Reply.{Harmless, Reply, reply, error_reply}
+use Rattle.dpa.proofs.Bool.{by_cond}
 use Rattle.memory.specs.declared.block.Memory.{Memory}
-use Rattle.memory.specs.declared.block.Memory.TheVariants.{Eeprom}
-use Rattle.memory.specs.Block.{size_of, longest_of, address_bytes, read_command, write_command, overwrite}
-use Rattle.memory.specs.Request.{address_of, block_start, block_length, block_data, block_error, read_error, write_error, read_request, write_request, memory_request}
-use Rattle.memory.proofs.Blocks.{BlockFits, no_fault_fits, fits_no_fault, longest_max, slice_length}
+use Rattle.memory.specs.Block.{size_of, longest_of, address_bytes, read_command, write_command, block_fault, overwrite}
+use Rattle.memory.specs.Request.{address_of, block_start, block_length, block_data, read_error, write_error, read_request, write_request, memory_request}
+use Rattle.memory.proofs.Blocks.{BlockFits, fits_no_fault, longest_max}
 use Rattle.memory.proofs.Overwrite.{overwrite_length}
 
 module _ (m : Memory) (p : List ℕ) where
@@ -30,77 +29,15 @@ module _ (m : Memory) (p : List ℕ) where
 
   -- a read without an error is accepted
   pub read_fits : read_error m p ≡ 0 → ReadFits
-  unfolding read_error
+  unfolding read_error block_fault
   read_fits e =
-      let a = then_taken (eqb (length p) (address_bytes m + 1)) _ 5 0 (λ q. omega arith) e in
-      (eqb-true _ _ a.0, no_fault_fits (size_of m) (longest_of m) (block_start m p) (block_length m p) 5 4 (λ q. omega arith) (λ q. omega arith) a.1)
+      (grind (arith, nat_tests), record { length_max = grind (arith, nat_tests); start_inside = grind (arith, nat_tests); end_inside = grind (arith, nat_tests) })
 
   -- a write without an error is accepted
   pub write_fits : write_error m p ≡ 0 → WriteFits
-  unfolding write_error
+  unfolding write_error block_fault
   write_fits e =
-      let a = else_taken (leb (length p) (address_bytes m)) 5 _ 0 (λ q. omega arith) e in
-      (leb-false _ _ a.0, no_fault_fits (size_of m) (longest_of m) (block_start m p) (length p - address_bytes m) 5 4 (λ q. omega arith) (λ q. omega arith) a.1)
-
-  -- the error in the form of the code's tests
-  pub read_error_by_tests : (w r a n : ℕ) → w ≡ address_bytes m → length p ≡ w + 1 → a ≡ address_of w p → n ≡ get_or p w 0
-      → r ≡ block_error m a n → r ≡ read_error m p
-  unfolding read_error
-  read_error_by_tests w r a n ew l ea en er = simp (← ew, eq-eqb (length p) (w + 1) l, ← ea, ← en) er
-
-  -- and that of a write
-  pub write_error_by_tests : (w r a : ℕ) → w ≡ address_bytes m → w < length p → a ≡ address_of w p
-      → r ≡ block_error m a (length p - w) → r ≡ write_error m p
-  unfolding write_error
-  write_error_by_tests w r a ew l ea er = simp (← ew, lt-leb (length p) w l, ← ea) er
-
-  module _ (mem : List ℕ) where
-    -- a refused read writes nothing
-    pub read_refused : (out : List ℕ) (e : ℕ) → e ≡ read_error m p → (e ≡ 0 → ⊥)
-        → reply_seen (read_request m p mem).after e 0 out ≡ reply_in_buffer (read_request m p mem) out
-    unfolding read_request
-    read_refused out e q h = simp (← q, ne_eqb e 0 h)
-
-    -- a write answers its error, without data
-    pub write_answer : (out : List ℕ) {e : ℕ} → e ≡ write_error m p → reply_seen (write_request m p mem).after e 0 out ≡ reply_in_buffer (write_request m p mem) out
-    unfolding write_request
-    write_answer out {e} q =
-        by_test (eqb (write_error m p) 0)
-        (λ z. let none : e ≡ 0 = q ∙ eqb-true _ _ z in rw (z, none))
-        (λ z. rw (z, q))
-
-    -- a refused write leaves the memory
-    pub write_refused : (write_error m p ≡ 0 → ⊥) → (write_request m p mem).after ≡ mem
-    unfolding write_request
-    write_refused h = rw (ne_eqb (write_error m p) 0 h)
-
-    module _ (w a n : ℕ) (size : length mem ≡ size_of m) (z : read_error m p ≡ 0) (ew : w ≡ address_bytes m) (ea : a ≡ address_of w p) (en : n ≡ get_or p w 0) where
-      -- the block read lies inside the memory and is no longer than EEPROM's longest
-      pub read_inside : (a + n ≤ length mem) × (n ≤ longest_of Eeprom)
-      read_inside =
-          let f = (read_fits z).1 in
-          let s : a ≡ block_start m p = ea ∙ ap (λ (k : ℕ). address_of k p) ew in
-          let l : n ≡ block_length m p = en ∙ ap (λ (k : ℕ). get_or p k 0) ew in
-          (omega (arith, f.end_inside), omega (arith, f.length_max, longest_max m))
-
-      -- the copied block is the reply
-      pub read_reply : (out last : List ℕ) → last ≡ slice mem a n ++ drop n out
-          → reply_seen (read_request m p mem).after 0 n last ≡ reply_in_buffer (read_request m p mem) out
-      unfolding read_request
-      read_reply out last el = rw (z, ← ew, ← ea, ← en, slice_length mem a n read_inside.0, el)
-
-    module _ (w a : ℕ) (z : write_error m p ≡ 0) (ew : w ≡ address_bytes m) (ea : a ≡ address_of w p) where
-      -- the block written lies inside the memory
-      pub write_inside : length mem ≡ size_of m → a + (length p - w) ≤ length mem
-      write_inside size =
-          let f = (write_fits z).1 in
-          let s : a ≡ block_start m p = ea ∙ ap (λ (k : ℕ). address_of k p) ew in
-          omega (arith, f.end_inside)
-
-      -- the overwritten memory is that after the write
-      pub write_after : {last : List ℕ} → last ≡ overwrite mem a (take (length p - w) (drop w p)) → last ≡ (write_request m p mem).after
-      unfolding write_request
-      write_after el = rw (z, ← ew, ← ea, el, slice_to_end w p)
+      (grind (arith, nat_tests), record { length_max = grind (arith, nat_tests); start_inside = grind (arith, nat_tests); end_inside = grind (arith, nat_tests) })
 
 -- a read and a write have different PCMDs
 pub commands_differ : (m : Memory) → eqb (write_command m) (read_command m) ≡ false
@@ -112,23 +49,15 @@ module _ (m : Memory) (p mem : List ℕ) where
   -- the reply to an accepted read
   pub read_accepted : ReadFits m p → memory_request m (read_command m) p mem ≡ reply mem 0 (slice mem (block_start m p) (block_length m p))
   unfolding memory_request read_request read_error
-  read_accepted f =
-      simp (
-        eq-eqb (read_command m) (read_command m) refl,
-        eq-eqb _ _ f.0,
-        fits_no_fault (size_of m) (longest_of m) (block_start m p) (block_length m p) 5 4 f.1,
-      )
+  read_accepted f = let z = fits_no_fault (size_of m) (longest_of m) (block_start m p) (block_length m p) 5 4 f.1 in grind (arith, nat_tests)
 
   -- the reply to an accepted write
   pub write_accepted : WriteFits m p → memory_request m (write_command m) p mem ≡ reply (overwrite mem (block_start m p) (block_data m p)) 0 []
   unfolding memory_request write_request write_error
   write_accepted f =
-      simp (
-        commands_differ m,
-        eq-eqb (write_command m) (write_command m) refl,
-        lt-leb _ _ f.0,
-        fits_no_fault (size_of m) (longest_of m) (block_start m p) (length p - address_bytes m) 5 4 f.1,
-      )
+      let z = fits_no_fault (size_of m) (longest_of m) (block_start m p) (length p - address_bytes m) 5 4 f.1 in
+      let d = commands_differ m in
+      grind (arith, nat_tests)
 
   module _ (pcmd : ℕ) where
     -- a request is an accepted read, an accepted write or an error
@@ -148,16 +77,12 @@ module _ (m : Memory) (p mem : List ℕ) where
     -- the PCMD of a write
     pub request_write : pcmd ≡ write_command m → memory_request m pcmd p mem ≡ write_request m p mem
     unfolding memory_request
-    request_write e = rw (e, commands_differ m, eq-eqb (write_command m) (write_command m) refl)
+    request_write e = let d = commands_differ m in grind (arith, nat_tests)
 
     -- any other request leaves the memory
     pub request_keeps : (pcmd ≡ write_command m → ⊥) → (memory_request m pcmd p mem).after ≡ mem
     unfolding memory_request read_request
-    request_keeps n =
-        let same : Reply (List ℕ) → Type 0 = λ (x : Reply (List ℕ)). x.after ≡ mem in
-        by_cond same (eqb pcmd (read_command m)) _ _
-        (λ _. by_cond same (eqb (read_error m p) 0) _ _ (λ _. refl) (λ _. refl))
-        (λ _. by_cond same (eqb pcmd (write_command m)) _ _ (λ q. absurd (n (eqb-true _ _ q))) (λ _. refl))
+    request_keeps n = grind (arith, nat_tests)
 
     -- a request with an error leaves the memory and returns no data
     pub request_harmless : Harmless mem (memory_request m pcmd p mem)

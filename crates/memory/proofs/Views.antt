@@ -1,27 +1,19 @@
 -- Laws of the read view.
-use mathlib.Core.Path.{◌≡◌, refl}
+use mathlib.Core.Path.{◌≡◌}
 use mathlib.Core.List.{List, []}
-use mathlib.Core.Bool.{Bool, true, false, cond}
 use Prim.Native.Nat.{ℕ, ◌+◌, ◌≤◌}
 use native.Mathlib.Omega.{arith}
+use Rattle.std.proofs.lemmas.Bool.Decides.{nat_tests}
 use lib.Dec.{eqb}
 use lib.ListN.{length}
 use denote.Ref.{Bor}
 use borrow.Author.Tests.{eqb-true, eqb-false, eq-eqb, ne_eqb}
 use Rattle.dpa.specs.Lists.{slice}
-use Rattle.dpa.proofs.Bool.{then_taken, by_test}
-use Rattle.memory.specs.declared.block.Memory.{Memory}
+use Rattle.dpa.proofs.Bool.{by_test}
 use Rattle.memory.specs.declared.block.Memory.TheVariants.{Eeprom, External}
-use Rattle.memory.specs.Block.{memory_pnum, size_of, longest_of}
-use Rattle.memory.specs.View.{block_refusal, view_status, view_bytes, place_in, view_place}
-use Rattle.memory.proofs.Blocks.{no_fault_fits, slice_length}
-
--- with memories of the right size the status depends on the PNUM and the block rule
-pub status_sized : (e x : List ℕ) (p start n : ℕ) → length e ≡ size_of Eeprom → length x ≡ size_of External
-    → view_status e x p start n
-    ≡ cond (eqb p (memory_pnum Eeprom)) (block_refusal Eeprom start n) (cond (eqb p (memory_pnum External)) (block_refusal External start n) 10)
-unfolding view_status
-status_sized e x p start n le lx = rw (eq-eqb (length e) (size_of Eeprom) le, eq-eqb (length x) (size_of External) lx)
+use Rattle.memory.specs.Block.{memory_pnum, size_of, block_fault}
+use Rattle.memory.specs.View.{view_status, view_bytes, place_in, view_place}
+use Rattle.memory.proofs.Blocks.{slice_length}
 
 -- the facts of an accepted view: both memories have their size, and the slice lies inside the one it is taken from
 pub record ViewFits (e x : List ℕ) (p start n : ℕ) : Type 0 where
@@ -30,25 +22,11 @@ pub record ViewFits (e x : List ℕ) (p start n : ℕ) : Type 0 where
   pub in_eeprom : p ≡ memory_pnum Eeprom → start + n ≤ size_of Eeprom
   pub end_max : start + n ≤ size_of External
 
-block_ends : (m : Memory) (start n : ℕ) → block_refusal m start n ≡ 0 → start + n ≤ size_of m
-block_ends m start n e = (no_fault_fits (size_of m) (longest_of m) start n 15 16 (λ q. omega arith) (λ q. omega arith) e).end_inside
-
-by_pnum : (p start n : ℕ) (b : Bool) → eqb p (memory_pnum Eeprom) ≡ b
-    → cond b (block_refusal Eeprom start n) (cond (eqb p (memory_pnum External)) (block_refusal External start n) 10) ≡ 0
-    → (start + n ≤ size_of External) × (p ≡ memory_pnum Eeprom → start + n ≤ size_of Eeprom)
-by_pnum p start n true h e = let r = block_ends Eeprom start n e in (omega arith, λ q. r)
-by_pnum p start n false h e =
-    let x = then_taken (eqb p (memory_pnum External)) (block_refusal External start n) 10 0 (λ q. omega arith) e in
-    (block_ends External start n x.1, λ q. absurd (eqb-false p (memory_pnum Eeprom) h q))
-
 -- a view with status 0 fits
 pub view_fits : (e x : List ℕ) (p start n : ℕ) → view_status e x p start n ≡ 0 → ViewFits e x p start n
-unfolding view_status
+unfolding view_status block_fault
 view_fits e x p start n h =
-    let a = then_taken (eqb (length e) (size_of Eeprom)) _ 4 0 (λ q. omega arith) h in
-    let b = then_taken (eqb (length x) (size_of External)) _ 4 0 (λ q. omega arith) a.1 in
-    let k = by_pnum p start n (eqb p (memory_pnum Eeprom)) refl b.1 in
-    record { eeprom_sized = eqb-true _ _ a.0; external_sized = eqb-true _ _ b.0; in_eeprom = k.1; end_max = k.0 }
+    record { eeprom_sized = grind (arith, nat_tests); external_sized = grind (arith, nat_tests); in_eeprom = λ q. grind (arith, nat_tests); end_max = grind (arith, nat_tests) }
 
 module _ (e x : List ℕ) (p start n : ℕ) where
   -- a refused view is empty

@@ -1,3 +1,4 @@
 pub mod Block
+pub mod Fault
 pub mod Request
 pub mod View

@@ -1,93 +1,126 @@
 // The three memories, and which blocks a request may read or write.
-ghost use Rattle.std.specs.Prelude.{◌≡◌, ◌++◌, ◌+◌, ◌≤◌, length, drop};
+ghost use Rattle.std.specs.Prelude.{◌≡◌, ◌++◌, ℕ, ◌+◌, ◌≤◌, length, drop, OnOk};
 ghost use Rattle.dpa.specs.Lists.{slice};
 ghost use Rattle.memory.specs.Block.{size_of, longest_of, address_bytes, read_command, write_command, block_fault, overwrite};
+ghost use Rattle.memory.specs.Fault.{fault_number, fault_error, fault_refusal};
 
 use dpa::copy::copy;
+use dpa::error::ErrN;
+use dpa::refusal::Refusal;
 use dpa::sizes::{EEPROM_SIZE, EXTERNAL_SIZE, RAM_SIZE};
 
-// The block rule's result for a valid block: error::NONE for a request, refusal::NONE for a view.
-const NO_FAULT: u8 = 0;
-
-#[derive(Clone, Copy)]
+#[derive(Clone, Copy, Debug, PartialEq, Eq)]
 pub enum Memory {
     Eeprom,
     Ram,
     External,
 }
 
-// Size in bytes.
-pub fn size_of(memory: Memory) -> usize
-    ensures { (result ≡ size_of memory) × (result ≤ size_of Memory.External) }
-{
-    match memory {
-        Memory::Eeprom => EEPROM_SIZE,
-        Memory::Ram => RAM_SIZE,
-        Memory::External => EXTERNAL_SIZE,
+// One method for each number, because each has a definition of its own in specs/Block; one record of all five would be read by its fields.
+impl Memory {
+    // Size in bytes.
+    pub fn size(self) -> usize
+        ensures { (result ≡ size_of self) × (result ≤ size_of Memory.External) }
+    {
+        match self {
+            Memory::Eeprom => EEPROM_SIZE,
+            Memory::Ram => RAM_SIZE,
+            Memory::External => EXTERNAL_SIZE,
+        }
+    }
+
+    // The most bytes that one request reads or writes: what fits in PData after the address; for RAM, its size.
+    pub fn longest(self) -> usize
+        ensures { (result ≡ longest_of self) × (result ≤ longest_of Memory.Eeprom) }
+    {
+        match self {
+            Memory::Eeprom => 55,
+            Memory::Ram => 48,
+            Memory::External => 54,
+        }
+    }
+
+    // Width of an address in PData, in bytes.
+    pub fn address_bytes(self) -> usize
+        ensures { (result ≡ address_bytes self) × (1 ≤ result) × (result ≤ 2) }
+    {
+        match self {
+            Memory::Eeprom | Memory::Ram => 1,
+            Memory::External => 2,
+        }
+    }
+
+    // PCMD of a read.
+    pub fn read_command(self) -> u8
+        ensures { result ≡ read_command self }
+    {
+        match self {
+            Memory::Eeprom | Memory::Ram => 0,
+            Memory::External => 2,
+        }
+    }
+
+    // PCMD of a write.
+    pub fn write_command(self) -> u8
+        ensures { result ≡ write_command self }
+    {
+        match self {
+            Memory::Eeprom | Memory::Ram => 1,
+            Memory::External => 3,
+        }
     }
 }
 
-// The most bytes that one request reads or writes: what fits in PData after the address; for RAM, its size.
-pub fn longest_of(memory: Memory) -> usize
-    ensures { (result ≡ longest_of memory) × (result ≤ longest_of Memory.Eeprom) }
-{
-    match memory {
-        Memory::Eeprom => 55,
-        Memory::Ram => 48,
-        Memory::External => 54,
+// Why a block cannot be read or written.
+#[derive(Clone, Copy, Debug, PartialEq, Eq)]
+pub enum BlockFault {
+    TooLong,
+    Outside,
+}
+
+// A request answers a fault with its ErrN.
+impl From<BlockFault> for ErrN {
+    ghost from_gives = { λ fault error. error ≡ fault_error fault };
+
+    fn from(fault: BlockFault) -> ErrN {
+        match fault {
+            BlockFault::TooLong => ErrN::DataLen,
+            BlockFault::Outside => ErrN::Addr,
+        }
     }
 }
 
-// Width of an address in PData, in bytes.
-pub fn address_bytes(memory: Memory) -> usize
-    ensures { (result ≡ address_bytes memory) × (1 ≤ result) × (result ≤ 2) }
-{
-    match memory {
-        Memory::Eeprom => 1,
-        Memory::Ram => 1,
-        Memory::External => 2,
+// A view is refused with a number of its own.
+impl From<BlockFault> for Refusal {
+    ghost from_gives = { λ fault refusal. refusal ≡ fault_refusal fault };
+
+    fn from(fault: BlockFault) -> Refusal {
+        match fault {
+            BlockFault::TooLong => Refusal::Block,
+            BlockFault::Outside => Refusal::Range,
+        }
     }
 }
 
-// PCMD of a read.
-pub fn read_command(memory: Memory) -> u8
-    ensures { result ≡ read_command memory }
+// The block rule. Length and start are checked first, so `start + count` cannot overflow. They are two parameters, as C gives them to a
+// view.
+#[tactic(auto, unfolding(crate::specs::Block::block_fault))]
+pub fn block_fault(memory: Memory, start: usize, count: usize) -> Result<(), BlockFault>
+    ensures number { (too_long outside : ℕ) → fault_number too_long outside result
+        ≡ block_fault (size_of memory) (longest_of memory) start count too_long outside }
+    ensures fits { OnOk result ((count ≤ longest_of memory) × (start + count ≤ size_of memory)) }
 {
-    match memory {
-        Memory::Eeprom => 0,
-        Memory::Ram => 0,
-        Memory::External => 2,
-    }
-}
-
-// PCMD of a write.
-pub fn write_command(memory: Memory) -> u8
-    ensures { result ≡ write_command memory }
-{
-    match memory {
-        Memory::Eeprom => 1,
-        Memory::Ram => 1,
-        Memory::External => 3,
-    }
-}
-
-// The block rule: `too_long`, `outside` or NO_FAULT. Length and start are checked first, so `start + count`
-// cannot overflow.
-pub fn block_fault(memory: Memory, start: usize, count: usize, too_long: u8, outside: u8) -> u8
-    ensures { result ≡ block_fault (size_of memory) (longest_of memory) start count too_long outside }
-{
-    let size = size_of(memory);
-    let longest = longest_of(memory);
-    if longest < count {
-        return too_long;
+    let size = memory.size();
+    if memory.longest() < count {
+        return Err(BlockFault::TooLong);
     }
     if size <= start {
-        return outside;
+        return Err(BlockFault::Outside);
     }
-    if start + count <= size {
-        return NO_FAULT;
+    if size < start + count {
+        return Err(BlockFault::Outside);
     }
-    outside
+    Ok(())
 }
 
 // Copies a block of mem to the front of out; the rest of out is unchanged.

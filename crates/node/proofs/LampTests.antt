@@ -1,5 +1,6 @@
 -- The test of all lamps in two parts: every lamp follows the rule of an implemented one, and those from the count on are zero.
-use Prim.Native.Nat.{ℕ, ◌+◌, ◌≤◌}
+use Prim.Native.Nat.{ℕ, ◌+◌}
+use native.Mathlib.Omega.{arith}
 use mathlib.Core.Path.{◌≡◌, refl, sym, ap, ◌∙◌}
 use mathlib.Core.Bool.{Bool, true, false, cond, ◌&&◌}
 use mathlib.Core.List.{List}
@@ -45,16 +46,18 @@ both_parts count k l =
 
 module _ (count : ℕ) (ls : List Lamp) where
   -- up to the count there is nothing to test
-  pub zeros_none : {ok : Bool} → ok ≡ each_ok ls → ok ≡ (each_ok ls && zeros_to count count ls)
-  zeros_none e = e ∙ and_true (each_ok ls) (zeros_to count count ls) (all_below_intro count _ (λ k h. rw (lt-ltb k count h)))
+  pub zeros_none : {ok : Bool} → ok ≡ each_ok ls → ok ≡ (each_ok ls && zeros_to count (count + 0) ls)
+  zeros_none e =
+      e ∙ and_true (each_ok ls) (zeros_to count (count + 0) ls) (all_below_intro (count + 0) _ (λ k h. rw (lt-ltb k count (omega arith))))
 
   -- one more lamp
-  pub zeros_next : (i : ℕ) → count ≤ i → {ok z : Bool} → ok ≡ (each_ok ls && zeros_to count i ls) → z ≡ lamp_zero (get_or ls i off)
-      → (ok && z) ≡ (each_ok ls && zeros_to count (i + 1) ls)
-  zeros_next i h {ok} {z} e q =
+  pub zeros_next : (i : ℕ) → {ok z : Bool} → ok ≡ (each_ok ls && zeros_to count (count + i) ls) → z ≡ lamp_zero (get_or ls (count + i) off)
+      → (ok && z) ≡ (each_ok ls && zeros_to count (count + (i + 1)) ls)
+  zeros_next i {ok} {z} e q =
       ap (λ (b : Bool). b && z) e
-      ∙ and_assoc (each_ok ls) (zeros_to count i ls) z
-      ∙ ap (λ (b : Bool). each_ok ls && b) (all_below_next i _ (zeros_to count i ls) z refl (rw (le-ltb i count h) q))
+      ∙ and_assoc (each_ok ls) (zeros_to count (count + i) ls) z
+      ∙ ap (λ (b : Bool). each_ok ls && b) (all_below_next (count + i) _ (zeros_to count (count + i) ls) z refl (rw (le-ltb (count + i) count (omega arith)) q))
+      ∙ ap (λ (j : ℕ). each_ok ls && zeros_to count j ls) (let n : count + i + 1 ≡ count + (i + 1) = omega arith in n)
 
   -- both parts over all lamps
   pub each_and_zeros : {i : ℕ} → i ≡ max_lamps → (each_ok ls && zeros_to count i ls) ≡ lamps_ok count ls

@@ -1,7 +1,9 @@
 -- Document 01, "Node and lamps": the node record and the node rule, start, actual levels, the tick.
-use Rattle.std.specs.Prelude.{ℕ, ◌≤◌, ◌<◌, ◌≡◌, Bool, true, cond, ◌&&◌, List, map, replicate, get_or, length, eqb}
+use Rattle.std.specs.Prelude.{ℕ, ◌≤◌, ◌<◌, ◌≡◌, Bool, true, cond, ◌&&◌, List, map, replicate, get_or, length, eqb, Result, Ok, Err}
 use Rattle.dpa.specs.declared.settings.Settings.{Settings}
+use Rattle.dpa.specs.declared.refusal.Refusal.{Refusal}
 use Rattle.dpa.specs.Lists.{all_below}
+use Rattle.dpa.specs.Refusal.{refusal_number}
 use Rattle.dpa.specs.Settings.{max_lamps, settings_ok}
 use Rattle.dpa.specs.Sizes.{ram_size}
 use Rattle.lights.specs.declared.lamp.Lamp.{Lamp}
@@ -50,6 +52,11 @@ pub record NodeRule (n : Node) : Type 0 where
 abbrev pub node_answer : ℕ → Node → NodeAnswer
 node_answer refusal n = record { refusal = refusal; node = n }
 
+-- the answer for an outcome; a refused call answers the node n
+abbrev pub node_seen : Node → Result Node Refusal → NodeAnswer
+node_seen n (Ok m) = node_answer 0 m
+node_seen n (Err e) = node_answer (refusal_number e) n
+
 -- a node with every lamp and RAM byte 0
 abbrev pub fresh : Settings → Node
 fresh s = record { settings = s; lamps = replicate max_lamps off; ram = replicate ram_size 0 }
@@ -68,6 +75,11 @@ actual_levels s ls = map (λ (l : Lamp). actual_level s l.level) ls
 
 abbrev pub levels_answer : ℕ → List ℕ → LevelsAnswer
 levels_answer refusal vs = record { refusal = refusal; levels = vs }
+
+-- the answer for an outcome; a refused call answers zeros
+abbrev pub levels_seen : Result (List ℕ) Refusal → LevelsAnswer
+levels_seen (Ok vs) = levels_answer 0 vs
+levels_seen (Err e) = levels_answer (refusal_number e) (replicate max_lamps 0)
 
 -- `actual_levels`: refusal 1 and zeros for a node that breaks the node rule
 unfoldable pub levels_of : Node → LevelsAnswer

@@ -1,9 +1,9 @@
 // Starting a node.
 ghost use Rattle.std.specs.Prelude.{◌≡◌};
-ghost use Rattle.node.specs.Node.{fresh, start_of};
+ghost use Rattle.node.specs.Node.{blank, fresh, start_of, node_seen};
 
 use crate::record::{Node, NodeAnswer};
-use dpa::refusal;
+use dpa::refusal::Refusal;
 use dpa::settings::{Settings, settings_ok};
 use dpa::sizes::RAM_SIZE;
 use lights::lamp::{LAMPS, Lamp};
@@ -12,36 +12,27 @@ use lights::lamp::{LAMPS, Lamp};
 fn fresh_node(settings: Settings) -> Node
     ensures { result ≡ fresh settings }
 {
-    let off = Lamp {
-        level: 0,
-        seconds: 0,
-    };
     Node {
         settings,
-        lamps: [off; LAMPS],
+        lamps: [Lamp::default(); LAMPS],
         ram: [0; RAM_SIZE],
     }
 }
 
-// Returns a fresh node, or a record of zeros if the settings are out of range.
-pub fn start(settings: Settings) -> NodeAnswer
-    ensures { result ≡ start_of settings }
+// Returns a fresh node.
+#[tactic(auto, unfolding(crate::specs::Node::start_of))]
+pub fn start(settings: Settings) -> Result<Node, Refusal>
+    ensures { node_seen blank result ≡ start_of settings }
 {
     if !settings_ok(settings) {
-        let zero_settings = Settings {
-            address: 0,
-            hwpid: 0,
-            dpa_value: 0,
-            lamp_count: 0,
-            step: 0,
-        };
-        return NodeAnswer {
-            refusal: refusal::NODE,
-            node: fresh_node(zero_settings),
-        };
+        return Err(Refusal::Node);
     }
-    NodeAnswer {
-        refusal: refusal::NONE,
-        node: fresh_node(settings),
-    }
+    Ok(fresh_node(settings))
+}
+
+// What C gets: a fresh node, or a record of zeros if the settings are out of range.
+pub fn start_answer(settings: Settings) -> NodeAnswer
+    ensures { result ≡ start_of settings }
+{
+    NodeAnswer::after(fresh_node(Settings::default()), start(settings))
 }

@@ -17,11 +17,10 @@ use Rattle.memory.specs.Block.{size_of}
 use Rattle.lights.specs.declared.lamp.Lamp.{Lamp}
 use Rattle.node.specs.declared.record.Node.{Node}
 use Rattle.node.specs.declared.record.ReadOnly.{ReadOnly}
-use Rattle.outcome.specs.declared.answer.RequestAnswer.{RequestAnswer}
 use Rattle.node.specs.Node.{node_ok}
 use Rattle.node.specs.State.{State, state, SoundState}
 use Rattle.outcome.specs.Request.{header_request, frame_request, execute, CallResult, unhandled_result, unanswered_result, response_result, unicast_result, handle_frame, request_refusal, call_refusal, handle_request}
-use Rattle.outcome.specs.Seen.{state_from_parts, Memories, memories_of, addressed_result, call_result}
+use Rattle.outcome.specs.Seen.{state_from_parts, Memories, memories_of, addressed_result}
 
 -- the request that the code reads from a frame
 pub frame_request_read : (f : List ℕ) {h : Frame} → h ≡ header_of f → header_request h (take (length f - header_size) (drop header_size f)) ≡ frame_request f
@@ -58,7 +57,7 @@ module _ (f : List ℕ) (st : State) (o : List ℕ) where
   unfolding handle_frame
   frame_other e =
       by_test (eqb (header_of f).nadr broadcast_nadr)
-      (λ a. let z : ◌≡◌ {A = ℕ} 0 1 = cc in absurd (omega arith))
+      (λ a. cc)
       (λ a. rw (a, other (eqb (header_of f).nadr broadcast_nadr) (eqb (header_of f).nadr st.node.settings.address) a e))
     where
       other : (b c : Bool) → b ≡ false → (b || c) ≡ false → c ≡ false
@@ -123,10 +122,6 @@ accepted_sound n e x f r z =
     record { node_valid = k.0; eeprom_sized = k.4; external_sized = k.5 }
 
 -- ---- as the code shows it
-
--- equal answers show equal results
-pub call_result_as : {r t : RequestAnswer} {e x o : List ℕ} → r ≡ t → call_result r e x o ≡ call_result t e x o
-call_result_as {r} {t} {e} {x} {o} q = ap (λ (u : RequestAnswer). call_result u e x o) q
 
 -- a state is put together from the settings, the lamps and the memories that belong to it
 pub state_together : (k : ReadOnly) (ls : List Lamp) (ms : Memories) (st : State) → k.settings ≡ st.node.settings → ls ≡ st.node.lamps → ms ≡ memories_of st

@@ -15,10 +15,8 @@ use Rattle.lights.specs.declared.apply.Command.TheVariants.{Lower}
 use Rattle.lights.specs.Lights.{command_pcmd, changes_lamps}
 use Rattle.lights.proofs.Requests.{success_changes}
 use Rattle.checksum.specs.Check.{code_check_pcmd}
-use Rattle.batch.specs.declared.list.ListCheck.{ListCheck}
-use Rattle.batch.specs.declared.selective.Selection.{Selection}
-use Rattle.batch.specs.Batch.{Request, reading, list_error, run_entries, batch_pcmd}
-use Rattle.batch.specs.Selective.{selective_pcmd}
+use Rattle.batch.specs.Batch.{ListCheck, Request, reading, list_error, run_entries, batch_pcmd}
+use Rattle.batch.specs.Selective.{Selection, selective_pcmd}
 use Rattle.batch.proofs.Selections.{select_cases}
 use Rattle.node.specs.State.{State}
 use Rattle.outcome.specs.declared.reply.Effect.{Effect}
@@ -134,10 +132,7 @@ module _ (i : Request) (st : State) where
   selective_long =
       select_cases i.pdata st.node.settings.address
       (λ (x : Selection). succeeded (selection_outcome x (drop node_set_size i.pdata) st) ≡ true → node_set_size ≤ length i.pdata)
-      (λ e. absurd (never e)) (λ e. absurd (never e)) (λ h _ _. omega (arith, h))
-    where
-      never : false ≡ true → ⊥
-      never e = let z : ◌≡◌ {A = ℕ} 0 1 = cc in omega arith
+      (λ e. cc) (λ e. cc) (λ h _ _. omega (arith, h))
 
   -- the effect of a selective batch is that of its PNUM and PCMD alone
   selective_only : request_effect i ≡ Selective → (i.pnum ≡ os_pnum) × (i.pcmd ≡ selective_pcmd)
@@ -145,30 +140,30 @@ module _ (i : Request) (st : State) where
     where
       go : (b c d l : Bool) → eqb i.pnum os_pnum ≡ b → eqb i.pcmd selective_pcmd ≡ d
           → cond b (cond c Batch (cond d Selective Nothing)) (cond l Lamps Alone) ≡ Selective → (i.pnum ≡ os_pnum) × (i.pcmd ≡ selective_pcmd)
-      go true true d l p q e = let z : ◌≡◌ {A = ℕ} 0 1 = cc in absurd (omega arith)
+      go true true d l p q e = cc
       go true false true l p q e = (eqb-true _ _ p, eqb-true _ _ q)
-      go true false false l p q e = let z : ◌≡◌ {A = ℕ} 0 1 = cc in absurd (omega arith)
-      go false c d true p q e = let z : ◌≡◌ {A = ℕ} 0 1 = cc in absurd (omega arith)
-      go false c d false p q e = let z : ◌≡◌ {A = ℕ} 0 1 = cc in absurd (omega arith)
+      go true false false l p q e = cc
+      go false c d true p q e = cc
+      go false c d false p q e = cc
 
   -- only the lights have an effect on the lamps, and no other
   lamps_only : request_effect i ≡ Lamps → i.pnum ≡ lights_pnum
   lamps_only = go (eqb i.pnum os_pnum) (eqb i.pcmd batch_pcmd) (eqb i.pcmd selective_pcmd) (eqb i.pnum lights_pnum) refl
     where
       go : (b c d l : Bool) → eqb i.pnum lights_pnum ≡ l → cond b (cond c Batch (cond d Selective Nothing)) (cond l Lamps Alone) ≡ Lamps → i.pnum ≡ lights_pnum
-      go true true d l p e = let z : ◌≡◌ {A = ℕ} 0 1 = cc in absurd (omega arith)
-      go true false true l p e = let z : ◌≡◌ {A = ℕ} 0 1 = cc in absurd (omega arith)
-      go true false false l p e = let z : ◌≡◌ {A = ℕ} 0 1 = cc in absurd (omega arith)
+      go true true d l p e = cc
+      go true false true l p e = cc
+      go true false false l p e = cc
       go false c d true p e = eqb-true _ _ p
-      go false c d false p e = let z : ◌≡◌ {A = ℕ} 0 1 = cc in absurd (omega arith)
+      go false c d false p e = cc
 
   alone_others : request_effect i ≡ Alone → i.pnum ≡ lights_pnum → ⊥
   alone_others e p =
       let q : Lamps ≡ Alone = sym (rw p) ∙ e in
-      let z : ◌≡◌ {A = ℕ} 0 1 = cc in omega arith
+      cc
 
   lamps_success : effect_of i (execute i st) ≡ Lamps → (succeeded (execute i st) ≡ true) × (request_effect i ≡ Lamps)
-  lamps_success e = effect_success (execute i st) e (λ q. let z : ◌≡◌ {A = ℕ} 0 1 = cc in omega arith)
+  lamps_success e = effect_success (execute i st) e (λ q. cc)
 
   -- what the effect of a request relies on
   pub effect_known : EffectKnown (effect_of i (execute i st)) i
@@ -176,9 +171,9 @@ module _ (i : Request) (st : State) where
       record {
         lights = λ e. lamps_only (lamps_success e).1;
         changes = λ e. lights_known (lamps_success e).0 (lamps_only (lamps_success e).1);
-        not_lights = λ e. alone_others (effect_success (execute i st) e (λ q. let z : ◌≡◌ {A = ℕ} 0 1 = cc in omega arith)).1;
+        not_lights = λ e. alone_others (effect_success (execute i st) e (λ q. cc)).1;
         node_set = λ e.
-            let s = effect_success (execute i st) e (λ q. let z : ◌≡◌ {A = ℕ} 0 1 = cc in omega arith) in
+            let s = effect_success (execute i st) e (λ q. cc) in
             let k = selective_only s.1 in
             selective_long (ap succeeded (sym (os_selective i.pcmd i.pdata st k.1) ∙ sym (execute_os i st (hwpid_accepted s.0) k.0)) ∙ s.0);
       }

@@ -8,9 +8,7 @@ use Rattle.memory.proofs.Requests.{request_harmless}
 use Rattle.lights.proofs.Requests as lights
 use Rattle.checksum.specs.Check.{code_check}
 use Rattle.checksum.proofs.Checks.{check_harmless}
-use Rattle.batch.specs.Batch.{Request}
-use Rattle.batch.specs.declared.list.ListCheck.{ListCheck}
-use Rattle.batch.specs.declared.list.ListCheck.TheVariants.{Sound}
+use Rattle.batch.specs.Batch.{Request, ListCheck, Sound}
 use Rattle.node.specs.Node.{with_lamps}
 use Rattle.node.specs.State.{State, with_node, memory_of, with_memory}
 use Rattle.outcome.specs.Request.{peripheral_request, execute_entry, load_report, fault_report, no_report, Outcome, outcome, reply_only, list_request, code_check_request, execute, frame_request, CallResult, unhandled_result, call_refusal, handle_request}

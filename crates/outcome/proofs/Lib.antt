@@ -9,6 +9,5 @@ pub mod Reports
 pub mod SelectiveBatches
 pub mod Parts
 pub mod Effects
-pub mod Answers
 pub mod Responses
 pub mod Examples

@@ -12,11 +12,8 @@ use Rattle.dpa.specs.Pnum.{os_pnum}
 use Rattle.dpa.specs.Reply.{error_reply}
 use Rattle.dpa.proofs.Bool.{by_cond}
 use Rattle.checksum.specs.Check.{code_check_pcmd}
-use Rattle.batch.specs.Batch.{Request, reading, list_error, batch_pcmd}
-use Rattle.batch.specs.declared.list.ListCheck.{ListCheck}
-use Rattle.batch.specs.declared.list.ListCheck.TheVariants.{Sound}
-use Rattle.batch.specs.declared.selective.Selection.{Selection}
-use Rattle.batch.specs.Selective.{selective_pdata_min, check_from, selection_of, selective_pcmd}
+use Rattle.batch.specs.Batch.{Request, reading, list_error, batch_pcmd, ListCheck, Sound}
+use Rattle.batch.specs.Selective.{Selection, selective_pdata_min, check_from, selection_of, selective_pcmd}
 use Rattle.batch.proofs.Faults.{error_sound}
 use Rattle.batch.proofs.Selections.{check_from_front, select_cases}
 use Rattle.node.specs.State.{State}

@@ -10,11 +10,8 @@ use Rattle.dpa.specs.Lists.{Bytes}
 use Rattle.dpa.specs.NodeSet.{node_set_size, selects}
 use Rattle.dpa.specs.Pnum.{os_pnum}
 use Rattle.dpa.proofs.Bool.{by_cond}
-use Rattle.batch.specs.Batch.{Request, reading, list_error, ListFault, batch_pcmd}
-use Rattle.batch.specs.Selective.{selective_pdata_min, check_from, selective_pcmd}
-use Rattle.batch.specs.declared.list.ListCheck.{ListCheck}
-use Rattle.batch.specs.declared.list.ListCheck.TheVariants.{Sound}
-use Rattle.batch.specs.declared.selective.Selection.{Selection}
+use Rattle.batch.specs.Batch.{Request, reading, list_error, ListFault, batch_pcmd, ListCheck, Sound}
+use Rattle.batch.specs.Selective.{selective_pdata_min, check_from, selective_pcmd, Selection}
 use Rattle.batch.proofs.Faults.{sound_error}
 use Rattle.batch.proofs.Selections.{check_from_front, reported_from, sound_from, select_list, select_cases}
 use Rattle.node.specs.State.{State}

@@ -15,8 +15,7 @@ use Rattle.dpa.specs.NodeSet.{node_set_size, selects}
 use Rattle.dpa.specs.Pnum.{os_pnum}
 use Rattle.dpa.proofs.Bool.{by_test}
 use Rattle.dpa.proofs.Headers.{read_written}
-use Rattle.batch.specs.Batch.{request_of, reading, shift_fault}
-use Rattle.batch.specs.declared.list.ListCheck.TheVariants.{Sound}
+use Rattle.batch.specs.Batch.{request_of, reading, shift_fault, Sound}
 use Rattle.batch.proofs.Selections.{not_named, named_list}
 use Rattle.node.specs.State.{State}
 use Rattle.batch.specs.Selective.{selective_pcmd}

@@ -3,11 +3,10 @@
 use mathlib.Core.Path.{◌≡◌, refl}
 use mathlib.Core.List.{List, []}
 use mathlib.Core.Bool.{true, false}
-use Prim.Native.Nat.{ℕ, ◌-◌, ◌≤◌}
+use Prim.Native.Nat.{ℕ, ◌≤◌}
 use native.Mathlib.Omega.{arith}
-use lib.ListN.{length, take, drop, length-take, length-drop}
-use Rattle.dpa.specs.declared.frame.Frame.{Frame}
-use Rattle.dpa.specs.Frame.{header_size, pdata_max, longest_frame}
+use lib.ListN.{length}
+use Rattle.dpa.specs.Frame.{pdata_max}
 use Rattle.dpa.specs.Reply.{Reply}
 use Rattle.memory.proofs.Requests.{request_max}
 use Rattle.lights.proofs.Requests.{answer_max}
@@ -16,7 +15,7 @@ use Rattle.batch.proofs.Selections.{place_max_from}
 use Rattle.checksum.proofs.Checks.{check_max}
 use Rattle.node.proofs.Nodes.{node_lamps}
 use Rattle.node.specs.State.{State, SoundState, memory_of}
-use Rattle.outcome.specs.Request.{peripheral_request, Outcome, code_check_request, execute, header_request}
+use Rattle.outcome.specs.Request.{peripheral_request, Outcome, code_check_request, execute}
 use Rattle.outcome.proofs.Peripherals.{peripheral_cases}
 use Rattle.outcome.proofs.Outcomes.{os_cases, execute_cases}
 
@@ -53,7 +52,7 @@ unanswered_empty i st =
     (λ e. absurd (not_answered e))
   where
     not_answered : true ≡ false → ⊥
-    not_answered e = let z : ◌≡◌ {A = ℕ} 0 1 = cc in omega arith
+    not_answered e = cc
 
 -- the reported place is at most the length of PData
 pub execute_place : (i : Request) (st : State) → (execute i st).report.place ≤ length i.pdata
@@ -63,11 +62,3 @@ execute_place i st =
     execute_cases InPData st (λ e. omega arith) i
     (os_cases InPData st (λ e. omega arith) i.pcmd i.pdata (λ _. omega arith) (λ n _ h. place_max_from i.pdata n h) (omega arith) (omega arith))
     (omega arith)
-
--- the place that the request in a frame reports is at most the longest PData
-pub frame_place : (f : List ℕ) → length f ≤ longest_frame → (h : Frame) (st : State) {n : ℕ}
-    → n ≡ (execute (header_request h (take (length f - header_size) (drop header_size f))) st).report.place → n ≤ pdata_max
-frame_place f l h st e =
-    let d = take (length f - header_size) (drop header_size f) in
-    let k : length d ≤ pdata_max = simp (length-take, length-drop) (omega arith) in
-    omega (arith, execute_place (header_request h d) st)

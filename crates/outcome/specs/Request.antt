@@ -14,15 +14,11 @@ use Rattle.memory.specs.Block.{memory_pnum, size_of}
 use Rattle.memory.specs.Request.{memory_request}
 use Rattle.lights.specs.Lights.{lights_request}
 use Rattle.checksum.specs.Check.{code_check_pcmd, code_check}
-use Rattle.batch.specs.declared.list.ListCheck.{ListCheck}
-use Rattle.batch.specs.declared.selective.Selection.{Selection}
-use Rattle.batch.specs.declared.selective.Selection.TheVariants.{TooShort, NotSelected, Selected}
-use Rattle.batch.specs.Batch.{batch_pcmd, Request, request_of, reading, list_error, reason_of, place_of, run_entries, errors_of}
-use Rattle.batch.specs.Selective.{selective_pcmd, selection_of}
+use Rattle.batch.specs.Batch.{ListCheck, batch_pcmd, Request, request_of, reading, list_error, reason_of, place_of, run_entries, errors_of}
+use Rattle.batch.specs.Selective.{Selection, TooShort, NotSelected, Selected, selective_pcmd, selection_of}
 use Rattle.node.specs.declared.record.Node.{Node}
 use Rattle.node.specs.Node.{node_ok, with_lamps}
 use Rattle.node.specs.State.{State, with_node, memory_of, with_memory}
-use Rattle.outcome.specs.declared.reply.Report.{Report}
 
 -- ---- peripherals
 
@@ -66,6 +62,11 @@ entry_error i st = (execute_entry i st).error
 
 -- what a request reports to the caller besides the response: the load mark of the code check, or the reason and the place in PData
 -- of the first fault of a list
+pub record Report : Type 0 where
+  pub load : Bool
+  pub reason : ℕ
+  pub place : ℕ
+
 abbrev pub load_report : Bool → Report
 load_report mark = record { load = mark; reason = 0; place = 0 }
 

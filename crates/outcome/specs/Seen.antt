@@ -1,28 +1,35 @@
 -- How the code's results and buffers show the outcome of a request and the result of a call, and what a request does to the memories and
 -- to the lamps, each by itself.
-use Rattle.std.specs.Prelude.{ℕ, ◌≡◌, List, Bool, true, false, cond, length, eqb}
+use Rattle.std.specs.Prelude.{ℕ, ◌≡◌, List, Bool, true, false, cond, length, eqb, Option, None, Some}
 use Rattle.dpa.specs.declared.frame.Frame.{Frame}
 use Rattle.dpa.specs.declared.settings.Settings.{Settings}
 use Rattle.dpa.specs.Lists.{overwrite_front}
 use Rattle.dpa.specs.Frame.{broadcast_nadr}
+use Rattle.dpa.specs.Error.{error_of}
 use Rattle.dpa.specs.Pnum.{lights_pnum}
+use Rattle.dpa.specs.Reply.{length_of}
 use Rattle.memory.specs.declared.block.Memory.TheVariants.{Eeprom, Ram, External}
 use Rattle.memory.specs.Block.{memory_pnum, size_of}
 use Rattle.memory.specs.Request.{memory_request}
 use Rattle.lights.specs.declared.lamp.Lamp.{Lamp}
 use Rattle.lights.specs.Lights.{lights_request}
+use Rattle.batch.specs.declared.fault.ListFault.{ListFault}
 use Rattle.batch.specs.Batch.{Request, reading, run_entries}
+use Rattle.batch.specs.Seen.{reason_number}
 use Rattle.node.specs.declared.record.Node.{Node}
 use Rattle.node.specs.declared.record.ReadOnly.{ReadOnly}
 use Rattle.node.specs.Node.{node_from_parts}
-use Rattle.outcome.specs.declared.reply.Report.{Report}
-use Rattle.outcome.specs.declared.reply.RequestReply.{RequestReply}
+use Rattle.outcome.specs.declared.memories.Memories as lent
+use Rattle.outcome.specs.declared.request.Request as read
+use Rattle.outcome.specs.declared.reply.Report as made_report
+use Rattle.outcome.specs.declared.reply.RequestReply as made_reply
+use Rattle.outcome.specs.declared.reply.Response.{Response}
 use Rattle.outcome.specs.declared.answer.RequestAnswer.{RequestAnswer}
 use Rattle.node.specs.State.{State, state}
 use Rattle.outcome.specs.declared.reply.Effect.{Effect}
 use Rattle.outcome.specs.declared.reply.Effect.TheVariants.{Nothing}
 use Rattle.outcome.specs.Effect.{on_success}
-use Rattle.outcome.specs.Request.{hwpid_matches, no_report, Outcome, CallResult, unanswered_result, unicast_result}
+use Rattle.outcome.specs.Request.{hwpid_matches, header_request, Report, load_report, no_report, Outcome, CallResult, unanswered_result, unicast_result}
 
 -- ---- the effect of a request: the node is split into parts, and the lamps change apart from the memories
 
@@ -41,6 +48,22 @@ memories ram eeprom external = record { ram = ram; eeprom = eeprom; external = e
 
 abbrev pub memories_of : State → Memories
 memories_of st = memories st.node.ram st.eeprom st.external
+
+-- the memories that are lent for a call
+abbrev pub memories_in : lent.Memories → Memories
+memories_in m = memories m.ram.now m.eeprom.now m.external.now
+
+-- after a call the same references lend them
+abbrev pub SameLent : lent.Memories → lent.Memories → Type 0
+SameLent m n = (n.ram.ghost_name ≡ m.ram.ghost_name) × (n.eeprom.ghost_name ≡ m.eeprom.ghost_name) × (n.external.ghost_name ≡ m.external.ghost_name)
+
+-- the state with them
+abbrev pub state_with : ReadOnly → List Lamp → lent.Memories → State
+state_with fixed lamps m = state_from_parts fixed lamps m.ram.now m.eeprom.now m.external.now
+
+-- the request that the code read from a frame
+abbrev pub request_seen : read.Request → Request
+request_seen r = header_request r.header r.pdata.now
 
 -- each memory has its size
 pub record Sized (ms : Memories) : Type 0 where
@@ -75,6 +98,14 @@ list_lamps s list ls = run_entries (entry_lamps s) (reading list).entries ls
 
 -- ---- the answer to a request
 
+-- a reply to a request: whether it is answered, ErrN, the report, the length of the data or of the response, and the effect
+pub record RequestReply : Type 0 where
+  pub answered : Bool
+  pub error : ℕ
+  pub report : Report
+  pub length : ℕ
+  pub effect : Effect
+
 -- the reply to a request with this outcome and this effect of a success; the length is that of the data, or of the response
 abbrev pub reply_to : Outcome → Effect → ℕ → RequestReply
 reply_to done effect size =
@@ -98,13 +129,38 @@ pub record SeenAnswer : Type 0 where
   pub reply : RequestReply
   pub out : List ℕ
 
+abbrev pub reply_and_buffer : RequestReply → List ℕ → SeenAnswer
+reply_and_buffer reply out = record { reply = reply; out = out }
+
+-- the report that the code has: 0 and 0 without a fault
+abbrev pub report_with : Bool → Option ListFault → Report
+report_with load None = load_report load
+report_with load (Some f) = record { load = load; reason = reason_number f.reason; place = f.at }
+
+abbrev pub report_of : made_report.Report → Report
+report_of report = report_with report.load report.fault
+
+-- the reply that the code has; None is no answer
+abbrev pub reply_of : Option made_reply.RequestReply → RequestReply
+reply_of None = unanswered_only
+reply_of (Some r) =
+    record { answered = true; error = error_of r.outcome; report = report_of r.report; length = length_of r.outcome; effect = r.effect }
+
 -- as the code has it
-abbrev pub answer_seen : RequestReply → List ℕ → SeenAnswer
-answer_seen reply out = record { reply = reply; out = out }
+abbrev pub answer_seen : Option made_reply.RequestReply → List ℕ → SeenAnswer
+answer_seen reply out = reply_and_buffer (reply_of reply) out
 
 -- as the definitions have it: the data is at the front of the buffer
 abbrev pub answer_in_buffer : Outcome → Effect → List ℕ → SeenAnswer
-answer_in_buffer done effect out = answer_seen (reply_to done effect (length done.bytes)) (overwrite_front done.bytes out)
+answer_in_buffer done effect out = reply_and_buffer (reply_to done effect (length done.bytes)) (overwrite_front done.bytes out)
+
+-- a reply with another length
+abbrev pub with_length : RequestReply → ℕ → RequestReply
+with_length r size = record r { length = size }
+
+-- as the code has it: the reply, with the length of the response
+abbrev pub response_seen : Response → List ℕ → SeenAnswer
+response_seen response out = reply_and_buffer (with_length (reply_of response.reply) response.length) out
 
 -- to all nodes or to this one, by the NADR
 abbrev pub addressed_result : Settings → Frame → Request → Outcome → List ℕ → CallResult
@@ -113,7 +169,7 @@ addressed_result settings header i done buffer =
 
 -- the answer with the response of a call, if there is one
 abbrev pub answer_in_response : Outcome → Effect → CallResult → SeenAnswer
-answer_in_response done effect result = answer_seen (reply_to done effect result.length) result.response
+answer_in_response done effect result = reply_and_buffer (reply_to done effect result.length) result.response
 
 -- ---- at the public call
 

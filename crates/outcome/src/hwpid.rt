@@ -6,6 +6,7 @@ use dpa::frame::Frame;
 use dpa::settings::Settings;
 
 // Whether a HWPID is the node's or the wildcard.
+#[tactic(auto, unfolding(crate::specs::Request::hwpid_matches))]
 pub fn hwpid_matches(settings: Settings, hwpid: u16) -> bool
     ensures { result ≡ hwpid_matches settings hwpid }
 {

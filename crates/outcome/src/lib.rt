@@ -3,5 +3,7 @@
 
 pub mod answer;
 pub mod hwpid;
+pub mod memories;
 pub mod refusals;
 pub mod reply;
+pub mod request;

@@ -1,33 +1,32 @@
-// The reply to a request, made from the reply of the peripheral or from the check of a list.
-ghost use Rattle.std.specs.Prelude.{◌≡◌, List, cond, ℕ, eqb};
+// The reply to a request, made from the outcome of the peripheral or from the check of a list.
+ghost use Rattle.std.specs.Prelude.{◌≡◌, ℕ, List};
+ghost use Rattle.dpa.specs.Error.{error_of};
+ghost use Rattle.dpa.specs.Reply.{length_of};
 ghost use Rattle.node.specs.State.{State};
+ghost use Rattle.batch.specs.Seen.{check_seen};
 ghost use Rattle.outcome.specs.Request.{list_request};
-ghost use Rattle.outcome.specs.Seen.{error_only, unanswered_only, peripheral_only, answer_seen, answer_in_buffer};
+ghost use Rattle.outcome.specs.Seen.{report_of, reply_of, error_only, peripheral_only, answer_seen, answer_in_buffer};
 
-use batch::fault;
-use batch::list::ListCheck;
-use dpa::error;
-use dpa::reply::Reply;
+use batch::fault::ListFault;
+use dpa::error::ErrN;
 
-// What a request reports to the caller besides the response: the load mark; why the list of a batch cannot be read, and the place
-// of that fault in PData.
-#[derive(Clone, Copy)]
+// What a request reports to the caller besides the response: the load mark; why and at which place of PData the list of a batch cannot
+// be read.
+#[derive(Clone, Copy, Debug, PartialEq, Eq)]
 pub struct Report {
     pub load: bool,
-    pub reason: u8,
-    pub place: usize,
+    pub fault: Option<ListFault>,
 }
 
 impl Report {
     pub const NONE: Report = Report {
         load: false,
-        reason: fault::NONE,
-        place: 0,
+        fault: None,
     };
 }
 
 // What a request that was answered still has to change.
-#[derive(Clone, Copy)]
+#[derive(Clone, Copy, Debug, PartialEq, Eq)]
 pub enum Effect {
     // Nothing: an error, no answer, or a request that changes nothing.
     Nothing,
@@ -41,86 +40,76 @@ pub enum Effect {
     Selective,
 }
 
-// Whether the request is answered, ErrN, the report, the length of the data or of the response, and what is still to be changed.
-#[derive(Clone, Copy)]
+// The length of the data or the error, the report, and what is still to be changed. A request that is not answered has no reply.
+#[derive(Clone, Copy, Debug, PartialEq, Eq)]
 pub struct RequestReply {
-    pub answered: bool,
-    pub error: u8,
+    pub outcome: Result<usize, ErrN>,
     pub report: Report,
-    pub length: usize,
     pub effect: Effect,
 }
 
-// The reply to an error.
-pub fn error_reply(error: u8) -> RequestReply
-    ensures { result ≡ error_only error }
-{
-    RequestReply {
-        answered: true,
-        error,
-        report: Report::NONE,
-        length: 0,
-        effect: Effect::Nothing,
+// The reply in a response, and the length of the response.
+#[derive(Clone, Copy, Debug, PartialEq, Eq)]
+pub struct Response {
+    pub reply: Option<RequestReply>,
+    pub length: usize,
+}
+
+impl Response {
+    // What the request reports.
+    pub fn report(self) -> Report
+        ensures { report_of result ≡ (reply_of self.reply).report }
+    {
+        self.reply.map_or(Report::NONE, |reply| reply.report)
+    }
+
+    // What is still to be changed.
+    pub fn effect(self) -> Effect
+        ensures { result ≡ (reply_of self.reply).effect }
+    {
+        self.reply.map_or(Effect::Nothing, |reply| reply.effect)
     }
 }
 
-// No answer.
-pub fn unanswered() -> RequestReply
-    ensures { result ≡ unanswered_only }
+// The reply to an error, which has no data; without an error it has none either.
+pub fn error_reply(checked: Result<(), ErrN>) -> RequestReply
+    ensures { reply_of (Some result) ≡ error_only (error_of checked) }
 {
     RequestReply {
-        answered: false,
-        error: error::NONE,
+        outcome: checked.and(Ok(0)),
         report: Report::NONE,
-        length: 0,
         effect: Effect::Nothing,
     }
-}
-
-// An error has no effect.
-fn peripheral_effect(error: u8, effect: Effect) -> Effect
-    ensures { result ≡ cond (eqb error 0) effect Effect.Nothing }
-{
-    if error != error::NONE {
-        return Effect::Nothing;
-    }
-    effect
 }
 
 // The reply of a peripheral, which has nothing to report, with its effect if it succeeds.
-pub fn peripheral_reply(reply: Reply, effect: Effect) -> RequestReply
-    ensures { result ≡ peripheral_only effect reply.error reply.length }
+pub fn peripheral_reply(outcome: Result<usize, ErrN>, effect: Effect) -> RequestReply
+    ensures { reply_of (Some result) ≡ peripheral_only effect (error_of outcome) (length_of outcome) }
 {
     RequestReply {
-        answered: true,
-        error: reply.error,
+        outcome,
         report: Report::NONE,
-        length: reply.length,
-        effect: peripheral_effect(reply.error, effect),
+        effect: outcome.map_or(Effect::Nothing, |_| effect),
     }
 }
 
 // The reply to a batch whose list has this check: a sound list is still to be run, the fault of a broken one is reported.
-pub fn list_reply(check: ListCheck, effect: Effect) -> RequestReply
-    ensures { (list : List ℕ) (st : State) (o : List ℕ) → answer_seen result o ≡ answer_in_buffer (list_request check list st) effect o }
+#[tactic(auto, unfolding(crate::specs::Request::list_request, crate::specs::Effect::on_success))]
+pub fn list_reply(check: Result<(), ListFault>, effect: Effect) -> RequestReply
+    ensures { (list : List ℕ) (st : State) (o : List ℕ) → answer_seen (Some result) o ≡ answer_in_buffer (list_request (check_seen check) list st) effect o }
 {
     match check {
-        ListCheck::Sound => RequestReply {
-            answered: true,
-            error: error::NONE,
+        Ok(()) => RequestReply {
+            outcome: Ok(0),
             report: Report::NONE,
-            length: 0,
             effect,
         },
-        ListCheck::Broken { reason, at } => RequestReply {
-            answered: true,
-            error: error::DATA,
+        Err(fault) => RequestReply {
+            outcome: Err(ErrN::Data),
             report: Report {
                 load: false,
-                reason,
-                place: at,
+                fault: Some(fault),
             },
-            length: 0,
             effect: Effect::Nothing,
         },
     }

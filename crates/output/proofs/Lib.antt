@@ -2,7 +2,8 @@ pub mod Batches
 pub mod Sizes
 pub mod Outputs
 pub mod Remaining
+pub mod RestSteps
 pub mod Progress
-pub mod Spans
+pub mod EntrySpans
 pub mod CompleteOutputs
 pub mod Examples

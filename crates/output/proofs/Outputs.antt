@@ -14,7 +14,7 @@ use Rattle.step.proofs.Faults.{Good}
 use Rattle.entries.specs.Group.{concat}
 use Rattle.entries.specs.Join.{joins, entries_of}
 use Rattle.entries.proofs.Groups.{length_group}
-use Rattle.output.specs.declared.fill.SizeLimits.{SizeLimits}
+use Rattle.output.specs.declared.form.SizeLimits.{SizeLimits}
 use Rattle.output.specs.Requests.{Limits, fits_batch, batches_of, request_with}
 use Rattle.output.specs.Output.{lengths, output, split_by, requests_in, min_output}
 use Rattle.output.specs.Fill.{requests_with}

@@ -1,13 +1,12 @@
 -- What remains to be written while entries are filled into lists, and how the next entry changes it.
 use mathlib.Core.Bool.{true}
 use mathlib.Core.List.{List, [], ◌∷◌, ◌++◌, map, append_assoc, append-nil}
-use mathlib.Core.Path.{◌≡◌, refl, sym, ap, ◌∙◌}
+use mathlib.Core.Path.{◌≡◌, sym, ap, ◌∙◌}
 use Prim.Native.Nat.{ℕ, ◌+◌, ◌≤◌, ◌<◌}
 use native.Mathlib.Omega.{arith}
 use lib.Dec.{leb}
 use lib.ListN.{length, take, drop, length-append}
-use lib.Seq.{drop-drop}
-use borrow.Author.Tests.{le-leb, lt-leb, leb-true}
+use borrow.Author.Tests.{le-leb, leb-true}
 use Rattle.dpa.specs.Lists.{All}
 use Rattle.dpa.proofs.Bool.{by_test, by_cond}
 use Rattle.batch.specs.Batch.{closing_zero, entry_bytes, entries_bytes}
@@ -19,7 +18,7 @@ use Rattle.entries.specs.Join.{entries_of}
 use Rattle.entries.specs.EntrySize.{FirstEntry}
 use Rattle.entries.proofs.Groups.{grow_fits, grow_not_fits}
 use Rattle.entries.proofs.EntryGroups.{EntryGroup, entry_groups, joining_keeps}
-use Rattle.output.specs.Requests.{Limits, joined_entries, list_of, entry_size, empty_list_size, fits_batch, batches_of}
+use Rattle.output.specs.Requests.{Limits, joined_entries, list_of, empty_list_size, fits_batch, batches_of}
 use Rattle.output.specs.Output.{lengths}
 use Rattle.output.specs.Fill.{fits_list, next_size, separator_bytes, length_byte_if_full}
 use Rattle.output.proofs.Sizes.{entries_snoc, list_snoc, list_one}
@@ -80,20 +79,6 @@ module _ (list_max : ℕ) (prefix : List ℕ) (h : ℕ) where
       (λ e. rw (grow_not_fits (fits_batch list_max h) cur r rs e, sym (fits_as cur r) ∙ e, prefixed_length cur, ← (list_one h r))
       (ap (λ (t : List ℕ). (length (list_of h cur) + length prefix) ∷ t) (grow_lengths (r ∷ []) rs)))
 
--- an entry that fits the open list, and one that does not
-module _ (list_max : ℕ) (prefix : List ℕ) (n size pdata : ℕ) where
-  -- nothing separates them
-  pub list_open : size + entry_size pdata ≤ list_max
-      → (separator_bytes list_max prefix size pdata ≡ []) × (length_byte_if_full list_max n size pdata ≡ []) × (next_size list_max size pdata ≡ size + entry_size pdata)
-  unfolding separator_bytes length_byte_if_full next_size
-  list_open h = rw (le-leb (size + entry_size pdata) list_max h) (refl, refl, refl)
-
-  -- the list is ended, and a new one takes the entry
-  pub list_full : list_max < size + entry_size pdata
-      → (separator_bytes list_max prefix size pdata ≡ closing_zero ∷ prefix) × (length_byte_if_full list_max n size pdata ≡ (size + n) ∷ []) × (next_size list_max size pdata ≡ empty_list_size + entry_size pdata)
-  unfolding separator_bytes length_byte_if_full next_size
-  list_full h = rw (lt-leb (size + entry_size pdata) list_max h) (refl, refl, refl)
-
 module _ {entry_max list_max : ℕ} {front : List ℕ} (l : Limits entry_max list_max front) where
   -- a list stays within its limit
   pub next_small : (size pdata : ℕ) → pdata ≤ entry_max → next_size list_max size pdata ≤ list_max
@@ -126,19 +111,15 @@ module _ {entry_max list_max : ℕ} {front : List ℕ} (l : Limits entry_max lis
     requests_lengths =
         ap (λ (bs : List (List (List Step))). lengths (map (with_prefix prefix h) bs)) batches_grow ∙ grow_lengths list_max prefix h [] (entries_of entry_max ss)
 
--- ---- the next entry, of k steps with sz bytes of PData, where step `step` is next
-module _ (entry_max list_max : ℕ) (ss : List Step) (step k sz : ℕ) (f : FirstEntry entry_max (drop step ss) k sz) where
-  -- the groups that remain are its own and the later ones
-  pub entries_next : entries_of entry_max (drop step ss) ≡ take k (drop step ss) ∷ entries_of entry_max (drop (step + k) ss)
-  entries_next = f.first ∙ ap (λ (t : List Step). take k (drop step ss) ∷ entries_of entry_max t) (drop-drop k step ss)
-
+-- ---- the next entry, of k steps with sz bytes of PData, where the steps `rest` are next
+module _ (entry_max list_max : ℕ) {rest : List Step} {k sz : ℕ} (f : FirstEntry entry_max rest k sz) where
   -- the bytes that remain: what separates it from the entry before, its own, the later ones
-  pub bytes_next : (prefix : List ℕ) (h size : ℕ) → remaining_bytes list_max prefix h size (entries_of entry_max (drop step ss))
+  pub bytes_next : (prefix : List ℕ) (h size : ℕ) → remaining_bytes list_max prefix h size (entries_of entry_max rest)
       ≡ separator_bytes list_max prefix size sz
-      ++ (entry_bytes (joined_entry h (take k (drop step ss))) ++ remaining_bytes list_max prefix h (next_size list_max size sz) (entries_of entry_max (drop (step + k) ss)))
-  bytes_next prefix h size = rw (entries_next, f.size_is)
+      ++ (entry_bytes (joined_entry h (take k rest)) ++ remaining_bytes list_max prefix h (next_size list_max size sz) (entries_of entry_max (drop k rest)))
+  bytes_next prefix h size = rw (f.first, f.size_is)
 
   -- the length bytes that remain
-  pub lengths_next : (prefix size : ℕ) → remaining_lengths list_max prefix size (entries_of entry_max (drop step ss))
-      ≡ length_byte_if_full list_max prefix size sz ++ remaining_lengths list_max prefix (next_size list_max size sz) (entries_of entry_max (drop (step + k) ss))
-  lengths_next prefix size = rw (entries_next, f.size_is)
+  pub lengths_next : (prefix size : ℕ) → remaining_lengths list_max prefix size (entries_of entry_max rest)
+      ≡ length_byte_if_full list_max prefix size sz ++ remaining_lengths list_max prefix (next_size list_max size sz) (entries_of entry_max (drop k rest))
+  lengths_next prefix size = rw (f.first, f.size_is)

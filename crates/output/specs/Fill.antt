@@ -1,12 +1,13 @@
 -- What the inner functions of the compiler compute, for any two limits and any bytes in front of a list.
-use Rattle.std.specs.Prelude.{List, map, [], ◌∷◌, ◌++◌, Bool, cond, ◌≡◌, ℕ, ◌+◌, ◌*◌, length, leb}
+use Rattle.std.specs.Prelude.{List, map, [], ◌∷◌, Bool, cond, ℕ, ◌+◌, length, leb}
 use Rattle.dpa.specs.declared.frame.Frame.{Frame}
 use Rattle.batch.specs.Batch.{closing_zero}
 use Rattle.book.specs.declared.step.Step.{Step}
-use Rattle.book.specs.Book.{steps_max}
 use Rattle.entries.specs.Entry.{group_data}
-use Rattle.entries.specs.Join.{entries_of}
-use Rattle.output.specs.declared.fill.SizeLimits.{SizeLimits}
+use Rattle.entries.specs.declared.join.EntrySpan.{EntrySpan}
+use Rattle.output.specs.declared.form.SizeLimits.{SizeLimits}
+use Rattle.output.specs.declared.list.Place.{Place}
+use Rattle.output.specs.declared.list.Place.TheVariants.{Open, Next}
 use Rattle.output.specs.Requests.{request_with, batches_of, entry_size, empty_list_size}
 
 -- the requests of steps within these limits, with this header and these bytes in front of each list
@@ -31,22 +32,13 @@ separator_bytes list_max prefix size pdata = cond (fits_list list_max size pdata
 unfoldable pub length_byte_if_full : (list_max prefix size pdata : ℕ) → List ℕ
 length_byte_if_full list_max prefix size pdata = cond (fits_list list_max size pdata) [] ((size + prefix) ∷ [])
 
+-- where the entry goes, and the size of that list with it
+unfoldable pub place_for : (list_max size pdata : ℕ) → Place
+place_for list_max size pdata = cond (fits_list list_max size pdata) (Open (size + entry_size pdata)) (Next (empty_list_size + entry_size pdata))
+
 -- ---- spans: what the first pass keeps about each entry for the second, its number of steps and the size of its PData
 
--- size of a span
-abbrev pub span_length : ℕ
-span_length = 2
-
 -- the spans of the entries of these groups
-abbrev pub span_bytes : List (List Step) → List ℕ
-span_bytes [] = []
-span_bytes (group ∷ groups) = length group ∷ length (group_data group) ∷ span_bytes groups
-
--- room for the spans of a scene: it has no more entries than steps
-abbrev pub max_span_bytes : ℕ
-max_span_bytes = span_length * steps_max
-
--- the bytes start with the spans of these steps' entries
-pub record StartsWithSpans (entry_max : ℕ) (ss : List Step) (bytes : List ℕ) : Type 0 where
-  pub unused : List ℕ
-  pub starts : bytes ≡ span_bytes (entries_of entry_max ss) ++ unused
+abbrev pub spans_of : List (List Step) → List EntrySpan
+spans_of [] = []
+spans_of (group ∷ groups) = record { steps = length group; size = length (group_data group) } ∷ spans_of groups

@@ -1,3 +1,4 @@
 pub mod Requests
 pub mod Output
 pub mod Fill
+pub mod Form

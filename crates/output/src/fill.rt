@@ -1,106 +1,38 @@
-// Fills entries into lists: the first pass, which writes the length bytes of the requests.
-ghost use Rattle.std.specs.Prelude.{◌≡◌, ◌+◌, ◌*◌, ◌≤◌, length};
-ghost use Rattle.std.proofs.lemmas.List.Edits.{sets};
+// The first pass: joins steps into entries, fills these into lists, and writes the length bytes of the requests.
+ghost use Rattle.std.specs.Prelude.{◌≡◌, length};
 ghost use Rattle.dpa.specs.declared.frame.Frame.{Frame};
-ghost use Rattle.dpa.specs.Frame.{pdata_max, longest_frame};
-ghost use Rattle.book.specs.Book.{steps_max, step_length, steps_in};
-ghost use Rattle.step.specs.Step.{AllStepsGood};
-ghost use Rattle.output.specs.Requests.{Limits};
+ghost use Rattle.book.specs.Steps.{steps_of};
+ghost use Rattle.entries.specs.Join.{entries_of};
+ghost use Rattle.entries.specs.Writer.{HasRoom, Writes};
 ghost use Rattle.output.specs.Output.{lengths};
-ghost use Rattle.output.specs.Fill.{requests_with, next_size, length_byte_if_full, max_span_bytes, StartsWithSpans};
+ghost use Rattle.output.specs.Fill.{spans_of};
+ghost use Rattle.output.specs.Form.{requests_for};
 
-use batch::entry::HEAD_SIZE;
-use book::step::STEPS_MAX;
-use dpa::frame::Frame;
-use entries::join::entry_from;
+use crate::form::{GoodSteps, RequestForm};
+use crate::list::{EMPTY_LIST_SIZE, next_length};
+use crate::spans::Spans;
+use entries::join::first_entry;
+use entries::write::Writer;
 
-// Maximum size of an entry's PData, and of a list with its closing zero.
-#[derive(Clone, Copy)]
-pub struct SizeLimits {
-    pub entry: usize,
-    pub list: usize,
-}
-
-// Size of a list without entries: its closing zero.
-pub const EMPTY_LIST_SIZE: usize = 1;
-
-// The list that the next entry goes into: where its next byte is written, and its size with the closing zero.
-#[derive(Clone, Copy)]
-pub struct OpenList {
-    pub at: usize,
-    pub size: usize,
-}
-
-// Size of a span: an entry's number of steps, and the size of its PData.
-pub const SPAN_LENGTH: usize = 2;
-
-// Room for the spans of a scene: it has no more entries than steps.
-pub const MAX_SPAN_BYTES: usize = SPAN_LENGTH * STEPS_MAX;
-
-// Writes the length byte of the open list's request if an entry with `pdata` bytes of PData does not fit the list.
-// A request has `prefix` bytes before its list.
-fn next_length(
-    limit: usize,
-    prefix: usize,
-    size: usize,
-    pdata: usize,
-    out: &mut [u8],
-    at: usize,
-) -> OpenList
-    requires { (size ≤ limit) × (pdata ≤ pdata_max) × (prefix + limit ≤ longest_frame) × (at + length (length_byte_if_full limit prefix size pdata) ≤ length out.old) }
-    ensures { (result.at ≡ at + length (length_byte_if_full limit prefix size pdata)) × (result.size ≡ next_size limit size pdata)
-        × (out.new ≡ sets out.old at (length_byte_if_full limit prefix size pdata)) }
+// Writes one length byte for each request. Returns the span of each entry, so that the second pass need not join the steps again.
+pub fn write_lengths(steps: GoodSteps, form: RequestForm, out: &mut Writer) -> Spans
+    requires { (header : Frame) → HasRoom out.old (length (requests_for (record form { header = header }) (steps_of steps.steps))) }
+    ensures lengths { (header : Frame) → Writes out.old out.new (lengths (requests_for (record form.entry { header = header }) (steps_of steps.entry.steps))) }
+    ensures spans { result ≡ spans_of (entries_of form.entry.limits.entry (steps_of steps.entry.steps)) }
 {
-    let entry = HEAD_SIZE + pdata;
-    if size + entry <= limit {
-        return OpenList {
-            at,
-            size: size + entry,
-        };
+    let mut spans = Spans::new();
+    if steps.steps.count == 0 {
+        return spans;
     }
-    out[at] = (size + prefix) as u8;
-    OpenList {
-        at: at + 1,
-        size: EMPTY_LIST_SIZE + entry,
-    }
-}
-
-// Writes one length byte for each request, and the span of each entry, so that the second pass need not join the steps again.
-// Returns the position after the length bytes.
-pub fn write_lengths(
-    body: &[u8],
-    count: usize,
-    limits: SizeLimits,
-    front: &[u8],
-    spans: &mut [u8],
-    out: &mut [u8],
-    at: usize,
-) -> usize
-    requires { (step_length * count ≤ length body.now) × (count ≤ steps_max) × AllStepsGood body.now count × Limits limits.entry limits.list front.now
-        × (max_span_bytes ≤ length spans.old)
-        × ((header : Frame) → at + length (requests_with limits header front.now (steps_in count body.now)) ≤ length out.old) }
-    ensures { ((header : Frame) → (result ≡ at + length (requests_with limits header front.now (steps_in count body.now)))
-        × (out.new ≡ sets out.old at (lengths (requests_with limits header front.now (steps_in count body.now)))))
-        × StartsWithSpans limits.entry (steps_in count body.now) spans.new }
-{
-    if count == 0 {
-        return at;
-    }
-    let prefix = Frame::HEADER + front.len();
-    let mut step: usize = 0;
+    let mut rest = steps;
     let mut size = EMPTY_LIST_SIZE;
-    let mut end = at;
-    let mut index: usize = 0;
-    while step < count {
-        let span = entry_from(body, count, step, limits.entry);
-        spans[index] = span.steps as u8;
-        spans[index + 1] = span.size as u8;
-        index = index + SPAN_LENGTH;
-        let list = next_length(limits.list, prefix, size, span.size, out, end);
-        size = list.size;
-        end = list.at;
-        step = step + span.steps;
+    // No index is counted: each turn takes as many steps as the entry has.
+    while 0 < rest.steps.count {
+        let span = first_entry(rest.steps, form.limits.entry);
+        spans.push(span);
+        size = next_length(form, size, usize::from(span.size), out);
+        rest = rest.after(usize::from(span.steps));
     }
-    out[end] = (size + prefix) as u8;
-    end + 1
+    out.write_byte(form.length_byte(size));
+    spans
 }

@@ -2,4 +2,7 @@
 #![tactic(auto)]
 
 pub mod fill;
+pub mod form;
+pub mod list;
 pub mod request;
+pub mod spans;

@@ -9,14 +9,18 @@ use lib.ListN.{length, get_or, take, drop, set, replicate, length-append, length
 use lib.Seq.{take-append_seam, take-append-le, take-suc-set, length-take-le, get_or-take, get_or-set_same, get_or-set_other}
 use lib.Dec.{eqb, ltb, leb}
 use borrow.Author.Tests.{eqb-true, eqb-false, ltb-true, ltb-false, le-ltb, leb-true}
-use Rattle.dpa.specs.Answer.{result_in_buffer}
+use Rattle.std.specs.Prelude.{Result, Ok, Err, IsOk}
+use Rattle.dpa.specs.Answer.{LengthResult, length_answer, length_result, result_in_buffer}
+use Rattle.dpa.specs.Refusal.{refusal_number}
+use Rattle.dpa.specs.declared.refusal.Refusal.{Refusal}
 use Rattle.dpa.specs.Frame.{header_size, longest_frame, longest_response, pdata_max, pdata_of, frame_fits}
 use Rattle.dpa.specs.Settings.{address_ok}
 use Rattle.dpa.proofs.Bool.{and_left, and_right, by_test}
 use Rattle.dpa.proofs.Headers.{fits_sizes}
 use Rattle.timing.specs.declared.slot.Network.{Network}
 use Rattle.timing.specs.Confirm.{confirm_of}
-use Rattle.timing.specs.Slot.{wait_max, send_of}
+use Rattle.timing.specs.declared.slot.SendAnswer.{SendAnswer}
+use Rattle.timing.specs.Slot.{wait_max, send_answer, send_answer_of, send_of}
 use Rattle.timing.proofs.Confirmations as Confirmations
 use Rattle.timing.proofs.Slots.{earliest_max}
 use Rattle.queue.specs.declared.record.Waiting.{Waiting}
@@ -92,6 +96,19 @@ place_rule r e a h b d =
       address = ap address_ok n ∙ a;
     }
 
+-- no refusal has the number of a call that is not refused
+pub numbered : (e : Refusal) → refusal_number e ≡ 0 → ⊥
+numbered e z = grind arith
+
+-- `earliest_send` takes lengths that fit a frame
+pub earliest_ok : (h n d b m : ℕ) (net : Network) (all : Bool) (s : Result ℕ Refusal) → n ≤ pdata_max → m ≤ pdata_max
+    → send_answer_of s ≡ send_of h n d b m net all → IsOk s
+unfolding send_of
+earliest_ok h n d b m net all (Ok x) p q e = refl
+earliest_ok h n d b m net all (Err x) p q e =
+    let taken : (send_of h n d b m net all).refusal ≡ 0 = rw (le-ltb pdata_max n p, le-ltb pdata_max m q) in
+    absurd (numbered x (ap (λ (a : SendAnswer). a.refusal) e ∙ taken))
+
 -- a request that waits
 module _ (w : Waiting) (r : WaitingRule w) where
   sizes : (header_size ≤ w.length) × (w.length ≤ longest_frame)
@@ -116,7 +133,7 @@ module _ (w : Waiting) (r : WaitingRule w) where
 
   -- it is what `earliest_send` answers
   pub wait_answered : (net : Network) (n : ℕ) (b : Bool) → n ≡ w.length - header_size → b ≡ is_broadcast w.frame
-      → (send_of w.hops n w.delay w.response_hops pdata_max net b).milliseconds ≡ wait_after net (request_in w)
+      → send_of w.hops n w.delay w.response_hops pdata_max net b ≡ send_answer 0 (wait_after net (request_in w))
   unfolding send_of wait_after
   wait_answered net n b en eb =
       let l : length (pdata_of (request_in w).frame) ≡ n = length-drop header_size (request_in w).frame ∙ omega (arith, same_length) in
@@ -130,6 +147,16 @@ module _ (w : Waiting) (r : WaitingRule w) where
   waiting_confirmed net dpa_value n o e room =
       ap (λ (k : ℕ). confirm_of (take k w.frame) dpa_value w.hops w.response_hops net o) e
       ∙ Confirmations.confirmation_given (request_in w).frame dpa_value w.hops w.response_hops net o (ap frame_fits same_length ∙ r.fits) room
+
+  -- no hops make it refuse the frame
+  pub confirmation_ok : (net : Network) (dpa_value n h b : ℕ) (o new : List ℕ) (s : Result ℕ Refusal) → n ≡ w.length → longest_response ≤ length o
+      → length_result (length_answer s) new ≡ confirm_of (take n w.frame) dpa_value h b net o → IsOk s
+  confirmation_ok net dpa_value n h b o new (Ok x) e room k = refl
+  confirmation_ok net dpa_value n h b o new (Err x) e room k =
+      let given =
+      ap (λ (j : ℕ). confirm_of (take j w.frame) dpa_value h b net o) e
+      ∙ Confirmations.confirmation_given (request_in w).frame dpa_value h b net o (ap frame_fits same_length ∙ r.fits) room in
+      absurd (numbered x (ap (λ (a : LengthResult). a.refusal) (k ∙ given)))
 
 module _ (q : SendQueue) (f : QueueRule q) where
   -- every place from the count on is empty

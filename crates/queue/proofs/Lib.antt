@@ -2,4 +2,3 @@ pub mod Changes
 pub mod Examples
 pub mod PlaceTests
 pub mod Rules
-pub mod Shifts

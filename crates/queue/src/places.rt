@@ -1,15 +1,15 @@
 // The places of a queue, and their rule.
-ghost use Rattle.std.specs.Prelude.{◌≡◌, true, cond, ◌&&◌, ◌++◌, ◌∷◌, [], length, drop};
+ghost use Rattle.std.specs.Prelude.{◌≡◌, true, ◌++◌, ◌∷◌, [], length, drop};
 ghost use Rattle.dpa.specs.Frame.{frame_fits};
-ghost use Rattle.queue.specs.Queue.{outgoing, placed, empty_place, all_zero, widths_ok, waiting_ok, empty_ok, places_ok};
+ghost use Rattle.queue.specs.Queue.{outgoing, placed, empty_place, all_zero, place_ok, places_ok};
 
 use crate::record::{QUEUE_SIZE, Waiting};
 use dpa::copy::copy;
 use dpa::frame::Frame;
-use dpa::number::wide;
 use dpa::settings::address_ok;
 
 // A request in its place.
+#[tactic(auto, using(dpa::proofs::Headers::fits_sizes))]
 pub fn placed(frame: &[u8], hops: u8, response_hops: u8, delay: u16) -> Waiting
     requires { frame_fits (length frame.now) ≡ true }
     ensures { result ≡ placed (outgoing frame.now hops response_hops delay) }
@@ -37,46 +37,34 @@ pub fn empty_place() -> Waiting
     }
 }
 
-// Returns whether all bytes from a place on are 0. The loop has no early exit, so that it can be vectorized.
-fn zeros_from(bytes: &[u8], start: usize) -> bool
-    ensures { result ≡ all_zero (drop start bytes.now) }
+// Returns whether all bytes are 0. There is no early exit, so that the loop can be vectorized.
+fn all_zero(bytes: &[u8]) -> bool
+    ensures { result ≡ all_zero bytes.now }
 {
-    let mut ok = true;
-    let mut i = start;
-    while i < bytes.len() {
-        ok = ok & (bytes[i] == 0);
-        i = i + 1;
-    }
-    ok
+    bytes.iter().fold(true, |ok, byte| ok & (*byte == 0))
 }
 
-// Returns whether a place follows the rule for one with a request, or for one without, which is all zero.
-fn place_ok(filled: bool, waiting: Waiting) -> bool
-    ensures { result ≡ (widths_ok waiting && cond filled (waiting_ok waiting) (empty_ok waiting)) }
+// Returns whether place k follows the rule: below the count for one with a request, otherwise for one without, which is all zero.
+fn place_ok(count: usize, k: usize, waiting: &Waiting) -> bool
+    ensures { result ≡ place_ok count k waiting.now }
 {
-    let frame = waiting.frame;
-    let size = wide(waiting.length);
-    let zeros = zeros_from(&frame, size);
-    if filled {
-        let header = Frame::read(&frame);
+    let size = usize::from(waiting.length);
+    let zeros = all_zero(&waiting.frame[size.min(Frame::LONGEST)..]);
+    if k < count {
+        let header = Frame::read(&waiting.frame);
         return Frame::fits(size) & address_ok(header.nadr) & zeros;
     }
     (size == 0) & (waiting.delay == 0) & (waiting.hops == 0) & (waiting.response_hops == 0) & zeros
 }
 
-// Returns whether each place follows the rule: requests below the count, zeros from there on.
-pub fn places_ok(count: usize, places: [Waiting; QUEUE_SIZE]) -> bool
-    ensures { result ≡ places_ok count places }
+// Returns whether each place follows the rule.
+pub fn places_ok(count: usize, places: &[Waiting; QUEUE_SIZE]) -> bool
+    ensures { result ≡ places_ok count places.now }
 {
-    let mut i: usize = 0;
-    while i < QUEUE_SIZE {
-        let place = places[i];
-        if !place_ok(i < count, place) {
-            return false;
-        }
-        i = i + 1;
-    }
-    true
+    places
+        .iter()
+        .enumerate()
+        .all(|(k, place)| place_ok(count, k, place))
 }
 
 // The places without the first: the others move down, and an empty place follows.
@@ -84,12 +72,7 @@ pub fn moved_down(places: [Waiting; QUEUE_SIZE]) -> [Waiting; QUEUE_SIZE]
     ensures { result ≡ drop 1 places ++ (empty_place ∷ []) }
 {
     let mut moved = places;
-    let mut i: usize = 0;
-    while i < QUEUE_SIZE - 1 {
-        let next = places[i + 1];
-        moved[i] = next;
-        i = i + 1;
-    }
+    moved.copy_within(1.., 0);
     moved[QUEUE_SIZE - 1] = empty_place();
     moved
 }

@@ -4,7 +4,8 @@ use dpa::frame::Frame;
 // Requests that a queue can hold.
 pub const QUEUE_SIZE: usize = 8;
 
-// A request in the queue; the fields are in the order of the C header. The frame has zeros from `length` on.
+// A request in the queue. The frame has zeros from `length` on.
+// C interface (`grelfint_waiting`): the fields and their order, so the frame has its length beside it.
 #[repr(C)]
 #[derive(Clone, Copy)]
 pub struct Waiting {
@@ -17,6 +18,7 @@ pub struct Waiting {
 
 // The oldest request is places[0]; places from the count on are zero. Times are in ms: `last` is the last time that was given and not
 // refused, `next` the earliest time of the next release.
+// C interface (`grelfint_send_queue`): the fields, so the network type is a number, and the places have their count beside them.
 #[repr(C)]
 #[derive(Clone, Copy)]
 pub struct SendQueue {

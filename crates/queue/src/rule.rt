@@ -1,64 +1,69 @@
 // The rule of a queue, and the tests of a call.
 ghost use Rattle.std.specs.Prelude.{◌≡◌, eqb};
-ghost use Rattle.queue.specs.Queue.{queue_size, queue_ok, clock_ok, due};
+ghost use Rattle.queue.specs.Queue.{queue_size, queue_ok, network_in, clock_ok, due};
 
 use crate::places::places_ok;
 use crate::record::{QUEUE_SIZE, SendQueue};
-use dpa::number::wide;
-use timing::slot::WAIT_MAX;
-
-// The network types in a record.
-pub const STD: u8 = 0;
-
-pub const STD_LP: u8 = 1;
+use timing::slot::{Network, WAIT_MAX};
 
 // The latest time that can be given, in ms: 2^40.
 pub const TIME_MAX: u64 = 0x100_0000_0000;
 
-// Returns whether a queue follows its rule.
-pub fn queue_ok(queue: SendQueue) -> bool
-    ensures { result ≡ queue_ok queue }
-{
-    if STD_LP < queue.network {
-        return false;
+impl SendQueue {
+    // Returns whether the record follows the rule.
+    #[tactic(auto, unfolding(crate::specs::Queue::queue_ok))]
+    pub fn is_sound(&self) -> bool
+        ensures { result ≡ queue_ok self.now }
+    {
+        if self.network > Network::StdLp as u8 {
+            return false;
+        }
+        let count = usize::from(self.count);
+        if QUEUE_SIZE < count {
+            return false;
+        }
+        if !places_ok(count, &self.places) {
+            return false;
+        }
+        if TIME_MAX < self.last {
+            return false;
+        }
+        self.next <= self.last + WAIT_MAX
     }
-    let count = wide(queue.count);
-    if QUEUE_SIZE < count {
-        return false;
-    }
-    let places = queue.places;
-    if !places_ok(count, places) {
-        return false;
-    }
-    if TIME_MAX < queue.last {
-        return false;
-    }
-    queue.next <= queue.last + WAIT_MAX
-}
 
-// Returns whether a queue with this count has no free place.
-pub fn is_full(count: u8) -> bool
-    ensures { result ≡ eqb count queue_size }
-{
-    wide(count) == QUEUE_SIZE
-}
-
-// Returns whether a time is neither before the last one nor too late.
-pub fn clock_ok(last: u64, time: u64) -> bool
-    ensures { result ≡ clock_ok last time }
-{
-    if time < last {
-        return false;
+    // The network type; any other byte than that of STD+LP is taken as STD.
+    pub fn network_type(&self) -> Network
+        ensures { result ≡ network_in self.now }
+    {
+        Network::from(self.network == Network::StdLp as u8)
     }
-    time <= TIME_MAX
-}
 
-// Returns whether a release releases: a request waits, and the time is not before the next one.
-pub fn due(count: u8, next: u64, time: u64) -> bool
-    ensures { result ≡ due count next time }
-{
-    if count == 0 {
-        return false;
+    // Returns whether there is no free place.
+    pub fn is_full(&self) -> bool
+        ensures { result ≡ eqb self.now.count queue_size }
+    {
+        usize::from(self.count) == QUEUE_SIZE
     }
-    next <= time
+
+    // Returns whether a time is neither before the last one nor too late.
+    #[tactic(auto, unfolding(crate::specs::Queue::clock_ok))]
+    pub fn clock_ok(&self, time: u64) -> bool
+        ensures { result ≡ clock_ok self.now.last time }
+    {
+        if time < self.last {
+            return false;
+        }
+        time <= TIME_MAX
+    }
+
+    // Returns whether a release releases: a request waits, and the time is not before the next one.
+    #[tactic(auto, unfolding(crate::specs::Queue::due))]
+    pub fn is_due(&self, time: u64) -> bool
+        ensures { result ≡ due self.now.count self.now.next time }
+    {
+        if self.count == 0 {
+            return false;
+        }
+        self.next <= time
+    }
 }

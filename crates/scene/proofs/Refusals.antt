@@ -18,9 +18,7 @@ use Rattle.dpa.proofs.Bool.{and_left, and_right, by_cond, by_test}
 use Rattle.dpa.proofs.All.{all_weaken}
 use Rattle.book.specs.declared.step.Step.{Step}
 use Rattle.book.specs.Book.{scene_count, book_ok, scene_of}
-use Rattle.step.specs.declared.fault.StepsCheck.{StepsCheck}
-use Rattle.step.specs.declared.fault.StepsCheck.TheVariants.{AllGood, Bad}
-use Rattle.step.specs.Step.{step_fault, good_step, first_bad_from}
+use Rattle.step.specs.Step.{StepsCheck, AllGood, Bad, step_fault, good_step, first_bad_from}
 use Rattle.step.proofs.Faults.{Good, no_bad, fault_range}
 use Rattle.output.specs.Requests.{scene_requests, selected_requests}
 use Rattle.output.specs.Output.{output, CompleteOutput, min_output}

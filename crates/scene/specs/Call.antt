@@ -5,9 +5,7 @@ use Rattle.dpa.specs.NodeSet.{node_set_ok}
 use Rattle.dpa.specs.Settings.{address_ok}
 use Rattle.book.specs.declared.step.Step.{Step}
 use Rattle.book.specs.Book.{scene_count, book_ok, scene_of}
-use Rattle.step.specs.declared.fault.StepsCheck.{StepsCheck}
-use Rattle.step.specs.declared.fault.StepsCheck.TheVariants.{AllGood, Bad}
-use Rattle.step.specs.Step.{first_bad_from}
+use Rattle.step.specs.Step.{StepsCheck, AllGood, Bad, first_bad_from}
 use Rattle.output.specs.Requests.{scene_requests, selected_requests}
 use Rattle.output.specs.Output.{output, min_output}
 use Rattle.scene.specs.declared.compile.CompileAnswer.{CompileAnswer}

@@ -1,40 +1,95 @@
 // Compiles a scene of a book into batch requests to an address, or into selective batch requests to the nodes of a set.
-ghost use Rattle.std.specs.Prelude.{◌≡◌, ◌*◌, ◌≤◌, length};
+ghost use Rattle.std.specs.Prelude.{◌≡◌, IfErr};
 ghost use Rattle.dpa.specs.Frame.{any_hwpid};
-ghost use Rattle.book.specs.Book.{steps_max, step_length, steps_in};
+ghost use Rattle.book.specs.Steps.{steps_of};
 ghost use Rattle.step.specs.Step.{first_bad_from};
-ghost use Rattle.output.specs.Requests.{Limits};
-ghost use Rattle.output.specs.Fill.{requests_with};
+ghost use Rattle.output.specs.Form.{requests_for};
 ghost use Rattle.scene.specs.Call.{compile_steps, compile_scene, compile_for, compile_selected, compile_result};
+ghost use Rattle.scene.specs.Answer.{compile_answer, NamesStep};
 
 use batch::list::BATCH;
 use batch::selective::SELECTIVE_BATCH;
-use book::check::{BookCheck, check_book};
-use book::locations::scene_location;
+use book::check::{BookFault, check_book};
+use book::locations::scene_steps;
+use book::step::Steps;
 use dpa::frame::Frame;
 use dpa::node_set::{NodeSet, node_set_ok};
-use dpa::number::wide;
+use dpa::pnum;
+use dpa::refusal::{self, Refusal};
 use dpa::settings::address_ok;
-use dpa::{pnum, refusal};
-use output::fill::SizeLimits;
+use output::form::{GoodSteps, RequestForm, SizeLimits};
 use output::request::write_output;
-use step::fault::{StepsCheck, check_steps};
+use step::fault::{BadStep, check_steps};
 
-// Maximum size of the PData of a batch entry.
-const ENTRY_LIMIT: usize = 50;
+// The limits of a batch. Its list is the PData of its request.
+const BATCH_LIMITS: SizeLimits = SizeLimits {
+    entry: 50,
+    list: Frame::PDATA_MAX,
+};
 
-// Maximum size of a batch's list: it is the PData of its request.
-const LIST_LIMIT: usize = Frame::PDATA_MAX;
-
-// The same two for a selective batch, whose PData also has the node set.
-const SELECTED_ENTRY_LIMIT: usize = 20;
-
-const SELECTED_LIST_LIMIT: usize = 26;
+// The limits of a selective batch, whose PData also has the node set.
+const SELECTED_LIMITS: SizeLimits = SizeLimits {
+    entry: 20,
+    list: 26,
+};
 
 // Minimum size of the output buffer: every output fits.
 pub const MIN_OUTPUT: usize = 4096;
 
-// `step` is the number of the bad step with refusals 81 to 84, and 0 otherwise. `length` is the size of the output, 0 if refused.
+// Why a scene is not compiled.
+#[derive(Clone, Copy, Debug, PartialEq, Eq)]
+pub enum CompileError {
+    Refused(Refusal),
+    // Its first bad step.
+    Step(BadStep),
+}
+
+impl From<Refusal> for CompileError {
+    ghost use Rattle.scene.specs.declared.compile.CompileError.TheVariants.{Refused};
+
+    ghost from_gives = { λ refusal error. error ≡ Refused refusal };
+
+    fn from(refusal: Refusal) -> Self {
+        Self::Refused(refusal)
+    }
+}
+
+impl From<BookFault> for CompileError {
+    ghost use Rattle.dpa.specs.declared.refusal.Refusal.TheVariants.{Book};
+    ghost use Rattle.scene.specs.declared.compile.CompileError.TheVariants.{Refused};
+
+    ghost from_gives = { λ fault error. error ≡ Refused Book };
+
+    fn from(_fault: BookFault) -> Self {
+        Self::Refused(Refusal::Book)
+    }
+}
+
+impl From<BadStep> for CompileError {
+    ghost use Rattle.scene.specs.declared.compile.CompileError.TheVariants.{Step};
+
+    ghost from_gives = { λ bad error. error ≡ Step bad };
+
+    fn from(bad: BadStep) -> Self {
+        Self::Step(bad)
+    }
+}
+
+impl CompileError {
+    ghost use Rattle.scene.specs.Answer.{refusal_in};
+
+    pub fn refusal(self) -> Refusal
+        ensures { result ≡ refusal_in self }
+    {
+        match self {
+            CompileError::Refused(refusal) => refusal,
+            CompileError::Step(bad) => bad.refusal,
+        }
+    }
+}
+
+// What C gets: numbers, with 0 where there is nothing to say. `step` is the number of the bad step with refusals 81 to 84. `length` is the
+// size of the output.
 #[repr(C)]
 #[derive(Clone, Copy)]
 pub struct CompileAnswer {
@@ -43,133 +98,143 @@ pub struct CompileAnswer {
     pub length: usize,
 }
 
-// A refusal: nothing was written.
-fn refused(refusal: u8, step: u8) -> CompileAnswer
-    ensures { result ≡ record { refusal = refusal; step = step; length = 0 } }
-{
-    CompileAnswer {
-        refusal,
-        step,
-        length: 0,
+impl From<Result<usize, CompileError>> for CompileAnswer {
+    ghost from_gives = { λ outcome answer. answer ≡ compile_answer outcome };
+
+    fn from(outcome: Result<usize, CompileError>) -> Self {
+        match outcome {
+            Ok(length) => CompileAnswer {
+                refusal: refusal::NONE,
+                step: 0,
+                length,
+            },
+            Err(CompileError::Refused(refusal)) => CompileAnswer {
+                refusal: u8::from(refusal),
+                step: 0,
+                length: 0,
+            },
+            Err(CompileError::Step(bad)) => CompileAnswer {
+                refusal: u8::from(bad.refusal),
+                step: bad.step,
+                length: 0,
+            },
+        }
     }
 }
 
 // Compiles the steps of a scene. A bad step is refused before a buffer that is too small.
-fn compile_steps(
-    body: &[u8],
-    count: usize,
-    limits: SizeLimits,
-    header: Frame,
-    front: &[u8],
-    out: &mut [u8],
-) -> CompileAnswer
-    requires { (step_length * count ≤ length body.now) × (count ≤ steps_max) × Limits limits.entry limits.list front.now }
-    ensures { compile_result result out.new
-        ≡ compile_steps (first_bad_from 0 (steps_in count body.now)) (requests_with limits header front.now (steps_in count body.now))
-        out.old }
+#[tactic(auto, using(step::proofs::GoodSteps::good_index))]
+fn compile_steps(steps: Steps, form: RequestForm, out: &mut [u8]) -> Result<usize, CompileError>
+    ensures answer { compile_result (compile_answer result) out.new
+        ≡ compile_steps (first_bad_from 0 (steps_of steps.entry)) (requests_for form.entry (steps_of steps.entry)) out.old }
+    ensures error { IfErr result NamesStep }
 {
-    if let StepsCheck::Bad { step, refusal } = check_steps(body, count) {
-        return refused(refusal, step);
-    }
+    check_steps(steps)?;
     if out.len() < MIN_OUTPUT {
-        return refused(refusal::OUTPUT, 0);
+        return Err(Refusal::Output.into());
     }
-    let length = write_output(body, count, limits, header, front, out);
-    CompileAnswer {
-        refusal: refusal::NONE,
-        step: 0,
-        length,
-    }
+    Ok(write_output(GoodSteps { steps }, form, out))
 }
 
-// Compiles a scene within limits, into requests with this header and these bytes in front of each list.
+// Compiles a scene into requests of this form.
+#[tactic(auto, using(crate::proofs::Calls::no_book, crate::proofs::Calls::no_scene, book::proofs::Checks::sound_book, book::proofs::Books::book_facts))]
 fn compile_scene(
     book: &[u8],
     scene: usize,
-    limits: SizeLimits,
-    header: Frame,
-    front: &[u8],
+    form: RequestForm,
     out: &mut [u8],
-) -> CompileAnswer
-    requires { Limits limits.entry limits.list front.now }
-    ensures { compile_result result out.new
-        ≡ compile_scene book.now scene (requests_with limits header front.now) out.old }
+) -> Result<usize, CompileError>
+    ensures answer { compile_result (compile_answer result) out.new ≡ compile_scene book.now scene (requests_for form.entry) out.old }
+    ensures error { IfErr result NamesStep }
 {
-    let BookCheck::Sound = check_book(book) else {
-        return refused(refusal::BOOK, 0);
-    };
-    let scenes = wide(book[0]);
-    if scenes <= scene {
-        return refused(refusal::SCENE, 0);
+    check_book(book)?;
+    if usize::from(book[0]) <= scene {
+        return Err(Refusal::Scene.into());
     }
-    let location = scene_location(book, scene);
-    let start = location.offset;
-    let count = location.steps;
-    compile_steps(&book[start..], count, limits, header, front, out)
+    compile_steps(scene_steps(book, scene), form, out)
 }
 
-// Compiles a scene into batches for an address and a hardware profile.
-pub fn compile(book: &[u8], scene: usize, address: u16, hwpid: u16, out: &mut [u8]) -> CompileAnswer
-    ensures { compile_result result out.new ≡ compile_for book.now scene address hwpid out.old }
+// Compiles a scene into batches for an address and a hardware profile. Book, scene and buffer come one by one, as C gives them
+// (grelfint_compile).
+#[tactic(auto, unfolding(crate::specs::Call::compile_to))]
+pub fn compile(
+    book: &[u8],
+    scene: usize,
+    address: u16,
+    hwpid: u16,
+    out: &mut [u8],
+) -> Result<usize, CompileError>
+    ensures answer { compile_result (compile_answer result) out.new ≡ compile_for book.now scene address hwpid out.old }
+    ensures error { IfErr result NamesStep }
 {
     if !address_ok(address) {
-        return refused(refusal::NODE, 0);
+        return Err(Refusal::Node.into());
     }
-    let limits = SizeLimits {
-        entry: ENTRY_LIMIT,
-        list: LIST_LIMIT,
+    let form = RequestForm {
+        limits: BATCH_LIMITS,
+        header: Frame {
+            nadr: address,
+            pnum: pnum::OS,
+            pcmd: BATCH,
+            hwpid,
+        },
+        front: &[],
     };
-    let header = Frame {
-        nadr: address,
-        pnum: pnum::OS,
-        pcmd: BATCH,
-        hwpid,
-    };
-    compile_scene(book, scene, limits, header, &[], out)
+    compile_scene(book, scene, form, out)
 }
 
-// Compiles for the hardware profile that every node accepts.
-pub fn compile_default(book: &[u8], scene: usize, address: u16, out: &mut [u8]) -> CompileAnswer
-    ensures { compile_result result out.new ≡ compile_for book.now scene address any_hwpid out.old }
+// Compiles for the hardware profile that every node accepts: a call of its own for C (`grelfint_compile_default`), which has no
+// optional argument.
+pub fn compile_default(
+    book: &[u8],
+    scene: usize,
+    address: u16,
+    out: &mut [u8],
+) -> Result<usize, CompileError>
+    ensures answer { compile_result (compile_answer result) out.new ≡ compile_for book.now scene address any_hwpid out.old }
+    ensures error { IfErr result NamesStep }
 {
     compile(book, scene, address, Frame::ANY_HWPID, out)
 }
 
 // Compiles a scene into selective batches for the nodes of a set and a hardware profile.
+#[tactic(auto, unfolding(crate::specs::Call::compile_to))]
 pub fn compile_selected(
     book: &[u8],
     scene: usize,
     nodes: NodeSet,
     hwpid: u16,
     out: &mut [u8],
-) -> CompileAnswer
-    ensures { compile_result result out.new ≡ compile_selected book.now scene nodes.bits hwpid out.old }
+) -> Result<usize, CompileError>
+    ensures answer { compile_result (compile_answer result) out.new ≡ compile_selected book.now scene nodes.bits hwpid out.old }
+    ensures error { IfErr result NamesStep }
 {
     if !node_set_ok(nodes) {
-        return refused(refusal::NODE, 0);
+        return Err(Refusal::Node.into());
     }
-    let limits = SizeLimits {
-        entry: SELECTED_ENTRY_LIMIT,
-        list: SELECTED_LIST_LIMIT,
-    };
-    let header = Frame {
-        nadr: Frame::BROADCAST,
-        pnum: pnum::OS,
-        pcmd: SELECTIVE_BATCH,
-        hwpid,
-    };
     let bits = nodes.bits;
-    compile_scene(book, scene, limits, header, &bits, out)
+    let form = RequestForm {
+        limits: SELECTED_LIMITS,
+        header: Frame {
+            nadr: Frame::BROADCAST,
+            pnum: pnum::OS,
+            pcmd: SELECTIVE_BATCH,
+            hwpid,
+        },
+        front: &bits,
+    };
+    compile_scene(book, scene, form, out)
 }
 
-// Compiles for the nodes of a set and the hardware profile that every node accepts.
+// Compiles for the nodes of a set and the hardware profile that every node accepts, for C (`grelfint_compile_selected_default`).
 pub fn compile_selected_default(
     book: &[u8],
     scene: usize,
     nodes: NodeSet,
     out: &mut [u8],
-) -> CompileAnswer
-    ensures { compile_result result out.new ≡ compile_selected book.now scene nodes.bits any_hwpid out.old }
+) -> Result<usize, CompileError>
+    ensures answer { compile_result (compile_answer result) out.new ≡ compile_selected book.now scene nodes.bits any_hwpid out.old }
+    ensures error { IfErr result NamesStep }
 {
     compile_selected(book, scene, nodes, Frame::ANY_HWPID, out)
 }

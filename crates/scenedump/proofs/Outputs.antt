@@ -1,21 +1,19 @@
 -- The output of a compile call that is not refused can be printed: it has all its requests, each with a header.
 use mathlib.Core.List.{List, [], ◌∷◌}
 use mathlib.Core.Path.{◌≡◌, sym, subst}
-use Prim.Native.Nat.{ℕ, ◌+◌, ◌-◌, ◌≤◌, ◌<◌}
-use native.Mathlib.Numerals.{add-one}
-use native.Mathlib.Omega.{arith}
-use lib.ListN.{length, get_or, take, drop, length-take}
-use lib.Seq.{take_at, drop-cons}
+use Prim.Native.Nat.{ℕ}
+use lib.ListN.{length}
+use lib.Seq.{take_at}
 use Rattle.dpa.specs.Lists.{All}
 use Rattle.book.specs.Book.{scene_of}
 use Rattle.output.specs.Requests.{scene_requests}
-use Rattle.output.specs.Output.{lengths, output, total_length}
+use Rattle.output.specs.Output.{lengths, output}
 use Rattle.scene.specs.Call.{CompileResult, output_of, compile_for}
 use Rattle.output.proofs.Batches.{batch_limits}
 use Rattle.output.proofs.Outputs.{lengths_length}
 use Rattle.output.proofs.Sizes.{FrameSized, requests_fit}
 use Rattle.scene.proofs.Refusals.{no_fault_good, accepted, output_is}
-use Rattle.output.proofs.CompleteOutputs.{output_complete, parts_covered}
+use Rattle.output.proofs.CompleteOutputs.{output_complete}
 use Rattle.scenedump.specs.Output.{RequestLength, Printable}
 
 lengths_headed : (rs : List (List ℕ)) → All FrameSized rs → All RequestLength (lengths rs)
@@ -33,16 +31,3 @@ compiled_printable b k a h out c e z =
     let ss = scene_of b k in
     subst Printable (sym (output_is b k a h out c e z))
     (output_printable (scene_requests a h ss) (requests_fit batch_limits _ ss (no_fault_good ss (accepted b k a h out c e z).1.fault_free)))
-
--- the bytes hold the requests from request i on, from `start` on: they hold request i, of length n, and the later ones after it
-pub next_covered : (ns : List ℕ) (i start end : ℕ) {n : ℕ} → i < length ns → n ≡ get_or ns i 0 → start + total_length (drop i ns) ≤ end
-    → start + n + total_length (drop (i + 1) ns) ≤ end
-next_covered ns i start end l e h = rw (add-one i) (omega (arith, rw (drop-cons ns i 0 l) at h))
-
--- the two parts of an output that the code passes on: length bytes and requests
-pub output_parts : (o : List ℕ) {n : ℕ} → n ≡ get_or o 0 0 → n < 256 → Printable o
-    → let lengths = take (1 + n - 1) (drop 1 o) in
-    (total_length lengths ≤ length (take (length o - (1 + n)) (drop (1 + n) o))) × All RequestLength lengths × (length lengths < 256)
-output_parts o {n} e l p =
-    let z : 1 + n - 1 ≡ get_or o 0 0 = omega arith in
-    (parts_covered o e p.complete, rw z p.headed, simp length-take (omega arith))

@@ -1,175 +1,155 @@
 // The arguments: options, then the file, then scene numbers.
-ghost use Rattle.std.specs.Prelude.{◌<◌};
-
-use console::input::NO_FILE;
 use console::number::{LONGEST_ARGUMENT, number_argument};
-use console::print::output_failed;
 use dpa::frame::Frame;
 use dpa::settings::address_ok;
 use std::env::FillError;
-use std::io;
+use std::ops::Range;
 use std::rt::Env;
+use timing::slot::Network;
 
 #[derive(Clone, Copy)]
 pub struct Options {
     pub address: u16,
     pub hwpid: u16,
     pub hops: u8,
-    pub lp: bool,
+    pub network: Network,
 }
 
-const DEFAULTS: Options = Options {
-    address: Frame::BROADCAST,
-    hwpid: Frame::ANY_HWPID,
-    hops: 0,
-    lp: false,
-};
+impl Default for Options {
+    fn default() -> Options {
+        Options {
+            address: Frame::BROADCAST,
+            hwpid: Frame::ANY_HWPID,
+            hops: 0,
+            network: Network::Std,
+        }
+    }
+}
 
-// No option has a higher number.
-const HWPID_MAX: usize = 0xFFFF;
+// What is listed: the file, if an argument names one, and the scenes. Both are given as the numbers of their arguments.
+#[derive(Drop)]
+pub struct Job {
+    pub options: Options,
+    pub file: Option<usize>,
+    pub scenes: Range<usize>,
+}
 
-const HOPS_MAX: u16 = 255;
-
-#[derive(Clone, Copy)]
-pub enum Arguments {
-    // The options, the number of the file's argument, and that of the first scene's.
-    Run(Options, usize, usize),
+// What the arguments ask for.
+#[derive(Drop)]
+pub enum Task {
+    List(Job),
     Help,
-    // The number of the bad argument.
-    Bad(usize),
 }
 
-// No option waits for its number.
-const NO_OPTION: u8 = 0;
-
-// What one argument before the file means.
+// The number of the first argument that is bad.
 #[derive(Clone, Copy)]
-enum Meaning {
-    // The options with it, and the option that waits for its number.
-    Option(Options, u8),
+pub struct BadArgument(pub usize);
+
+// An option whose number is the next argument.
+#[derive(Clone, Copy)]
+enum Setting {
+    Address,
+    Profile,
+    Hops,
+}
+
+impl Setting {
+    // The options with argument i for this one, unless it is no number, or none that this option may have.
+    fn read(self, rt: &impl Env, options: Options, i: usize) -> Option<Options> {
+        let number = number_argument(rt, i, u16::MAX as usize)? as u16;
+        let mut next = options;
+        match self {
+            Setting::Address if address_ok(number) => next.address = number,
+            Setting::Address => return None,
+            Setting::Profile => next.hwpid = number,
+            Setting::Hops => next.hops = u8::try_from(number).ok()?,
+        }
+        Some(next)
+    }
+}
+
+// Argument i, unless it is missing or does not fit the buffer.
+fn read_argument<'a>(
+    rt: &impl Env,
+    i: usize,
+    text: &'a mut [u8; LONGEST_ARGUMENT],
+) -> Result<&'a [u8], FillError> {
+    let length = rt.arg(i, text)?;
+    Ok(&text[..length])
+}
+
+// What an argument before the scenes means.
+#[derive(Clone, Copy)]
+enum Word {
+    Setting(Setting),
+    LowPower,
+    Help,
     File,
-    Help,
-    Bad,
 }
 
-// The meaning of the number of an option.
-fn number_meaning(rt: &impl Env, options: Options, option: u8, i: usize) -> Meaning {
-    let number = number_argument(rt, i, HWPID_MAX);
-    if !number.ok {
-        return Meaning::Bad;
-    }
-    let value = number.value as u16;
-    let mut next = options;
-    match option {
-        b'a' => {
-            if !address_ok(value) {
-                return Meaning::Bad;
-            }
-            next.address = value;
-        }
-        b'p' => {
-            next.hwpid = value;
-        }
-        _ => {
-            if HOPS_MAX < value {
-                return Meaning::Bad;
-            }
-            next.hops = value as u8;
+impl Word {
+    // A `-` alone is a file.
+    fn parse(text: &[u8]) -> Option<Word> {
+        match text {
+            b"-a" => Some(Word::Setting(Setting::Address)),
+            b"-p" => Some(Word::Setting(Setting::Profile)),
+            b"-n" => Some(Word::Setting(Setting::Hops)),
+            b"-l" => Some(Word::LowPower),
+            b"-h" => Some(Word::Help),
+            [b'-', _, ..] => None,
+            _ => Some(Word::File),
         }
     }
-    Meaning::Option(next, NO_OPTION)
-}
 
-// The meaning of an argument that is an option or the file. A `-` alone is a file. One that does not fit the buffer is bad.
-fn word_meaning(rt: &impl Env, options: Options, i: usize) -> Meaning {
-    let mut text = [0u8; LONGEST_ARGUMENT];
-    let Ok(length) = rt.arg(i, &mut text) else {
-        return Meaning::Bad;
-    };
-    if length < 2 {
-        return Meaning::File;
-    }
-    if text[0] != b'-' {
-        return Meaning::File;
-    }
-    if length != 2 {
-        return Meaning::Bad;
-    }
-    let option = text[1];
-    match option {
-        b'a' | b'p' | b'n' => Meaning::Option(options, option),
-        b'l' => {
-            let mut next = options;
-            next.lp = true;
-            Meaning::Option(next, NO_OPTION)
-        }
-        b'h' => Meaning::Help,
-        _ => Meaning::Bad,
+    fn read(rt: &impl Env, i: usize) -> Option<Word> {
+        let mut text = [0u8; LONGEST_ARGUMENT];
+        Word::parse(read_argument(rt, i, &mut text).ok()?)
     }
 }
 
-// Checks that all arguments after the file are numbers, so that a bad one is told before anything is printed.
-fn check_scenes(rt: &impl Env, options: Options, file: usize, count: usize) -> Arguments
-    requires { file < count }
-{
-    let mut i = file + 1;
-    while i < count {
-        let scene = number_argument(rt, i, usize::MAX);
-        if !scene.ok {
-            return Arguments::Bad(i);
-        }
-        i = i + 1;
+// Checks that these arguments are numbers, so that a bad one is told before anything is printed.
+fn check_scenes(rt: &impl Env, scenes: Range<usize>) -> Result<Range<usize>, BadArgument> {
+    for i in scenes.start..scenes.end {
+        number_argument(rt, i, usize::MAX).ok_or(BadArgument(i))?;
     }
-    Arguments::Run(options, file, file + 1)
+    Ok(scenes)
 }
 
 // How many arguments there are, with the program's name.
-pub fn count_arguments(rt: &impl Env) -> usize {
-    for i in 0..usize::MAX {
-        if let Err(FillError::NotPresent) = rt.arg(i, &mut []) {
-            return i;
-        }
-    }
-    usize::MAX
+fn count_arguments(rt: &impl Env) -> usize {
+    let is_missing = |&i: &usize| matches!(rt.arg(i, &mut []), Err(FillError::NotPresent));
+    (0..usize::MAX).find(is_missing).unwrap_or(usize::MAX)
 }
 
-// Reads all arguments.
-pub fn read_arguments(rt: &impl Env, count: usize) -> Arguments {
-    let mut options = DEFAULTS;
-    let mut waiting = NO_OPTION;
-    let mut i: usize = 1;
-    while i < count {
-        let meaning = if waiting == NO_OPTION {
-            word_meaning(rt, options, i)
-        } else {
-            number_meaning(rt, options, waiting, i)
-        };
-        match meaning {
-            Meaning::Option(next, option) => {
-                options = next;
-                waiting = option;
+// Reads all arguments. An option takes its number from the same numbers as the loop.
+pub fn read_arguments(rt: &impl Env) -> Result<Task, BadArgument> {
+    let mut options = Options::default();
+    let mut numbers = 1..count_arguments(rt);
+    while let Some(i) = numbers.next() {
+        match Word::read(rt, i).ok_or(BadArgument(i))? {
+            Word::Setting(setting) => {
+                let at = numbers.next().ok_or(BadArgument(i))?;
+                options = setting.read(rt, options, at).ok_or(BadArgument(at))?;
             }
-            Meaning::File => {
-                return check_scenes(rt, options, i, count);
-            }
-            Meaning::Help => {
-                return Arguments::Help;
-            }
-            Meaning::Bad => {
-                return Arguments::Bad(i);
+            Word::LowPower => options.network = Network::StdLp,
+            Word::Help => return Ok(Task::Help),
+            Word::File => {
+                return Ok(Task::List(Job {
+                    options,
+                    file: Some(i),
+                    scenes: check_scenes(rt, numbers)?,
+                }));
             }
         }
-        i = i + 1;
     }
-    if waiting != NO_OPTION {
-        return Arguments::Bad(i - 1);
-    }
-    Arguments::Run(options, NO_FILE, i)
+    Ok(Task::List(Job {
+        options,
+        file: None,
+        scenes: numbers,
+    }))
 }
 
-fn write_usage(out: &impl Print) -> io::Result<()> {
-    out.write_all(
-        b"usage: scenedump [-a ADDRESS] [-p HWPID] [-n HOPS] [-l] [FILE [SCENE..]]
+pub const USAGE: &[u8] = b"usage: scenedump [-a ADDRESS] [-p HWPID] [-n HOPS] [-l] [FILE [SCENE..]]
 Lists the scenes of a book, and the requests of each SCENE.
   FILE        the scene book; none or -: standard input
   SCENE       a scene number
@@ -179,24 +159,15 @@ Lists the scenes of a book, and the requests of each SCENE.
   -l          the network is STD+LP (default STD)
   -h          prints this text
 Numbers are decimal, or hexadecimal after 0x.
-",
-    )
-}
-
-pub fn print_usage(rt: &(impl Print + Eprint)) {
-    if let Err(error) = write_usage(rt) {
-        output_failed(rt, error);
-    }
-}
+";
 
 // Tells which argument is bad, and the usage, to `errors`, which is standard error. A failure to write there cannot be told.
-pub fn refuse_argument(rt: &impl Env, errors: &impl Print, i: usize) {
+pub fn refuse_argument(rt: &impl Env, errors: &impl Print, bad: BadArgument) {
+    let BadArgument(i) = bad;
     let mut text = [0u8; LONGEST_ARGUMENT];
+    let argument = read_argument(rt, i, &mut text).unwrap_or(b"too long");
     let _ = print!(errors; "bad argument {i}: ");
-    let _ = match rt.arg(i, &mut text) {
-        Ok(length) => errors.write_all(&text[..length]),
-        Err(_) => errors.write_all(b"too long"),
-    };
-    let _ = println!(errors; "");
-    let _ = write_usage(errors);
+    let _ = errors.write_all(argument);
+    let _ = println!(errors);
+    let _ = errors.write_all(USAGE);
 }

@@ -2,73 +2,50 @@
 use book::check::BookFault;
 use book::locations::SCENES_MAX;
 use book::step::STEPS_MAX;
-use console::print::{print, print_with};
-use dpa::number::wide;
-use dpa::refusal;
+use dpa::refusal::Refusal;
+use std::fmt::Display;
+use std::{fmt, io};
 
-pub fn print_not_a_book(rt: &(impl Print + Eprint)) -> bool {
-    print_with(
-        rt,
-        true,
-        b"refused #: not a scene book: ",
-        wide(refusal::BOOK),
-        0,
-        0,
-    )
+// The fault of a book of this length.
+#[derive(Clone, Copy)]
+pub struct Fault {
+    pub fault: BookFault,
+    pub length: usize,
 }
 
-// Prints the fault of a book of this length.
-pub fn print_book_fault(rt: &(impl Print + Eprint), fault: BookFault, length: usize) -> bool {
-    let ok = print_not_a_book(rt);
-    match fault {
-        BookFault::Empty => print(rt, ok, b"it is empty\n"),
-        BookFault::Scenes { scenes } => {
-            print_with(
-                rt,
-                ok,
-                b"it has # scenes, at most #\n",
-                scenes,
-                SCENES_MAX,
-                0,
-            )
-        }
-        BookFault::Locations { end } => print_with(
-            rt,
-            ok,
-            b"the contents end at byte #, the book at byte #\n",
-            end,
-            length,
-            0,
-        ),
-        BookFault::Start {
-            scene,
-            offset,
-            start,
-        } => print_with(
-            rt,
-            ok,
-            b"scene # starts at byte #, not at byte #\n",
-            scene,
-            offset,
-            start,
-        ),
-        BookFault::Steps { scene, steps } => {
-            print_with(
-                rt,
-                ok,
-                b"scene # has # steps, at most #\n",
+impl Display for Fault {
+    fn fmt<W: fmt::Write>(&self, f: &mut fmt::Formatter<W>) -> fmt::Result {
+        let Fault { fault, length } = *self;
+        match fault {
+            BookFault::Empty => write!(f, "it is empty"),
+            BookFault::Scenes { scenes } => {
+                write!(f, "it has {scenes} scenes, at most {SCENES_MAX}")
+            }
+            BookFault::Locations { end } => write!(
+                f,
+                "the contents end at byte {end}, the book at byte {length}"
+            ),
+            BookFault::Start {
                 scene,
-                steps,
-                STEPS_MAX,
-            )
+                offset,
+                start,
+            } => write!(
+                f,
+                "scene {scene} starts at byte {offset}, not at byte {start}"
+            ),
+            BookFault::Steps { scene, steps } => {
+                write!(f, "scene {scene} has {steps} steps, at most {STEPS_MAX}")
+            }
+            BookFault::End { end } => {
+                write!(f, "the scenes end at byte {end}, the book at byte {length}")
+            }
         }
-        BookFault::End { end } => print_with(
-            rt,
-            ok,
-            b"the scenes end at byte #, the book at byte #\n",
-            end,
-            length,
-            0,
-        ),
     }
+}
+
+pub fn print_not_a_book(rt: &impl Print, fault: impl Display + Drop) -> io::Result<()> {
+    println!(rt;
+        "refused {}: not a scene book: {fault}",
+        u8::from(Refusal::Book)
+    )
 }

@@ -28,58 +28,54 @@ mod fault;
 mod requests;
 mod steps;
 
-use args::{Arguments, Options, count_arguments, print_usage, read_arguments, refuse_argument};
-use book::check::{BookCheck, check_book};
+use args::{Job, Task, USAGE, read_arguments, refuse_argument};
+use book::check::check_book;
 use book::locations::LONGEST_BOOK;
-use console::input::{Input, read_input};
-use console::print::print_with;
-use fault::{print_book_fault, print_not_a_book};
+use console::failure::tell_failure;
+use console::input::read_input;
+use fault::{Fault, print_not_a_book};
 use requests::print_scenes;
 use std::io;
 use std::rt::{Env, Files};
 use steps::print_book;
 
-fn dump(
-    rt: &(impl Env + Print + Eprint),
-    book: &[u8],
-    options: Options,
-    first: usize,
-    count: usize,
-) {
-    if let BookCheck::Bad(fault) = check_book(book) {
-        print_book_fault(rt, fault, book.len());
-        return;
+fn dump(rt: &(impl Env + Print), book: &[u8], job: Job) -> io::Result<()> {
+    if let Err(fault) = check_book(book) {
+        let length = book.len();
+        return print_not_a_book(rt, Fault { fault, length });
     }
-    let ok = print_book(rt, book);
-    print_scenes(rt, ok, book, options, first, count);
+    print_book(rt, book)?;
+    print_scenes(rt, book, job.options, job.scenes)
 }
 
 // Reads up to one byte more than the longest book has, so that a longer input is noticed and refused.
-fn run<R: Env + Files + io::Input + Print + Eprint>(
+fn run<R: Env + Files + io::Input + Print>(
     rt: &R,
     errors: &impl Print,
-    options: Options,
-    file: usize,
-    first: usize,
-    count: usize,
-) {
-    let mut book = [0u8; LONGEST_BOOK + 1];
-    let Input::Bytes(n) = read_input(rt, errors, file, &mut book) else {
-        return;
+    job: Job,
+) -> io::Result<()> {
+    let mut buffer = [0u8; LONGEST_BOOK + 1];
+    let Some(book) = read_input(rt, errors, job.file, &mut buffer) else {
+        return Ok(());
     };
-    if LONGEST_BOOK < n {
-        let ok = print_not_a_book(rt);
-        print_with(rt, ok, b"more than # bytes\n", LONGEST_BOOK, 0, 0);
-        return;
+    if LONGEST_BOOK < book.len() {
+        return print_not_a_book(rt, format_args!("more than {LONGEST_BOOK} bytes"));
     }
-    dump(rt, &book[..n], options, first, count);
+    dump(rt, book, job)
 }
 
+// After a write to standard output that fails nothing more is written there, and the reason is told.
 fn main(rt: HostRuntime) {
-    let count = count_arguments(&rt);
-    match read_arguments(&rt, count) {
-        Arguments::Run(options, file, first) => run(&rt, &rt.stderr(), options, file, first, count),
-        Arguments::Help => print_usage(&rt),
-        Arguments::Bad(i) => refuse_argument(&rt, &rt.stderr(), i),
+    let errors = rt.stderr();
+    let written = match read_arguments(&rt) {
+        Ok(Task::List(job)) => run(&rt, &errors, job),
+        Ok(Task::Help) => rt.write_all(USAGE),
+        Err(bad) => {
+            refuse_argument(&rt, &errors, bad);
+            Ok(())
+        }
+    };
+    if let Err(error) = written {
+        tell_failure(&errors, b"standard output", error);
     }
 }

@@ -6,152 +6,104 @@ ghost use Rattle.scenedump.specs.Output.{RequestLength, Printable};
 
 use crate::args::Options;
 use console::number::number_argument;
-use console::print::{print, print_bytes, print_with};
+use console::print::{Count, Hex, UPPER};
 use dpa::frame::Frame;
-use dpa::number::{wide, wide_word};
-use dpa::refusal;
-use scene::compile::{MIN_OUTPUT, compile};
+use scene::compile::{CompileError, MIN_OUTPUT, compile};
+use std::io;
+use std::ops::Range;
 use std::rt::Env;
-use timing::slot::{SLOT_UNIT_MS, earliest_send, network_of, timeslot};
+use step::fault::BadStep;
+use timing::slot::{SLOT_UNIT_MS, earliest_send, timeslot};
 
 // How long after a request with this much PData the next one may be sent, in ms. A batch answers without data.
-fn wait_after(pdata: usize, options: Options) -> usize
-    ensures { result < 4294967296 }
-{
+fn wait_after(pdata: usize, options: Options) -> u32 {
     let hops = options.hops;
     let broadcast = options.address == Frame::BROADCAST;
-    let send = earliest_send(hops, pdata, 0, hops, 0, network_of(options.lp), broadcast);
-    send.milliseconds as usize
+    earliest_send(hops, pdata, 0, hops, 0, options.network, broadcast).unwrap_or(0)
 }
 
-fn print_request(
-    rt: &(impl Print + Eprint),
-    ok: bool,
-    request: &[u8],
-    pdata: usize,
-    wait: usize,
-    lp: bool,
-) -> bool {
-    let answer = timeslot(pdata, network_of(lp));
-    let slot = wide(answer.slot) * (SLOT_UNIT_MS as usize);
-    let ok = print_with(
-        rt,
-        ok,
-        b"  # bytes, slot # ms, next send after # ms:",
-        request.len(),
-        slot,
-        wait,
-    );
-    let ok = print_bytes(rt, ok, request);
-    print(rt, ok, b"\n")
+// Prints a request, and returns how long after it the next one may be sent.
+fn print_request(rt: &impl Print, request: &[u8], options: Options) -> io::Result<u32>
+    requires { RequestLength (length request.now) }
+{
+    let bytes = request.len();
+    let pdata = bytes - Frame::HEADER;
+    let slot = u32::from(timeslot(pdata, options.network).unwrap_or(0)) * SLOT_UNIT_MS;
+    let wait = wait_after(pdata, options);
+    println!(rt;
+        "  {bytes} bytes, slot {slot} ms, next send after {wait} ms:{}",
+        Hex::<UPPER>(request)
+    )?;
+    Ok(wait)
 }
 
 // Prints requests that follow one another in the bytes, each of the length that its length byte gives.
-fn print_all(
-    rt: &(impl Print + Eprint),
-    ok: bool,
-    lengths: &[u8],
-    requests: &[u8],
-    options: Options,
-) -> bool
+fn print_all(rt: &impl Print, lengths: &[u8], requests: &[u8], options: Options) -> io::Result<()>
     requires { (total_length lengths.now ≤ length requests.now) × All RequestLength lengths.now × (length lengths.now < 256) }
 {
-    let mut ok = ok;
-    let mut start: usize = 0;
-    let mut total: usize = 0;
-    let mut i: usize = 0;
-    while i < lengths.len() {
-        let length = wide(lengths[i]);
-        let pdata = length - Frame::HEADER;
-        let wait = wait_after(pdata, options);
-        let end = start + length;
-        ok = print_request(rt, ok, &requests[start..end], pdata, wait, options.lp);
-        total = total + wait;
-        start = end;
-        i = i + 1;
+    let mut rest = requests;
+    let mut total: u64 = 0;
+    for &length in lengths {
+        let (request, later) = rest.split_at(usize::from(length));
+        total += u64::from(print_request(rt, request, options)?);
+        rest = later;
     }
-    print_with(rt, ok, b"  # ms in all\n", total, 0, 0)
+    println!(rt; "  {total} ms in all")
 }
 
 // Prints the requests of a compiled output.
-fn print_output(rt: &(impl Print + Eprint), ok: bool, output: &[u8], options: Options) -> bool
+fn print_output(rt: &impl Print, output: &[u8], options: Options) -> io::Result<()>
     requires { Printable output.now }
 {
-    let count = wide(output[0]);
-    let start = 1 + count;
-    let ok = print_with(rt, ok, b", # request~\n", count, count, 0);
-    print_all(rt, ok, &output[1..start], &output[start..], options)
+    let count = usize::from(output[0]);
+    let (lengths, requests) = output[1..].split_at(count);
+    println!(rt; ", {}", Count(count, "request"))?;
+    print_all(rt, lengths, requests, options)
 }
 
 // Prints a scene, and where it is sent.
-fn print_heading(rt: &(impl Print + Eprint), ok: bool, scene: usize, options: Options) -> bool {
-    let address = wide_word(options.address);
-    let hwpid = wide_word(options.hwpid);
-    if options.address == Frame::BROADCAST {
-        return print_with(rt, ok, b"scene # to all nodes, HWPID %", scene, hwpid, 0);
+fn print_heading(rt: &impl Print, scene: usize, options: Options) -> io::Result<()> {
+    let Options { address, hwpid, .. } = options;
+    match address {
+        Frame::BROADCAST => print!(rt; "scene {scene} to all nodes, HWPID {hwpid:04X}"),
+        _ => print!(rt; "scene {scene} to node {address}, HWPID {hwpid:04X}"),
     }
-    print_with(rt, ok, b"scene # to node #, HWPID %", scene, address, hwpid)
 }
 
-// Prints the requests of a scene, or why it is refused: the book does not have it, or it has a bad step.
-fn print_scene(
-    rt: &(impl Print + Eprint),
-    ok: bool,
-    book: &[u8],
-    scene: usize,
-    options: Options,
-) -> bool
+// Prints the requests of a scene, or why it is refused: it has a bad step, or the book does not have it. The book and the address were
+// checked before, and every output fits.
+fn print_scene(rt: &impl Print, book: &[u8], scene: usize, options: Options) -> io::Result<()>
     requires { 0 < length book.now }
 {
-    let ok = print_heading(rt, ok, scene, options);
+    print_heading(rt, scene, options)?;
     let mut out = [0u8; MIN_OUTPUT];
-    let answer = compile(book, scene, options.address, options.hwpid, &mut out);
-    let refusal = wide(answer.refusal);
-    if answer.refusal == refusal::SCENE {
-        let scenes = wide(book[0]);
-        return print_with(
-            rt,
-            ok,
-            b": refused #, the book has # scene~\n",
-            refusal,
-            scenes,
-            scenes,
-        );
+    match compile(book, scene, options.address, options.hwpid, &mut out) {
+        Ok(length) => print_output(rt, &out[..length], options),
+        Err(CompileError::Step(BadStep { step, refusal })) => {
+            println!(rt; ": refused {} at step {step}", u8::from(refusal))
+        }
+        Err(CompileError::Refused(refusal)) => {
+            let scenes = Count(usize::from(book[0]), "scene");
+            println!(rt; ": refused {}, the book has {scenes}", u8::from(refusal))
+        }
     }
-    if answer.refusal != refusal::NONE {
-        return print_with(
-            rt,
-            ok,
-            b": refused # at step #\n",
-            refusal,
-            wide(answer.step),
-            0,
-        );
-    }
-    let end = answer.length;
-    print_output(rt, ok, &out[..end], options)
 }
 
-// Prints the requests of the scenes that the arguments from `first` on name. That they are numbers was tested before.
+// Prints the requests of the scenes that the arguments of these numbers name. That they are numbers was tested before.
 pub fn print_scenes(
-    rt: &(impl Env + Print + Eprint),
-    ok: bool,
+    rt: &(impl Env + Print),
     book: &[u8],
     options: Options,
-    first: usize,
-    count: usize,
-) -> bool
+    scenes: Range<usize>,
+) -> io::Result<()>
     requires { 0 < length book.now }
 {
-    if count <= first {
-        return ok;
+    if scenes.is_empty() {
+        return Ok(());
     }
-    let mut ok = print(rt, ok, b"\n");
-    let mut i = first;
-    while i < count {
-        let scene = number_argument(rt, i, usize::MAX);
-        ok = print_scene(rt, ok, book, scene.value, options);
-        i = i + 1;
+    println!(rt)?;
+    for scene in scenes.filter_map(|i| number_argument(rt, i, usize::MAX)) {
+        print_scene(rt, book, scene, options)?;
     }
-    ok
+    Ok(())
 }

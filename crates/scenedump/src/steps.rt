@@ -1,172 +1,133 @@
 // The list of a book's scenes and their steps.
-ghost use Rattle.std.specs.Prelude.{◌≡◌, true, ◌*◌, ◌≤◌, ◌<◌, length};
-ghost use Rattle.book.specs.Book.{steps_max, step_length, scene_count, book_ok};
+ghost use Rattle.std.specs.Prelude.{◌≡◌, true, ◌<◌};
+ghost use Rattle.book.specs.Book.{scene_count, book_ok};
 
-use book::locations::scene_location;
-use book::step::{Step, step_at};
-use console::print::{print, print_bytes, print_with};
-use dpa::number::wide;
-use dpa::refusal;
+use book::locations::scene_steps;
+use book::step::{Step, Steps};
+use console::print::{Count, Hex, UPPER};
+use dpa::refusal::Refusal;
 use dpa::settings::MAX_LAMPS;
 use dpa::sizes::{EEPROM_SIZE, RAM_SIZE};
 use lights::lamp::MAX_LEVEL;
 use lights::power::BIT_7;
-use lights::request::{RAISE, SET};
-use step::fault::{StepsCheck, check_steps, step_fault};
-use step::kind::{WRITE_EEPROM, WRITE_RAM, is_lamp};
+use std::fmt::Display;
+use std::{fmt, io};
+use step::fault::{BadStep, check_steps, step_fault};
+use step::kind::{Kind, WRITE_EEPROM, is_lamp};
 
-// Prints the time of a lamp step: none, minutes, or seconds if bit 7 is set.
-fn print_time(rt: &(impl Print + Eprint), ok: bool, time: u8) -> bool {
-    if time == 0 {
-        return print(rt, ok, b"\n");
+// The time byte of a lamp step: none, minutes, or seconds if bit 7 is set.
+#[derive(Clone, Copy)]
+struct Time(u8);
+
+impl Display for Time {
+    fn fmt<W: fmt::Write>(&self, f: &mut fmt::Formatter<W>) -> fmt::Result {
+        let Time(time) = *self;
+        if time == 0 {
+            return Ok(());
+        }
+        if time < BIT_7 {
+            return write!(f, " for {time} min");
+        }
+        write!(f, " for {} s", time - BIT_7)
     }
-    if time < BIT_7 {
-        return print_with(rt, ok, b" for # min\n", wide(time), 0, 0);
-    }
-    print_with(rt, ok, b" for # s\n", wide(time - BIT_7), 0, 0)
 }
 
-fn print_good_step(rt: &(impl Print + Eprint), ok: bool, step: Step) -> bool {
-    let kind = step.kind;
-    let target = wide(step.target);
-    let value = wide(step.value);
-    if kind == WRITE_RAM {
-        return print_with(rt, ok, b" write $ to RAM byte #\n", value, target, 0);
-    }
-    if kind == WRITE_EEPROM {
-        return print_with(rt, ok, b" write $ to EEPROM byte #\n", value, target, 0);
-    }
-    let ok = match kind {
-        SET => print_with(rt, ok, b" set lamp # to #", target, value, 0),
-        RAISE => print_with(rt, ok, b" raise lamp # by #", target, value, 0),
-        _ => print_with(rt, ok, b" lower lamp # by #", target, value, 0),
-    };
-    print_time(rt, ok, step.time)
-}
+// What a good step does.
+#[derive(Clone, Copy)]
+struct Action(Step);
 
-// Prints what the target of a step of this kind may be.
-fn print_targets(rt: &(impl Print + Eprint), ok: bool, kind: u8) -> bool {
-    if is_lamp(kind) {
-        return print_with(
-            rt,
-            ok,
-            b" bad target: lamps are 0 to #\n",
-            wide(MAX_LAMPS - 1),
-            0,
-            0,
-        );
-    }
-    if kind == WRITE_RAM {
-        return print_with(
-            rt,
-            ok,
-            b" bad target: RAM has bytes 0 to #\n",
-            RAM_SIZE - 1,
-            0,
-            0,
-        );
-    }
-    print_with(
-        rt,
-        ok,
-        b" bad target: EEPROM has bytes 0 to #\n",
-        EEPROM_SIZE - 1,
-        0,
-        0,
-    )
-}
-
-// Prints the bytes of a bad step, and the rule that its first bad part breaks.
-fn print_bad_step(rt: &(impl Print + Eprint), ok: bool, step: Step, fault: u8) -> bool {
-    let bytes = [step.kind, step.target, step.value, step.time];
-    let ok = print_bytes(rt, ok, &bytes);
-    match fault {
-        refusal::STEP_KIND => print_with(
-            rt,
-            ok,
-            b" bad kind: kinds are 0 to #\n",
-            wide(WRITE_EEPROM),
-            0,
-            0,
-        ),
-        refusal::STEP_TARGET => print_targets(rt, ok, step.kind),
-        refusal::STEP_VALUE => print_with(
-            rt,
-            ok,
-            b" bad value: levels are 0 to #\n",
-            wide(MAX_LEVEL),
-            0,
-            0,
-        ),
-        _ => {
-            if is_lamp(step.kind) {
-                return print_with(
-                    rt,
-                    ok,
-                    b" bad time: $ is neither minutes nor seconds\n",
-                    wide(step.time),
-                    0,
-                    0,
-                );
-            }
-            print(rt, ok, b" bad time: a memory step has none\n")
+impl Display for Action {
+    fn fmt<W: fmt::Write>(&self, f: &mut fmt::Formatter<W>) -> fmt::Result {
+        let Step {
+            kind,
+            target,
+            value,
+            time,
+        } = self.0;
+        let time = Time(time);
+        match Kind::try_from(kind) {
+            Ok(Kind::Set) => write!(f, "set lamp {target} to {value}{time}"),
+            Ok(Kind::Raise) => write!(f, "raise lamp {target} by {value}{time}"),
+            Ok(Kind::Lower) => write!(f, "lower lamp {target} by {value}{time}"),
+            Ok(Kind::WriteRam) => write!(f, "write {value:02X} to RAM byte {target}"),
+            Ok(Kind::WriteEeprom) => write!(f, "write {value:02X} to EEPROM byte {target}"),
+            Err(_) => Ok(()),
         }
     }
 }
 
-fn print_step(rt: &(impl Print + Eprint), ok: bool, number: usize, step: Step) -> bool {
-    let ok = print_with(rt, ok, b"  #", number, 0, 0);
-    let fault = step_fault(step);
-    if fault == refusal::NONE {
-        return print_good_step(rt, ok, step);
+// What the target of a step of this kind may be.
+#[derive(Clone, Copy)]
+struct Targets(u8);
+
+impl Display for Targets {
+    fn fmt<W: fmt::Write>(&self, f: &mut fmt::Formatter<W>) -> fmt::Result {
+        match Kind::try_from(self.0) {
+            Ok(Kind::WriteRam) => write!(f, "RAM has bytes 0 to {}", RAM_SIZE - 1),
+            Ok(Kind::WriteEeprom) => write!(f, "EEPROM has bytes 0 to {}", EEPROM_SIZE - 1),
+            _ => write!(f, "lamps are 0 to {}", MAX_LAMPS - 1),
+        }
     }
-    print_bad_step(rt, ok, step, fault)
 }
 
-// Prints the steps of a scene, and the refusal of the first bad one.
-fn print_steps(rt: &(impl Print + Eprint), ok: bool, body: &[u8], count: usize) -> bool
-    requires { (step_length * count ≤ length body.now) × (count ≤ steps_max) }
-{
-    let mut ok = ok;
-    let mut i: usize = 0;
-    while i < count {
-        ok = print_step(rt, ok, i, step_at(body, i));
-        i = i + 1;
-    }
-    if let StepsCheck::Bad { step, refusal } = check_steps(body, count) {
-        return print_with(
-            rt,
-            ok,
-            b"  refused # at step #\n",
-            wide(refusal),
-            wide(step),
-            0,
-        );
-    }
-    ok
+// The first bad part of a step, and the rule that it breaks.
+#[derive(Clone, Copy)]
+struct Rule {
+    step: Step,
+    fault: Refusal,
 }
 
-fn print_scene(rt: &(impl Print + Eprint), ok: bool, book: &[u8], scene: usize) -> bool
-    requires { (book_ok book.now ≡ true) × (scene < scene_count book.now) }
-{
-    let location = scene_location(book, scene);
-    let start = location.offset;
-    let count = location.steps;
-    let ok = print_with(rt, ok, b"scene #, # step~\n", scene, count, count);
-    print_steps(rt, ok, &book[start..], count)
+impl Display for Rule {
+    fn fmt<W: fmt::Write>(&self, f: &mut fmt::Formatter<W>) -> fmt::Result {
+        let Step { kind, time, .. } = self.step;
+        match self.fault {
+            Refusal::StepKind => write!(f, "kind: kinds are 0 to {WRITE_EEPROM}"),
+            Refusal::StepTarget => write!(f, "target: {}", Targets(kind)),
+            Refusal::StepValue => write!(f, "value: levels are 0 to {MAX_LEVEL}"),
+            _ if is_lamp(kind) => write!(f, "time: {time:02X} is neither minutes nor seconds"),
+            _ => write!(f, "time: a memory step has none"),
+        }
+    }
+}
+
+fn print_step(rt: &impl Print, number: usize, step: Step) -> io::Result<()> {
+    match step_fault(step) {
+        Ok(()) => println!(rt; "  {number} {}", Action(step)),
+        Err(fault) => {
+            let bytes = [step.kind, step.target, step.value, step.time];
+            println!(rt;
+                "  {number}{} bad {}",
+                Hex::<UPPER>(&bytes),
+                Rule { step, fault }
+            )
+        }
+    }
+}
+
+// Prints a scene, and the refusal of its first bad step.
+fn print_scene(rt: &impl Print, scene: usize, steps: Steps) -> io::Result<()> {
+    println!(rt; "scene {scene}, {}", Count(steps.count, "step"))?;
+    for i in 0..steps.count {
+        print_step(rt, i, steps.step(i))?;
+    }
+    if let Err(BadStep { step, refusal }) = check_steps(steps) {
+        println!(rt; "  refused {} at step {step}", u8::from(refusal))?;
+    }
+    Ok(())
 }
 
 // Prints all scenes of a well-formed book.
-pub fn print_book(rt: &(impl Print + Eprint), book: &[u8]) -> bool
+pub fn print_book(rt: &impl Print, book: &[u8]) -> io::Result<()>
     requires { book_ok book.now ≡ true }
 {
-    let scenes = wide(book[0]);
-    let ok = print_with(rt, true, b"book of # byte~", book.len(), book.len(), 0);
-    let mut ok = print_with(rt, ok, b", # scene~\n", scenes, scenes, 0);
-    let mut i: usize = 0;
-    while i < scenes {
-        ok = print_scene(rt, ok, book, i);
-        i = i + 1;
+    let scenes = usize::from(book[0]);
+    println!(rt;
+        "book of {}, {}",
+        Count(book.len(), "byte"),
+        Count(scenes, "scene")
+    )?;
+    for scene in 0..scenes {
+        print_scene(rt, scene, scene_steps(book, scene))?;
     }
-    ok
+    Ok(())
 }

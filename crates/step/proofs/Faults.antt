@@ -15,7 +15,7 @@ use Rattle.memory.specs.declared.block.Memory.TheVariants.{Eeprom, Ram}
 use Rattle.lights.specs.Lamp.{max_level}
 use Rattle.lights.specs.Lights.{time_ok}
 use Rattle.book.specs.declared.step.Step.{Step}
-use Rattle.step.specs.declared.fault.StepsCheck.TheVariants.{AllGood, Bad}
+use Rattle.step.specs.Step.{AllGood, Bad}
 use Rattle.step.specs.Step.{ram_kind, eeprom_kind, is_lamp, no_fault, kind_fault, target_fault, value_fault, time_fault, step_time_ok, lamp_fault, byte_fault, step_fault, good_step, first_bad_from, target_limit, BadKind, BadTarget, BadValue, BadTime, FaultMeaning}
 use Rattle.step.specs.Machine.{seconds_bit, time_formed, lamp_formed, byte_formed, step_formed}
 

@@ -1,33 +1,32 @@
 -- Laws of good and bad steps in a scene's bytes.
-use mathlib.Core.Bool.{true, false}
-use mathlib.Core.List.{List}
+use mathlib.Core.List.{List, [], ◌∷◌}
 use mathlib.Core.Path.{◌≡◌, sym, ap, ◌∙◌}
 use Prim.Native.Nat.{ℕ, zero, suc, ◌+◌, ◌≤◌, ◌<◌}
 use native.Mathlib.Numerals.{add-one}
 use native.Mathlib.Omega.{arith}
 use lib.ListN.{drop}
 use Rattle.dpa.specs.Lists.{All}
-use Rattle.book.specs.declared.step.Step.{Step}
+use Rattle.dpa.specs.declared.refusal.Refusal.{Refusal}
+use Rattle.dpa.specs.Refusal.{refusal_number}
 use Rattle.book.specs.Book.{step_length, step_of, steps_in}
 use Rattle.book.specs.Positions.{step_at}
 use Rattle.book.proofs.Records.{drop_record, records_next, records_end}
-use Rattle.step.specs.declared.fault.StepsCheck.TheVariants.{AllGood, Bad}
-use Rattle.step.specs.Step.{step_fault, good_step, first_bad_from, AllStepsGood}
+use Rattle.step.specs.Step.{AllGood, good_step, first_bad_from, AllStepsGood}
 use Rattle.step.proofs.Faults.{Good, no_bad}
 
--- ---- the loop of check_steps: x is step i
-module _ (n : ℕ) (body : List ℕ) (i : ℕ) (x : Step) (h : i < n) (e : x ≡ step_at body i) where
-  -- after a good step the search goes on
-  pub first_bad_next : good_step x ≡ true → first_bad_from i (drop i (steps_in n body)) ≡ first_bad_from (i + 1) (drop (i + 1) (steps_in n body))
-  first_bad_next g = rw (add-one i, records_next step_length step_of n body i h, ap good_step (sym e) ∙ g)
+-- no refusal has the number of a call that is not refused
+pub refused : (r : Refusal) → refusal_number r ≡ 0 → ⊥
+refused r e = grind arith
 
-  -- a bad step ends it
-  pub first_bad_found : good_step x ≡ false → first_bad_from i (drop i (steps_in n body)) ≡ Bad i (step_fault x)
-  first_bad_found g = rw (records_next step_length step_of n body i h, ap good_step (sym e) ∙ g, e)
+-- ---- the loop of check_steps
 
--- after the last step no bad one is left
-pub first_bad_none : (n : ℕ) (body : List ℕ) (i : ℕ) → n ≤ i → first_bad_from i (drop i (steps_in n body)) ≡ AllGood
-first_bad_none n body i h = rw (records_end step_length step_of n body i h)
+-- step i comes next
+pub next_step : (n : ℕ) (body : List ℕ) (i : ℕ) → i < n → drop i (steps_in n body) ≡ step_at body i ∷ drop (i + 1) (steps_in n body)
+next_step n body i h = rw (add-one i) (records_next step_length step_of n body i h)
+
+-- after n steps none is left
+pub last_step : (n : ℕ) (body : List ℕ) (i : ℕ) → n ≤ i → drop i (steps_in n body) ≡ []
+last_step = records_end step_length step_of
 
 -- ---- good steps of the bytes and of the list
 

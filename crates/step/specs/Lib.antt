@@ -1,2 +1,4 @@
 pub mod Step
+pub mod Kind
+pub mod Seen
 pub mod Machine

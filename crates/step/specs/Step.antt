@@ -7,8 +7,6 @@ use Rattle.lights.specs.Lamp.{max_level}
 use Rattle.lights.specs.Lights.{time_ok}
 use Rattle.book.specs.declared.step.Step.{Step}
 use Rattle.book.specs.Positions.{step_at}
-use Rattle.step.specs.declared.fault.StepsCheck.{StepsCheck}
-use Rattle.step.specs.declared.fault.StepsCheck.TheVariants.{AllGood, Bad}
 
 -- ---- kinds of steps
 
@@ -82,6 +80,11 @@ good_step s = eqb (step_fault s) no_fault
 -- each of the n steps in a body is good
 abbrev pub AllStepsGood : List ℕ → ℕ → Type 0
 AllStepsGood body n = (i : ℕ) → i < n → good_step (step_at body i) ≡ true
+
+-- the result of checking a scene's steps: no step is bad, or the number of the first bad one and its fault
+pub data StepsCheck : Type 0 where
+  AllGood : StepsCheck
+  Bad : (step refusal : ℕ) → StepsCheck
 
 -- the first bad step, by its number and its fault; the first of these steps has number i
 abbrev pub first_bad_from : ℕ → List Step → StepsCheck

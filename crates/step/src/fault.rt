@@ -1,90 +1,81 @@
 // The faults of steps. A fault is the refusal that it gives.
-ghost use Rattle.std.specs.Prelude.{◌≡◌, ◌*◌, ◌≤◌, length};
+ghost use Rattle.std.specs.Prelude.{◌≡◌};
+ghost use Rattle.dpa.specs.Refusal.{refusal_of};
 ghost use Rattle.memory.specs.Block.{size_of};
-ghost use Rattle.book.specs.Book.{steps_max, step_length, steps_in};
+ghost use Rattle.book.specs.Steps.{steps_of};
 ghost use Rattle.step.specs.Step.{lamp_fault, byte_fault, step_fault, first_bad_from};
+ghost use Rattle.step.specs.Seen.{check_seen};
 
-use crate::kind::{WRITE_EEPROM, WRITE_RAM, is_lamp};
-use book::step::{Step, step_at};
-use dpa::number::wide;
-use dpa::refusal;
+use crate::kind::Kind;
+use book::step::{Step, Steps};
+use dpa::refusal::Refusal;
 use dpa::settings::MAX_LAMPS;
 use lights::lamp::MAX_LEVEL;
 use lights::power::time_ok;
-use memory::block::{Memory, size_of};
+use memory::block::Memory;
 
 // The fault of a lamp step.
-fn lamp_fault(step: Step) -> u8
-    ensures { result ≡ lamp_fault step }
+#[tactic(auto, unfolding(crate::specs::Step::lamp_fault, crate::specs::Step::step_time_ok))]
+fn lamp_fault(step: Step) -> Result<(), Refusal>
+    ensures { refusal_of result ≡ lamp_fault step }
 {
     if MAX_LAMPS <= step.target {
-        return refusal::STEP_TARGET;
+        return Err(Refusal::StepTarget);
     }
     if MAX_LEVEL < step.value {
-        return refusal::STEP_VALUE;
+        return Err(Refusal::StepValue);
     }
-    if step.time == 0 {
-        return refusal::NONE;
+    if step.time != 0 && !time_ok(step.time) {
+        return Err(Refusal::StepTime);
     }
-    if time_ok(step.time) {
-        return refusal::NONE;
-    }
-    refusal::STEP_TIME
+    Ok(())
 }
 
 // The fault of a step that writes a byte of a memory.
-fn byte_fault(memory: Memory, step: Step) -> u8
-    ensures { result ≡ byte_fault (size_of memory) step }
+#[tactic(auto, unfolding(crate::specs::Step::byte_fault))]
+fn byte_fault(memory: Memory, step: Step) -> Result<(), Refusal>
+    ensures { refusal_of result ≡ byte_fault (size_of memory) step }
 {
-    if size_of(memory) <= wide(step.target) {
-        return refusal::STEP_TARGET;
+    if memory.size() <= usize::from(step.target) {
+        return Err(Refusal::StepTarget);
     }
-    if step.time == 0 {
-        return refusal::NONE;
+    if step.time != 0 {
+        return Err(Refusal::StepTime);
     }
-    refusal::STEP_TIME
+    Ok(())
 }
 
-// The fault of the first bad part of a step, or `refusal::NONE`.
-pub fn step_fault(step: Step) -> u8
-    ensures { result ≡ step_fault step }
+// The fault of the first bad part of a step.
+#[tactic(auto, unfolding(crate::specs::Step::step_fault))]
+pub fn step_fault(step: Step) -> Result<(), Refusal>
+    ensures { refusal_of result ≡ step_fault step }
 {
-    if is_lamp(step.kind) {
-        return lamp_fault(step);
+    match Kind::try_from(step.kind)? {
+        Kind::Set | Kind::Raise | Kind::Lower => lamp_fault(step),
+        Kind::WriteRam => byte_fault(Memory::Ram, step),
+        Kind::WriteEeprom => byte_fault(Memory::Eeprom, step),
     }
-    if step.kind == WRITE_RAM {
-        return byte_fault(Memory::Ram, step);
-    }
-    if step.kind == WRITE_EEPROM {
-        return byte_fault(Memory::Eeprom, step);
-    }
-    refusal::STEP_KIND
 }
 
-// The result of checking a scene's steps.
-#[derive(Clone, Copy)]
-pub enum StepsCheck {
-    AllGood,
-    // The number of the first bad step, and the refusal for its first bad part.
-    Bad { step: u8, refusal: u8 },
+// The number of the first bad step, and the refusal for its first bad part.
+#[derive(Clone, Copy, Debug, PartialEq, Eq)]
+pub struct BadStep {
+    pub step: u8,
+    pub refusal: Refusal,
 }
 
 // Checks the steps up to the first bad one.
-pub fn check_steps(body: &[u8], count: usize) -> StepsCheck
-    requires { (step_length * count ≤ length body.now) × (count ≤ steps_max) }
-    ensures { result ≡ first_bad_from 0 (steps_in count body.now) }
+#[tactic(auto, using(crate::proofs::GoodSteps::next_step, crate::proofs::GoodSteps::last_step, crate::proofs::GoodSteps::refused))]
+pub fn check_steps(steps: Steps) -> Result<(), BadStep>
+    ensures { check_seen result ≡ first_bad_from 0 (steps_of steps.entry) }
 {
-    let mut i: usize = 0;
-    while i < count {
-        let step = step_at(body, i);
-        let fault = step_fault(step);
-        if fault != refusal::NONE {
-            return StepsCheck::Bad {
+    for i in 0..steps.count {
+        if let Err(refusal) = step_fault(steps.step(i)) {
+            return Err(BadStep {
                 step: i as u8,
-                refusal: fault,
-            };
+                refusal,
+            });
         }
-        i = i + 1;
     }
-    StepsCheck::AllGood
+    Ok(())
 }

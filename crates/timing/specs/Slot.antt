@@ -1,6 +1,8 @@
 -- Document 01, "Confirmation and waiting": timeslots and the earliest next send.
-use Rattle.std.specs.Prelude.{ℕ, ◌+◌, ◌*◌, Bool, true, false, cond, ltb, leb}
+use Rattle.std.specs.Prelude.{ℕ, ◌+◌, ◌*◌, Bool, true, false, cond, ltb, leb, Result, Ok, Err}
 use Rattle.dpa.specs.Frame.{pdata_max}
+use Rattle.dpa.specs.Refusal.{refusal_number}
+use Rattle.dpa.specs.declared.refusal.Refusal.{Refusal}
 use Rattle.timing.specs.declared.slot.Network.{Network}
 use Rattle.timing.specs.declared.slot.Network.TheVariants.{Std, StdLp}
 use Rattle.timing.specs.declared.slot.SlotAnswer.{SlotAnswer}
@@ -32,6 +34,11 @@ direction_time hops slot = (hops + 1) * slot * 10
 abbrev pub direction_max : ℕ
 direction_max = 256 * 255 * 10
 
+-- the answer for C: a refused call has slot 0
+abbrev pub slot_answer_of : Result ℕ Refusal → SlotAnswer
+slot_answer_of (Ok slot) = record { refusal = 0; slot = slot }
+slot_answer_of (Err e) = record { refusal = refusal_number e; slot = 0 }
+
 -- `timeslot`: refusal 5 if PData is over 56 bytes
 unfoldable pub timeslot_of : ℕ → Network → SlotAnswer
 timeslot_of n net =
@@ -49,6 +56,11 @@ wait_max = 116735
 
 abbrev pub send_answer : ℕ → ℕ → SendAnswer
 send_answer refusal ms = record { refusal = refusal; milliseconds = ms }
+
+-- the answer for C: a refused call has no time
+abbrev pub send_answer_of : Result ℕ Refusal → SendAnswer
+send_answer_of (Ok ms) = send_answer 0 ms
+send_answer_of (Err e) = send_answer (refusal_number e) 0
 
 -- `earliest_send`: both lengths are tested, for a broadcast too
 unfoldable pub send_of : (hops request_length delay hops_of_response response_length : ℕ) (net : Network) (broadcast : Bool) → SendAnswer

@@ -1,15 +1,13 @@
 // The confirmation that the gateway returns for a request.
 ghost use Rattle.std.specs.Prelude.{◌≡◌, ◌≤◌, length};
-ghost use Rattle.dpa.specs.Answer.{length_result};
+ghost use Rattle.dpa.specs.Answer.{length_answer, length_result};
 ghost use Rattle.dpa.specs.Frame.{header_size};
-ghost use Rattle.dpa.specs.Lists.{overwrite_front};
-ghost use Rattle.timing.specs.Confirm.{confirmation_length, response_hops_sent, confirm_bytes, confirm_of};
+ghost use Rattle.timing.specs.Confirm.{response_hops_sent, confirm_of};
 
 use crate::slot::{Network, slot_of};
-use dpa::answer::LengthAnswer;
 use dpa::copy::copy;
 use dpa::frame::Frame;
-use dpa::refusal;
+use dpa::refusal::Refusal;
 
 // The status that marks a confirmation; it is where a response has ErrN.
 const STATUS_CONFIRMATION: u8 = 0xFF;
@@ -25,6 +23,7 @@ pub const AT_TIMESLOT: usize = Frame::HEADER + 3;
 pub const AT_RESPONSE_HOPS: usize = Frame::HEADER + 4;
 
 // A broadcast has no response, so its response hops are 0.
+#[tactic(auto, unfolding(crate::specs::Confirm::response_hops_sent))]
 fn response_hops_sent(frame: &[u8], response_hops: u8) -> u8
     requires { header_size ≤ length frame.now }
     ensures { result ≡ response_hops_sent frame.now response_hops }
@@ -36,27 +35,8 @@ fn response_hops_sent(frame: &[u8], response_hops: u8) -> u8
     response_hops
 }
 
-// Writes a confirmation to the front of its buffer.
-fn write_confirmation(
-    frame: &[u8],
-    dpa_value: u8,
-    hops: u8,
-    slot: u8,
-    response_hops: u8,
-    out: &mut [u8],
-)
-    requires { (header_size ≤ length frame.now) × (confirmation_length ≤ length out.old) }
-    ensures { out.new ≡ overwrite_front (confirm_bytes frame.now dpa_value hops slot response_hops) out.old }
-{
-    copy(&frame[0..Frame::HEADER], out);
-    out[Frame::AT_ERRN] = STATUS_CONFIRMATION;
-    out[Frame::AT_DPA_VALUE] = dpa_value;
-    out[AT_HOPS] = hops;
-    out[AT_TIMESLOT] = slot;
-    out[AT_RESPONSE_HOPS] = response_hops_sent(frame, response_hops);
-}
-
-// Confirms a request. NADR is not checked.
+// Confirms a request. NADR is not checked. The hops are no struct, because grelfint_confirm and a waiting request have them apart.
+#[tactic(auto, using(dpa::proofs::Headers::fits_sizes, crate::proofs::Confirmations::confirmation_length_lem), unfolding(crate::specs::Confirm::confirm_of))]
 pub fn confirm(
     frame: &[u8],
     dpa_value: u8,
@@ -64,25 +44,21 @@ pub fn confirm(
     response_hops: u8,
     network: Network,
     out: &mut [u8],
-) -> LengthAnswer
-    ensures { length_result result out.new ≡ confirm_of frame.now dpa_value hops response_hops network out.old }
+) -> Result<usize, Refusal>
+    ensures { length_result (length_answer result) out.new ≡ confirm_of frame.now dpa_value hops response_hops network out.old }
 {
     if !Frame::fits(frame.len()) {
-        return LengthAnswer {
-            refusal: refusal::FRAME,
-            length: 0,
-        };
+        return Err(Refusal::Frame);
     }
     if out.len() < Frame::RESPONSE_LONGEST {
-        return LengthAnswer {
-            refusal: refusal::RESPONSE,
-            length: 0,
-        };
+        return Err(Refusal::Response);
     }
     let slot = slot_of(frame.len() - Frame::HEADER, network);
-    write_confirmation(frame, dpa_value, hops, slot, response_hops, out);
-    LengthAnswer {
-        refusal: refusal::NONE,
-        length: CONFIRMATION_LENGTH,
-    }
+    copy(&frame[..Frame::HEADER], out);
+    out[Frame::AT_ERRN] = STATUS_CONFIRMATION;
+    out[Frame::AT_DPA_VALUE] = dpa_value;
+    out[AT_HOPS] = hops;
+    out[AT_TIMESLOT] = slot;
+    out[AT_RESPONSE_HOPS] = response_hops_sent(frame, response_hops);
+    Ok(CONFIRMATION_LENGTH)
 }

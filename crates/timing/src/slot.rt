@@ -1,25 +1,26 @@
 // Timeslots, and the times computed from them.
-ghost use Rattle.std.specs.Prelude.{◌≡◌, ◌≤◌};
-ghost use Rattle.timing.specs.Slot.{network_of, base_slot, network_extra, slot_of, direction_time, direction_max, timeslot_of, send_answer, send_of};
+ghost use Rattle.std.specs.Prelude.{◌≡◌, ◌≤◌, ◌<◌, MatchResult};
+ghost use Rattle.dpa.specs.Frame.{pdata_max};
+ghost use Rattle.timing.specs.Slot.{network_of, base_slot, network_extra, slot_of, direction_time, direction_max, slot_answer_of, timeslot_of, send_answer_of, send_of};
 
 use dpa::frame::Frame;
-use dpa::refusal;
+use dpa::refusal::{NONE, Refusal};
 
 // The network type.
-#[derive(Clone, Copy)]
+#[derive(Clone, Copy, Debug, PartialEq, Eq)]
 pub enum Network {
     Std,
     StdLp,
 }
 
 // C passes the network type as a flag: true is STD+LP.
-pub fn network_of(lp: bool) -> Network
-    ensures { result ≡ network_of lp }
-{
-    if lp {
-        return Network::StdLp;
+impl From<bool> for Network {
+    ghost from_gives = { λ lp network. network ≡ network_of lp };
+
+    #[tactic(auto, unfolding(crate::specs::Slot::network_of))]
+    fn from(lp: bool) -> Network {
+        if lp { Network::StdLp } else { Network::Std }
     }
-    Network::Std
 }
 
 // PData lengths of a medium slot; shorter PData takes a short slot, longer PData a long one.
@@ -42,6 +43,7 @@ pub const SLOT_UNIT_MS: u32 = 10;
 // The longest wait, in ms.
 pub const WAIT_MAX: u64 = 116735;
 
+// What C gets from `timeslot`: the refusal is a number beside the slot, for grelfint_timeslot.
 #[repr(C)]
 #[derive(Clone, Copy)]
 pub struct SlotAnswer {
@@ -49,6 +51,24 @@ pub struct SlotAnswer {
     pub slot: u8,
 }
 
+impl From<Result<u8, Refusal>> for SlotAnswer {
+    ghost from_gives = { λ outcome answer. answer ≡ slot_answer_of outcome };
+
+    fn from(outcome: Result<u8, Refusal>) -> SlotAnswer {
+        match outcome {
+            Ok(slot) => SlotAnswer {
+                refusal: NONE,
+                slot,
+            },
+            Err(refusal) => SlotAnswer {
+                refusal: u8::from(refusal),
+                slot: 0,
+            },
+        }
+    }
+}
+
+// What C gets from `earliest_send`: the refusal is a number beside the time, for grelfint_earliest_send.
 #[repr(C)]
 #[derive(Clone, Copy)]
 pub struct SendAnswer {
@@ -56,16 +76,25 @@ pub struct SendAnswer {
     pub milliseconds: u32,
 }
 
-fn send_answer(refusal: u8, milliseconds: u32) -> SendAnswer
-    ensures { result ≡ send_answer refusal milliseconds }
-{
-    SendAnswer {
-        refusal,
-        milliseconds,
+impl From<Result<u32, Refusal>> for SendAnswer {
+    ghost from_gives = { λ outcome answer. answer ≡ send_answer_of outcome };
+
+    fn from(outcome: Result<u32, Refusal>) -> SendAnswer {
+        match outcome {
+            Ok(milliseconds) => SendAnswer {
+                refusal: NONE,
+                milliseconds,
+            },
+            Err(refusal) => SendAnswer {
+                refusal: u8::from(refusal),
+                milliseconds: 0,
+            },
+        }
     }
 }
 
 // The part of a slot that depends on the PData length.
+#[tactic(auto, unfolding(crate::specs::Slot::base_slot))]
 fn base_slot(pdata_length: usize) -> u8
     ensures { (result ≡ base_slot pdata_length) × (result ≤ 6) }
 {
@@ -79,6 +108,7 @@ fn base_slot(pdata_length: usize) -> u8
 }
 
 // The part of a slot that depends on the network type.
+#[tactic(auto, unfolding(crate::specs::Slot::network_extra))]
 fn network_extra(network: Network) -> u8
     ensures { (result ≡ network_extra network) × (result ≤ 4) }
 {
@@ -89,6 +119,7 @@ fn network_extra(network: Network) -> u8
 }
 
 // The slot for a PData length, in units of 10 ms.
+#[tactic(auto, unfolding(crate::specs::Slot::slot_of))]
 pub fn slot_of(pdata_length: usize, network: Network) -> u8
     ensures { result ≡ slot_of pdata_length network }
 {
@@ -96,29 +127,35 @@ pub fn slot_of(pdata_length: usize, network: Network) -> u8
 }
 
 // Time for one direction: (hops + 1) slots, in ms.
+#[tactic(auto, unfolding(crate::specs::Slot::direction_time))]
 fn direction_time(hops: u8, slot: u8) -> u32
     ensures { (result ≡ direction_time hops slot) × (result ≤ direction_max) }
 {
-    (hops as u32 + 1) * (slot as u32) * SLOT_UNIT_MS
+    (u32::from(hops) + 1) * u32::from(slot) * SLOT_UNIT_MS
+}
+
+// Refuses PData that no frame can hold.
+fn check_length(pdata_length: usize) -> Result<(), Refusal>
+    ensures { MatchResult result (λ x. pdata_length ≤ pdata_max) (λ e. (e ≡ Refusal.Pdata) × (pdata_max < pdata_length)) }
+{
+    if Frame::PDATA_MAX < pdata_length {
+        return Err(Refusal::Pdata);
+    }
+    Ok(())
 }
 
 // The slot for a PData length that fits in a frame.
-pub fn timeslot(pdata_length: usize, network: Network) -> SlotAnswer
-    ensures { result ≡ timeslot_of pdata_length network }
+#[tactic(auto, unfolding(crate::specs::Slot::timeslot_of))]
+pub fn timeslot(pdata_length: usize, network: Network) -> Result<u8, Refusal>
+    ensures { slot_answer_of result ≡ timeslot_of pdata_length network }
 {
-    if Frame::PDATA_MAX < pdata_length {
-        return SlotAnswer {
-            refusal: refusal::PDATA,
-            slot: 0,
-        };
-    }
-    SlotAnswer {
-        refusal: refusal::NONE,
-        slot: slot_of(pdata_length, network),
-    }
+    check_length(pdata_length)?;
+    Ok(slot_of(pdata_length, network))
 }
 
-// How long after the confirmation the next request may be sent.
+// How long after the confirmation the next request may be sent, in ms. Hops and lengths are no structs, because grelfint_earliest_send and a
+// waiting request have them apart: a struct would be built for this call alone.
+#[tactic(auto, unfolding(crate::specs::Slot::send_of, crate::specs::Slot::earliest_of))]
 pub fn earliest_send(
     hops: u8,
     request_length: usize,
@@ -127,19 +164,16 @@ pub fn earliest_send(
     response_length: usize,
     network: Network,
     broadcast: bool,
-) -> SendAnswer
-    ensures { result ≡ send_of hops request_length delay response_hops response_length network broadcast }
+) -> Result<u32, Refusal>
+    ensures { send_answer_of result ≡ send_of hops request_length delay response_hops response_length network broadcast }
 {
-    if Frame::PDATA_MAX < request_length {
-        return send_answer(refusal::PDATA, 0);
-    }
-    if Frame::PDATA_MAX < response_length {
-        return send_answer(refusal::PDATA, 0);
-    }
-    let request_and_delay = direction_time(hops, slot_of(request_length, network)) + delay as u32;
+    check_length(request_length)?;
+    check_length(response_length)?;
+    let request_and_delay = direction_time(hops, slot_of(request_length, network))
+        + u32::from(delay);
     if broadcast {
-        return send_answer(refusal::NONE, request_and_delay);
+        return Ok(request_and_delay);
     }
     let response = direction_time(response_hops, slot_of(response_length, network));
-    send_answer(refusal::NONE, request_and_delay + response)
+    Ok(request_and_delay + response)
 }

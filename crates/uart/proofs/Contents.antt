@@ -4,20 +4,20 @@ use mathlib.Core.List.{List, [], ◌∷◌, ◌++◌}
 use mathlib.Core.Bool.{Bool, true, false, cond, not, ◌&&◌}
 use Prim.Native.Nat.{ℕ, suc, ◌+◌, ◌-◌, ◌≤◌, ◌<◌, min}
 use native.Mathlib.Omega.{arith}
+use Rattle.std.proofs.lemmas.Bool.Decides.{nat_tests}
 use native.Mathlib.Nat.{zero-min}
 use native.Mathlib.Numerals.{add-one}
-use borrow.Author.Tests.{lt-ltb, ltb-true, ltb-false, eq-eqb, ne_eqb, eqb-true, eqb-false, not-true}
+use borrow.Author.Tests.{lt-ltb, ltb-true, ltb-false, eq-eqb, ne_eqb, eqb-true, eqb-false}
 use lib.Dec.{eqb, ltb}
 use lib.ListN.{length, get_or, take, drop, set, take-append-drop, length-append, length-take, length-drop, get_or-append}
 use lib.Seq.{length-take-le, take_all, take_at, take-nil, take-append-le, drop-cons, set-append_seam, append_snoc}
 use Rattle.dpa.specs.Lists.{overwrite_front, All, fold}
-use Rattle.dpa.proofs.Bool.{by_cond, by_test, and_left, and_right}
+use Rattle.dpa.proofs.Bool.{by_cond, by_test}
 use Rattle.uart.specs.declared.receiver.Receiver.{Receiver}
 use Rattle.crc.specs.CheckByte.{check_byte}
 use Rattle.framing.specs.Framing.{flag, escape, flipped, shortest}
 use Rattle.uart.specs.Receiver.{place_count, before_flag, in_frame, after_escape, receiver_from, new_receiver, limit_ok, receiver_ok, Event, none, frame, dropped, drop_cause, event_for, frame_event, begun, byte_event, data_byte, stored, next_receiver}
 use Rattle.uart.specs.Stream.{Content, CauseOf, too_long, cut_after_escape, short, wrong_check_byte, good, content, nothing_yet, unescape_byte, unescape_bytes, content_event, listed, events_after, stream_events, heard, heard_from}
-use Rattle.uart.proofs.Causes.{too_long_lem, cut_off, too_short, right_check, wrong_check}
 use Rattle.uart.proofs.Receivers.{limit_range, receiver_facts, new_sound}
 use Rattle.uart.proofs.Receiving.{no_flag_event, idle_event, next_before}
 
@@ -51,19 +51,17 @@ module _ (limit : ℕ) (t : Content) where
 
   -- a cause that is true of the content is the one that is computed
   pub cause_exact : (k : ℕ) → CauseOf limit t k → drop_cause limit (length t.bytes) t.cut t.bytes ≡ k
-  cause_exact k (too_long e l) = too_long_lem _ _ _ _ l ∙ sym e
-  cause_exact k (cut_after_escape e l c) = cut_off _ _ _ _ l c ∙ sym e
-  cause_exact k (short e l c s) = too_short _ _ _ _ l c s ∙ sym e
-  cause_exact k (wrong_check_byte e l c s w) = wrong_check _ _ _ _ l c s w ∙ sym e
-  cause_exact k (good e l c s w) = right_check _ _ _ _ l c s w ∙ sym e
+  unfolding drop_cause
+  cause_exact k (too_long e l) = grind (arith, nat_tests)
+  cause_exact k (cut_after_escape e l c) = grind (arith, nat_tests)
+  cause_exact k (short e l c s) = grind (arith, nat_tests)
+  cause_exact k (wrong_check_byte e l c s w) = grind (arith, nat_tests)
+  cause_exact k (good e l c s w) = grind (arith, nat_tests)
 
   -- a flag after a content that is not empty gives the event for its cause
   pub cause_event : (k : ℕ) → CauseOf limit t k → (t.cut ≡ false → 1 ≤ length t.bytes) → content_event limit t ≡ event_for k (length t.bytes) t.bytes
   unfolding content_event
-  cause_event k c h =
-      by_cond (λ (e : Event). e ≡ event_for k (length t.bytes) t.bytes) (not t.cut && eqb (length t.bytes) 0) _ _
-      (λ z. let n = eqb-true (length t.bytes) 0 (and_right (not t.cut) _ z) in let m = h (not-true t.cut (and_left _ _ z)) in absurd (omega arith))
-      (λ z. ap (λ (x : ℕ). event_for x (length t.bytes) t.bytes) (cause_exact k c))
+  cause_event k c h = let e = cause_exact k c in grind (arith, nat_tests)
 
   -- and a drop is given only for a cause that is true
   pub dropped_cause : (k : ℕ) → content_event limit t ≡ dropped k → CauseOf limit t k

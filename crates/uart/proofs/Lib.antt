@@ -1,4 +1,3 @@
-pub mod Causes
 pub mod Receivers
 pub mod Receiving
 pub mod Streams

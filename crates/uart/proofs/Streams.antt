@@ -4,6 +4,7 @@ use mathlib.Core.List.{List, [], ◌∷◌, ◌++◌, append_assoc, append-nil, 
 use mathlib.Core.Bool.{Bool, true, ◌&&◌}
 use Prim.Native.Nat.{ℕ, zero, suc, ◌+◌, ◌-◌, ◌≤◌, min}
 use native.Mathlib.Omega.{arith}
+use Rattle.std.proofs.lemmas.Bool.Decides.{nat_tests}
 use borrow.Author.Tests.{ne_eqb, ltb-false, eqb-true, eqb-false}
 use lib.Dec.{eqb, ltb}
 use lib.ListN.{length, get_or, take, drop, replicate, length-take, length-drop, take-append-drop}
@@ -44,19 +45,13 @@ receive_heard r (b ∷ bs) rest =
 taken_range : (r : Receiver) (bs : List ℕ) → (1 ≤ length bs → 1 ≤ (receive_from r bs).taken) × ((receive_from r bs).taken ≤ length bs)
 unfolding receive_from
 taken_range r [] = (λ h. absurd (omega arith), omega arith)
-taken_range r (b ∷ bs) =
-    by_cond (λ (x : Received). (1 ≤ suc (length bs) → 1 ≤ x.taken) × (x.taken ≤ suc (length bs))) (is_none (byte_event r b)) _ _
-    (λ q. let z = taken_range (next_receiver r b) bs in (λ h. omega arith, omega arith))
-    (λ q. (λ h. omega arith, omega arith))
+taken_range r (b ∷ bs) = let z = taken_range (next_receiver r b) bs in (grind (arith, nat_tests), grind (arith, nat_tests))
 
 -- without an event all bytes are taken
 none_takes_all : (r : Receiver) (bs : List ℕ) → is_none (receive_from r bs).event ≡ true → (receive_from r bs).taken ≡ length bs
 unfolding receive_from
 none_takes_all r [] = λ e. refl
-none_takes_all r (b ∷ bs) =
-    by_cond (λ (x : Received). is_none x.event ≡ true → x.taken ≡ suc (length bs)) (is_none (byte_event r b)) _ _
-    (λ q e. let z = none_takes_all (next_receiver r b) bs e in omega arith)
-    (λ q e. let z : ◌≡◌ {A = ℕ} 0 1 = cc in absurd (omega arith))
+none_takes_all r (b ∷ bs) = let z = none_takes_all (next_receiver r b) bs in grind (arith, nat_tests)
 
 -- ---- the size of what comes
 

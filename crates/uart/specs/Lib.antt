@@ -1,3 +1,4 @@
 pub mod Receiver
+pub mod Progress
 pub mod Stream
 pub mod Serial

@@ -2,6 +2,10 @@
 use Rattle.std.specs.Prelude.{ℕ, ◌+◌, ◌-◌, ◌≤◌, ◌≡◌, List, [], ◌∷◌, Bool, true, false, cond, not, ◌&&◌, ◌||◌, length, get_or, take, set, replicate, eqb, ltb, leb}
 use Rattle.dpa.specs.Lists.{overwrite_front}
 use Rattle.uart.specs.declared.receiver.Receiver.{Receiver}
+use Rattle.uart.specs.declared.receiver.Phase.{Phase}
+use Rattle.uart.specs.declared.receiver.Phase.TheVariants.{BeforeFlag, InFrame, AfterEscape}
+use Rattle.uart.specs.declared.receiver.DropCause.{DropCause}
+use Rattle.uart.specs.declared.receiver.DropCause.TheVariants.{TooLong, Cut, Short, CheckByte}
 use Rattle.uart.specs.declared.receiver.ReceiveAnswer.{ReceiveAnswer}
 use Rattle.crc.specs.CheckByte.{check_byte}
 use Rattle.framing.specs.Framing.{flag, escape, flipped, shortest, longest}
@@ -28,6 +32,12 @@ in_frame = 1
 
 abbrev pub after_escape : ℕ
 after_escape = 2
+
+-- the number of each phase in the record
+abbrev pub phase_number : Phase → ℕ
+phase_number BeforeFlag = before_flag
+phase_number InFrame = in_frame
+phase_number AfterEscape = after_escape
 
 abbrev pub receiver_from : (limit phase count : ℕ) → List ℕ → Receiver
 receiver_from limit phase count bytes = record { limit = limit; phase = phase; count = count; bytes = bytes }
@@ -72,6 +82,13 @@ drop_cause limit n cut bytes =
     (cond (ltb n (shortest + 1)) 3
     (cond (eqb (check_byte (take (n - 1) bytes)) (get_or bytes (n - 1) 0)) 0
     4)))
+
+-- the number of each cause
+abbrev pub cause_number : DropCause → ℕ
+cause_number TooLong = 1
+cause_number Cut = 2
+cause_number Short = 3
+cause_number CheckByte = 4
 
 -- the event for a cause; a good frame is handed out without its check byte
 unfoldable pub event_for : (cause n : ℕ) → List ℕ → Event

@@ -1,133 +1,154 @@
-// Histories of a gateway: bonds, requests and releases.
-ghost use Rattle.std.specs.Prelude.{◌≤◌, length};
-
-use crate::print::{print_bytes, print_number, print_text};
-use crate::rows::{MOST, find, read_bytes};
+// Histories of a gateway: bonds, requests and releases. Times are in ms.
+use crate::print::front;
 use dpa::frame::Frame;
-use dpa::number::{wide_word, word_of};
 use gateway::bonding::{bond, gateway_start};
-use gateway::record::Gateway;
+use gateway::record::{Gateway, GatewayAnswer};
 use gateway::sending::{release, send};
+use queue::record::QUEUE_SIZE;
 
-// Adds a bond and prints how many there are.
-fn print_bonds(rt: &impl Print, gateway: Gateway, text: &[u8], address: u8) -> Gateway {
-    let bonded = bond(gateway, address as u16);
-    print_number(rt, text, bonded.count as u64);
-    print_text(rt, b"\n");
+#[derive(Clone, Copy)]
+struct Request {
+    hops: u8,
+    response_hops: u8,
+    delay: u16,
+    frame: &'static [u8],
+}
+
+// The request of the confirmation.
+const GUIDE: Request = Request {
+    hops: 6,
+    response_hops: 6,
+    delay: 20,
+    frame: b"\x0A\x00\x07\x01\xFF\xFF",
+};
+
+const TO_NODE_1: Request = Request {
+    hops: 2,
+    response_hops: 3,
+    delay: 20,
+    frame: b"\x01\x00\x71\x00\xFF\xFF\x01\x00\x00\x00\x64",
+};
+
+const TO_NODE_2: Request = Request {
+    frame: b"\x02\x00\x71\x00\xFF\xFF\x01\x00\x00\x00\x64",
+    ..TO_NODE_1
+};
+
+const TO_NODE_5: Request = Request {
+    frame: b"\x05\x00\x71\x00\xFF\xFF\x01\x00\x00\x00\x64",
+    ..TO_NODE_1
+};
+
+const TO_ALL: Request = Request {
+    frame: b"\xFF\x00\x71\x00\xFF\xFF\x01\x00\x00\x00\x64",
+    ..TO_NODE_1
+};
+
+// What is done with the gateway.
+#[derive(Clone, Copy)]
+enum Row {
+    // A bond is added, and the number of bonds printed.
+    Bond(u16),
+    // A request comes at a time, and nothing is printed.
+    Quiet(Request, u64),
+    // A request comes at a time, and its refusal is printed after this text.
+    Send(&'static str, Request, u64),
+    // A release at a time; the frame and its confirmation are printed, or nothing.
+    Release(u64),
+}
+
+fn print_bonds(rt: &impl Print, gateway: Gateway, address: u16) -> Gateway {
+    let bonded = bond(gateway, address);
+    let _ = println!(rt; "bonds {}", bonded.count);
     bonded.gateway
 }
 
-// Releases at this time; prints the frame and its confirmation, or nothing.
-fn print_release(rt: &impl Print, gateway: Gateway, text: &[u8], time: u64) -> Gateway {
+fn print_release(rt: &impl Print, gateway: Gateway, time: u64) -> Gateway {
     let mut out = [0u8; Frame::RESPONSE_LONGEST];
     let released = release(gateway, time, &mut out);
-    let frame = released.frame;
-    print_text(rt, text);
-    print_bytes(rt, b":", &frame, released.frame_length);
-    print_bytes(rt, b"confirmation", &out, released.length);
+    let _ = println!(rt;
+        "release at {time}:{}",
+        front(&released.frame, released.frame_length)
+    );
+    let _ = println!(rt; "confirmation{}", front(&out, released.length));
     released.gateway
 }
 
-// Sends the request of a row: hops, response hops, two bytes of delay, two of time, and the frame. With a name its refusal is printed.
-fn print_send(rt: &impl Print, gateway: Gateway, text: &[u8], row: &[u8]) -> Gateway
-    requires { 6 ≤ length row.now }
-{
-    let delay = word_of(row[2], row[3]);
-    let time = wide_word(word_of(row[4], row[5])) as u64;
-    let sent = send(gateway, &row[6..], row[0], row[1], delay, time);
-    if text.len() != 0 {
-        print_number(rt, text, sent.refusal as u64);
-        print_text(rt, b"\n");
-    }
+fn send_at(gateway: Gateway, request: Request, time: u64) -> GatewayAnswer {
+    let Request {
+        hops,
+        response_hops,
+        delay,
+        frame,
+    } = request;
+    send(gateway, frame, hops, response_hops, delay, time)
+}
+
+fn print_send(
+    rt: &impl Print,
+    gateway: Gateway,
+    text: &str,
+    request: Request,
+    time: u64,
+) -> Gateway {
+    let sent = send_at(gateway, request, time);
+    let _ = println!(rt; "{text} {}", sent.refusal);
     sent.gateway
 }
 
-// Runs a row and returns the gateway. One byte is a bond, two are the time of a release, any other number is a request.
-fn run_row(rt: &impl Print, gateway: Gateway, row: &[u8]) -> Gateway {
-    let colon = find(row, 0, b':');
-    let text = &row[..colon];
-    let mut bytes = [0u8; MOST];
-    let n = read_bytes(&row[colon..], &mut bytes);
-    if n < 2 {
-        return print_bonds(rt, gateway, text, bytes[0]);
+fn run_row(rt: &impl Print, gateway: Gateway, row: Row) -> Gateway {
+    match row {
+        Row::Bond(address) => print_bonds(rt, gateway, address),
+        Row::Quiet(request, time) => send_at(gateway, request, time).gateway,
+        Row::Send(text, request, time) => print_send(rt, gateway, text, request, time),
+        Row::Release(time) => print_release(rt, gateway, time),
     }
-    if n < 6 {
-        let time = wide_word(word_of(bytes[0], bytes[1]));
-        return print_release(rt, gateway, text, time as u64);
-    }
-    print_send(rt, gateway, text, &bytes[..n])
 }
 
-fn run_rows(rt: &impl Print, started: Gateway, rows: &[u8]) {
+fn run_rows(rt: &impl Print, started: Gateway, rows: &[Row]) -> Gateway {
     let mut gateway = started;
-    let mut start: usize = 0;
-    while start < rows.len() {
-        let end = find(rows, start, b'\n');
-        gateway = run_row(rt, gateway, &rows[start..end]);
-        start = end + 1;
+    for &row in rows {
+        gateway = run_row(rt, gateway, row);
     }
+    gateway
 }
 
-// The request of the confirmation, twice, with 6 hops each way and a delay of 20 ms, at 1000 ms. The second is released 720 ms after the
-// first.
-fn print_guide(rt: &impl Print) {
-    run_rows(
-        rt,
-        gateway_start(false, 7),
-        b"bonds: 0A
-: 06 06 14 00 E8 03 0A 00 07 01 FF FF
-: 06 06 14 00 E8 03 0A 00 07 01 FF FF
-release at 1000: E8 03
-release at 1719: B7 06
-release at 1720: B8 06
-",
-    );
-}
+// The request of the confirmation, twice. The second is released 720 ms after the first.
+const CONFIRMED: [Row; 6] = [
+    Row::Bond(10),
+    Row::Quiet(GUIDE, 1000),
+    Row::Quiet(GUIDE, 1000),
+    Row::Release(1000),
+    Row::Release(1719),
+    Row::Release(1720),
+];
 
-// A request to node 5, one to all nodes, and one to node 5, with 2 hops, response hops 3 and a delay of 20 ms. After a request to all
-// nodes, no response is waited for.
-fn print_waits(rt: &impl Print) {
-    run_rows(
-        rt,
-        gateway_start(false, 7),
-        b"bonds: 05
-: 02 03 14 00 84 03 05 00 71 00 FF FF 01 00 00 00 64
-: 02 03 14 00 B6 03 FF 00 71 00 FF FF 01 00 00 00 64
-: 02 03 14 00 B6 03 05 00 71 00 FF FF 01 00 00 00 64
-release at 1000: E8 03
-release at 1379: 63 05
-release at 1380: 64 05
-release at 1519: EF 05
-release at 1520: F0 05
-",
-    );
-}
+// A request to node 5, one to all nodes, and one to node 5. After a request to all nodes, no response is waited for.
+const WAITS: [Row; 9] = [
+    Row::Bond(5),
+    Row::Quiet(TO_NODE_5, 900),
+    Row::Quiet(TO_ALL, 950),
+    Row::Quiet(TO_NODE_5, 950),
+    Row::Release(1000),
+    Row::Release(1379),
+    Row::Release(1380),
+    Row::Release(1519),
+    Row::Release(1520),
+];
 
-// Eight requests to node 1, the only bonded one, at 1000 ms. Then requests at 999 ms: to another node, to a full queue, and after a
-// release.
-fn print_refusals(rt: &impl Print) {
-    run_rows(
-        rt,
-        gateway_start(true, 0),
-        b"bonds: 01
-: 02 03 14 00 E8 03 01 00 71 00 FF FF 01 00 00 00 64
-: 02 03 14 00 E8 03 01 00 71 00 FF FF 01 00 00 00 64
-: 02 03 14 00 E8 03 01 00 71 00 FF FF 01 00 00 00 64
-: 02 03 14 00 E8 03 01 00 71 00 FF FF 01 00 00 00 64
-: 02 03 14 00 E8 03 01 00 71 00 FF FF 01 00 00 00 64
-: 02 03 14 00 E8 03 01 00 71 00 FF FF 01 00 00 00 64
-: 02 03 14 00 E8 03 01 00 71 00 FF FF 01 00 00 00 64
-: 02 03 14 00 E8 03 01 00 71 00 FF FF 01 00 00 00 64
-no bond, no place, time 999, refusal: 02 03 14 00 E7 03 02 00 71 00 FF FF 01 00 00 00 64
-no place, time 999, refusal: 02 03 14 00 E7 03 01 00 71 00 FF FF 01 00 00 00 64
-release at 1000: E8 03
-time 999, refusal: 02 03 14 00 E7 03 01 00 71 00 FF FF 01 00 00 00 64
-",
-    );
-}
+// Requests at 999 ms, when the queue is full with requests to node 1 that came at 1000 ms: to a node that is not bonded, to node 1, and
+// after a release.
+const REFUSALS: [Row; 4] = [
+    Row::Send("no bond, no place, time 999, refusal", TO_NODE_2, 999),
+    Row::Send("no place, time 999, refusal", TO_NODE_1, 999),
+    Row::Release(1000),
+    Row::Send("time 999, refusal", TO_NODE_1, 999),
+];
 
 pub fn print_gateways(rt: &impl Print) {
-    print_guide(rt);
-    print_waits(rt);
-    print_refusals(rt);
+    run_rows(rt, gateway_start(false, 7), &CONFIRMED);
+    run_rows(rt, gateway_start(false, 7), &WAITS);
+    let bonded = run_rows(rt, gateway_start(true, 0), &[Row::Bond(1)]);
+    let full = run_rows(rt, bonded, &[Row::Quiet(TO_NODE_1, 1000); QUEUE_SIZE]);
+    run_rows(rt, full, &REFUSALS);
 }

@@ -9,10 +9,10 @@ use Rattle.acceptance.specs.RunScene.{zero_buffer}
 use Rattle.acceptance.proofs.run.handle_output.Goals as goal
 
 pub handle_all-requires : goal.handle_all-requires
-handle_all-requires c = parts_covered c.args.output.now c.wide-start.ensures.0 c.requires
+handle_all-requires c = parts_covered c.args.output.now c.from-start.ensures c.requires
 
 pub returns : goal.returns
 returns c =
     let a = c.args in
     c.handle_all.ensures
-    ∙ ap (λ (rs : List (List ℕ)). after_calls (λ _. zero_buffer) rs (state a.node a.eeprom.now a.external.now)) (parts_requests a.output.now c.wide-start.ensures.0)
+    ∙ ap (λ (rs : List (List ℕ)). after_calls (λ _. zero_buffer) rs (state a.node a.eeprom.now a.external.now)) (parts_requests a.output.now c.from-start.ensures)

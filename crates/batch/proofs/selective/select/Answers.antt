@@ -1,17 +1,16 @@
 -- `selective::select`: one law of `selection_of` for each return.
-use mathlib.Core.Path.{◌≡◌, sym, ap, ◌∙◌}
-use mathlib.Core.List.{List}
-use Prim.Native.Nat.{ℕ, ◌≤◌}
+use mathlib.Core.Path.{sym, ap, ◌∙◌}
 use native.Mathlib.Omega.{arith}
-use lib.ListN.{length, drop, length-drop}
+use borrow.Author.Rules.{rules}
+use Prim.Native.Nat.{◌+◌, ◌<◌}
+use Rattle.std.proofs.Common.{◌^◌}
 use lib.Seq.{length-take-le}
 use Rattle.dpa.specs.NodeSet.{node_set_size}
-use Rattle.dpa.proofs.Lists.{slice_to_end}
-use Rattle.batch.specs.declared.selective.Selection.TheVariants.{Selected}
-use Rattle.batch.specs.Batch.{reading, place_of, shift_fault}
-use Rattle.batch.specs.Selective.{selective_pdata_min}
-use Rattle.batch.proofs.Places.{place_max}
-use Rattle.batch.proofs.Selections.{select_short, select_other, select_list}
+use Rattle.batch.specs.Seen.{check_seen}
+use Rattle.batch.specs.Selective.{Selected}
+use Rattle.batch.proofs.Places.{place_in_list}
+use Rattle.batch.proofs.CheckResults.{check_moved}
+use Rattle.batch.proofs.Selections.{select_short, select_other, select_named}
 use Rattle.batch.proofs.selective.select.Goals as goal
 
 pub returns-then-pdata-lt-SHORTEST : goal.returns-then-pdata-lt-SHORTEST
@@ -23,17 +22,13 @@ slice_bounds-selects-end c = sym (length-take-le node_set_size c.args.pdata.now 
 pub returns-then-not-selects : goal.returns-then-not-selects
 returns-then-not-selects c = sym (select_other _ _ c.if-pdata-lt-SHORTEST.false (sym c.selects.ensures ∙ c.if-not-selects.true))
 
-pub after_node_set-check-requires : goal.after_node_set-check-requires
-after_node_set-check-requires c =
-    let pdata : List ℕ = c.args.pdata.now in
-    let long : selective_pdata_min ≤ length pdata = c.if-pdata-lt-SHORTEST.false in
-    let list-check : c.check_list-list.result ≡ (reading (drop node_set_size pdata)).check = c.check_list-list.ensures ∙ ap (λ (s : List ℕ). (reading s).check) (slice_to_end node_set_size pdata) in
-    omega (arith, ap place_of list-check, place_max (drop node_set_size pdata), length-drop node_set_size pdata, long)
+pub map_err-requires : goal.map_err-requires
+map_err-requires c =
+    λ f was.
+    let fits : node_set_size + f.at < 2 ^ 64 = omega (arith, place_in_list c.args.pdata.now node_set_size (omega arith) (sym (ap check_seen was) ∙ c.check_list-list.ensures)) in
+    search rules
 
 pub returns : goal.returns
 returns c =
-    let pdata : List ℕ = c.args.pdata.now in
-    let long : selective_pdata_min ≤ length pdata = c.if-pdata-lt-SHORTEST.false in
-    let list-check : c.check_list-list.result ≡ (reading (drop node_set_size pdata)).check = c.check_list-list.ensures ∙ ap (λ (s : List ℕ). (reading s).check) (slice_to_end node_set_size pdata) in
-    ap Selected (c.after_node_set-check.ensures ∙ ap (shift_fault node_set_size) list-check)
-    ∙ sym (select_list pdata _ long (sym c.selects.ensures ∙ c.if-not-selects.false))
+    ap Selected (check_moved _ _ (λ f g e. search rules) _ _ c.map_err.ensures.cases)
+    ∙ sym (select_named _ _ c.if-pdata-lt-SHORTEST.false (sym c.selects.ensures ∙ c.if-not-selects.false) c.check_list-list.ensures)

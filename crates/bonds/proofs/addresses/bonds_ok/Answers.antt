@@ -5,7 +5,6 @@ use lib.ListN.{length}
 use borrow.Author.Rules.{rules}
 use Rattle.bonds.specs.Bonds.{bonds_size}
 use Rattle.bonds.proofs.Bonds.{zero_fails, byte_fails, last_tested}
-use borrow.Author.Rules.{rules}
 use Rattle.bonds.proofs.addresses.bonds_ok.Goals as goal
 
 pub returns-then-selects : goal.returns-then-selects

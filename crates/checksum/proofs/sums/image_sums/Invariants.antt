@@ -1,12 +1,13 @@
--- `sums::image_sums` meets its contract. The invariant: adding the bytes from `at` on gives the sums of the image.
-use Prim.Native.Nat.{◌≤◌, ◌-◌}
-use mathlib.Core.Path.{◌≡◌}
-use lib.ListN.{length, drop}
+-- The bytes that are left, added to the sums, give the sums of the image. A block has at most 64 bytes.
+use Rattle.std.proofs.Common.{◌≡◌, ◌<◌, ◌≤◌}
+use Rattle.std.specs.Slice.Iter.{chunks_rest, chunks_size}
 use Rattle.checksum.specs.Sums.{sums, start}
+use Rattle.checksum.specs.Blocks.{block_max}
 use Rattle.checksum.proofs.sums.image_sums.Given as goal
 
-abbrev pub invariant-loop-at : goal.invariant-loop-at
-invariant-loop-at l = (l.at ≤ length l.image) × (sums l.s (drop l.at l.image) ≡ sums (start l.initial_low) l.image)
-
-abbrev pub decreases-loop-at : goal.decreases-loop-at
-decreases-loop-at l = length l.image - l.at
+abbrev pub invariant-loop-block : goal.invariant-loop-block
+invariant-loop-block l = record {
+  some : 0 < chunks_size l.block-iterator;
+  size_max : chunks_size l.block-iterator ≤ block_max;
+  rest : sums l.sums (chunks_rest l.block-iterator) ≡ sums (start l.initial_low) l.image;
+}

@@ -1,35 +1,14 @@
--- `check_byte::check_byte` meets its contract. The invariant: the CRC over the bytes from i on gives the check byte.
-use Prim.Native.Nat.{◌+◌, ◌-◌}
-use mathlib.Core.Path.{◌≡◌, refl, ap, ◌∙◌}
-use native.Mathlib.Omega.{arith}
-use lib.ListN.{length-take, length-drop}
-use Rattle.dpa.proofs.Lists.{slice_to_end}
-use Rattle.crc.specs.CheckByte.{crc_bytes}
-use Rattle.crc.specs.ShiftTable.{bytes_at_once}
-use Rattle.crc.proofs.CheckBytes.{crc_later}
+-- `check_byte::check_byte` meets its contract: blocks, then what is left.
+use Rattle.std.proofs.Common.{rules}
+use borrow.Author.Tests.{tests}
+use Rattle.std.proofs.lemmas.Iterator.{YieldsList-from_slice}
+use Rattle.std.proofs.lemmas.Iterator.Consumers.{fold_from_yields_List}
+use Rattle.crc.specs.CheckByte.{crc_byte, crc_bytes}
+use Rattle.crc.proofs.CheckBytes.{message_added}
 use Rattle.crc.proofs.check_byte.check_byte.Goals as goal
-
-pub crc_block-crc-requires : goal.crc_block-crc-requires
-crc_block-crc-requires c = (c.shift_table-table.ensures, simp (length-take, length-drop) (omega arith))
-
-pub loop-i-preserved : goal.loop-i-preserved
-loop-i-preserved c =
-    let loop = c.loop-i in
-    let bytes = c.args.bytes.now in
-    let n : loop.i + bytes_at_once - loop.i ≡ bytes_at_once = omega arith in
-    (omega arith, crc_later bytes loop.crc _ loop.i bytes_at_once (c.crc_block-crc.ensures ∙ rw n) ∙ loop.invariant.1)
 
 pub returns : goal.returns
 returns c =
-    let loop = c.loop-i in
-    let bytes = c.args.bytes.now in
-    c.crc_bytes.ensures ∙ ap (crc_bytes loop.crc) (slice_to_end loop.i bytes) ∙ loop.invariant.1
-
-pub shift_table-table-requires : goal.shift_table-table-requires
-shift_table-table-requires c = tt
-
-pub loop-i-init : goal.loop-i-init
-loop-i-init c = (omega arith, refl)
-
-pub crc_bytes-requires : goal.crc_bytes-requires
-crc_bytes-requires c = c.shift_table-table.ensures
+    message_added c.args.bytes.now _ _ _ _ c.as_chunks.ensures.front c.as_chunks.ensures.back
+    (fold_from_yields_List _ crc_bytes _ c.fold-crc.result c.fold-crc.ensures.ran (YieldsList-from_slice _ c.iter.ensures.rest) (λ a x b q k. search (rules, tests)))
+    (fold_from_yields_List _ crc_byte _ c.fold.result c.fold.ensures.ran (YieldsList-from_slice _ c.iter-2.ensures.rest) (λ a x b q k. search (rules, tests)))

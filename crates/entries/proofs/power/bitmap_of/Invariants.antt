@@ -1,10 +1,7 @@
--- The loop: `bitmap` is that of the first i steps.
-use Prim.Native.Nat.{◌-◌}
-use Rattle.entries.proofs.Writing.{BitmapOfFirst}
+-- The loop: the bits of the steps that the iterator has left are still to be added.
+use Rattle.book.specs.Steps.{steps_of}
+use Rattle.entries.proofs.Writing.{BitmapSoFar}
 use Rattle.entries.proofs.power.bitmap_of.Given as goal
 
-abbrev pub invariant-loop-i : goal.invariant-loop-i
-invariant-loop-i l = BitmapOfFirst l.count l.body l.i l.bitmap
-
-abbrev pub decreases-loop-i : goal.decreases-loop-i
-decreases-loop-i l = l.count - l.i
+abbrev pub invariant-loop-step : goal.invariant-loop-step
+invariant-loop-step l = BitmapSoFar (steps_of l.steps) (steps_of l.step-iterator) l.bitmap

@@ -1,26 +1,18 @@
--- `escape::escaped_all_length` meets its contract. The invariant: the bytes from i on make up the rest of the length.
-use Prim.Native.Nat.{◌+◌}
-use mathlib.Core.Path.{ap, ◌∙◌}
-use native.Mathlib.Omega.{arith}
-use lib.ListN.{length, get_or, drop, length-append, drop_of_length-le}
+-- `escape::escaped_all_length` meets its contract: a message takes what its bytes take.
+use Rattle.std.proofs.Common.{ℕ, ◌≡◌, ◌∙◌, length, arith, rules}
+use borrow.Author.Tests.{tests}
+use Rattle.std.proofs.lemmas.Iterator.{YieldsList-from_slice, YieldsList-from_map}
+use Rattle.std.proofs.lemmas.Iterator.Consumers.{sum_by_from_yields_List}
 use Rattle.framing.specs.Framing.{escaped, escaped_all}
-use Rattle.framing.proofs.Escapes.{escaped_from, escaped_none}
+use Rattle.framing.proofs.Escapes.{escaped_sum, escaped_max}
 use Rattle.framing.proofs.escape.escaped_all_length.Goals as goal
-
-pub loop-i-preserved : goal.loop-i-preserved
-loop-i-preserved c =
-    let loop = c.loop-i in
-    let m = c.args.message.now in
-    let i = loop.i in
-    let next = ap length (escaped_from m i (omega arith)) ∙ length-append (escaped (get_or m i 0)) (escaped_all (drop (i + 1) m)) in (
-      omega (arith, c.escaped_length-n.ensures),
-      omega (arith, next, c.escaped_length-n.ensures, loop.invariant),
-      omega arith,
-    )
 
 pub returns : goal.returns
 returns c =
-    let loop = c.loop-i in
     let m = c.args.message.now in
-    let none = ap length (escaped_none m loop.i (drop_of_length-le m {i = loop.i} (omega arith))) in
-    (omega (arith, none, loop.invariant), omega (arith, loop.invariant, c.requires))
+    let size = λ (b : ℕ). length (escaped b) in
+    let sum : c.sum.result ≡ length (escaped_all m)
+    = sum_by_from_yields_List size m c.map.result c.sum.result c.sum.ensures.ran
+    (YieldsList-from_map _ size (YieldsList-from_slice m (search rules)) c.map.ensures.closure (λ x r q k. search (rules, tests)))
+    ∙ escaped_sum m in
+    (sum, omega (arith, sum, escaped_max m, c.requires))

@@ -7,9 +7,6 @@ use Rattle.lights.specs.Bits.{bits, count}
 use Rattle.lights.proofs.Bits.{ones_count, count_le}
 use Rattle.lights.proofs.bitmap.selected_count.Goals as goal
 
-pub overflow_cast-result : goal.overflow_cast-result
-overflow_cast-result c = omega (arith, ones_count max_lamps c.args.mask c.ranges.mask.fits, count_le max_lamps c.args.mask)
-
 pub returns : goal.returns
 returns c =
     let e : ones c.args.mask ≡ count (bits max_lamps c.args.mask) = ones_count max_lamps c.args.mask c.ranges.mask.fits in

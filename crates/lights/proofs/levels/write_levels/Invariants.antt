@@ -4,8 +4,7 @@ use Rattle.lights.specs.Lights.{levels_before}
 use Rattle.lights.proofs.LevelsLoop.{LevelsLoop}
 use Rattle.lights.proofs.levels.write_levels.Given as goal
 
-abbrev pub invariant-loop-remaining : goal.invariant-loop-remaining
-invariant-loop-remaining l = LevelsLoop l.settings l.lamps (levels_before l.settings l.settings.lamp_count (bitmap l.pdata) l.lamps) l.initial.out l.out l.remaining l.written
-
-abbrev pub decreases-loop-remaining : goal.decreases-loop-remaining
-decreases-loop-remaining l = l.remaining
+abbrev pub invariant-loop-level : goal.invariant-loop-level
+invariant-loop-level l =
+    let s = l.rounding.settings in
+    LevelsLoop s l.lamps (levels_before s s.lamp_count (bitmap l.pdata) l.lamps) l.level-items l.remaining l.level-index

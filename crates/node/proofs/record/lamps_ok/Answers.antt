@@ -1,23 +1,31 @@
--- `record::lamps_ok` meets its contract. The invariant: `ok` is the test of every lamp, and of zeros from the count to `i`.
-use mathlib.Core.Path.{◌≡◌, ◌∙◌}
+-- `record::lamps_ok` meets its contract. The invariant: `ok` is the test of every lamp, and of zeros from the count on.
 use native.Mathlib.Omega.{arith}
+use borrow.Author.Rules.{rules}
+use mathlib.Core.Path.{◌≡◌, ap, ◌∙◌}
+use Prim.Native.Nat.{◌-◌, ◌<◌}
+use lib.ListN.{length, drop, length-drop}
+use lib.Seq.{length-take-le}
+use Rattle.std.proofs.lemmas.List.{get_or-take, get_or-drop}
 use Rattle.dpa.specs.Settings.{max_lamps}
+use Rattle.lights.specs.Lamp.{off, lamp_zero}
 use Rattle.node.proofs.LampTests.{zeros_none, zeros_next, each_and_zeros}
 use Rattle.node.proofs.record.lamps_ok.Goals as goal
 
-pub loop-i-init : goal.loop-i-init
-loop-i-init c =
-    let a = c.args in
-    (omega arith, omega arith, zeros_none a.count a.lamps c.each_ok-ok.ensures)
+pub loop-lamp-init : goal.loop-lamp-init
+loop-lamp-init c = zeros_none c.args.count c.args.lamps c.each_ok-ok.ensures
 
-pub loop-i-preserved : goal.loop-i-preserved
-loop-i-preserved c =
+pub loop-lamp-preserved : goal.loop-lamp-preserved
+loop-lamp-preserved c =
     let a = c.args in
-    (omega arith, omega arith, zeros_next a.count a.lamps _ c.loop-i.invariant.0 c.loop-i.invariant.2 c.lamp_zero-ok.ensures)
+    let i = c.loop-lamp.lamp-index in
+    let n : length a.lamps ≡ max_lamps = search rules in
+    let h : i < 32 - a.count = let d = length-drop a.count a.lamps in omega (arith, d, length-take-le (32 - a.count) (drop a.count a.lamps) (omega arith)) in
+    zeros_next a.count a.lamps i c.loop-lamp.invariant
+    (c.lamp_zero-ok.ensures ∙ ap lamp_zero (get_or-take (32 - a.count) (drop a.count a.lamps) i off h ∙ get_or-drop a.count a.lamps i off))
 
 pub returns : goal.returns
 returns c =
-    let l = c.loop-i in
-    let e : l.i ≡ max_lamps = omega arith in
-    let a = c.args in
-    l.invariant.2 ∙ each_and_zeros a.count a.lamps e
+    let n : length c.args.lamps ≡ max_lamps = search rules in
+    c.loop-lamp.invariant
+    ∙ each_and_zeros c.args.count c.args.lamps
+    (let d = length-drop c.args.count c.args.lamps in omega (arith, d, length-take-le (32 - c.args.count) (drop c.args.count c.args.lamps) (omega arith)))

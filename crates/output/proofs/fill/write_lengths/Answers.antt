@@ -1,177 +1,88 @@
--- `fill::write_lengths`: each iteration writes the span of one entry, and a length byte if the entry does not fit the open list.
-use mathlib.Core.List.{List, ◌++◌}
+-- `fill::write_lengths`: each iteration keeps the span of one entry, and writes a length byte if the entry does not fit the open list.
+use mathlib.Core.List.{List, [], ◌∷◌, ◌++◌}
 use mathlib.Core.Path.{◌≡◌, refl, ap, ◌∙◌}
-use Prim.Native.Nat.{ℕ, ◌+◌, ◌≤◌, ◌<◌}
+use Prim.Native.Nat.{ℕ, ◌+◌, ◌≤◌}
 use native.Mathlib.Omega.{arith}
-use lib.ListN.{length, length-drop, length-set}
+use lib.ListN.{length, drop}
 use Rattle.dpa.specs.declared.frame.Frame.{Frame}
 use Rattle.dpa.specs.Frame.{frame, header_bytes, header_size}
-use Rattle.book.specs.declared.step.Step.{Step}
-use Rattle.book.specs.Book.{steps_in}
+use Rattle.book.specs.Steps.{steps_of}
 use Rattle.book.proofs.Positions.{steps_length}
-use Rattle.step.specs.Step.{AllStepsGood}
 use Rattle.step.proofs.GoodSteps.{good_steps}
+use Rattle.entries.specs.declared.write.Writer.{Writer}
 use Rattle.entries.specs.Join.{entries_of}
-use Rattle.output.specs.declared.fill.SizeLimits.{SizeLimits}
-use Rattle.output.specs.Requests.{Limits, empty_list_size}
+use Rattle.entries.specs.Writer.{HasRoom}
+use Rattle.output.specs.declared.form.GoodSteps.{GoodSteps}
+use Rattle.output.specs.declared.form.RequestForm.{RequestForm}
+use Rattle.output.specs.Requests.{empty_list_size}
 use Rattle.output.specs.Output.{lengths}
 use Rattle.output.specs.Fill.{requests_with}
-use Rattle.output.proofs.Outputs.{lengths_length}
 use Rattle.output.proofs.Batches.{entry_limit_lem}
+use Rattle.output.proofs.Outputs.{lengths_length}
 use Rattle.output.proofs.Remaining.{remaining_lengths, requests_lengths}
-use Rattle.output.proofs.Progress.{progress_end, remaining_end, lengths_room, lengths_more}
-use Rattle.output.proofs.Spans.{span_room, spans_more, spans_end}
+use Rattle.output.proofs.RestSteps.{rest_steps, no_steps}
+use Rattle.entries.proofs.Writers.{remaining_room, remaining_end}
+use Rattle.output.proofs.Progress.{lengths_room, lengths_more}
+use Rattle.output.proofs.EntrySpans.{span_room, spans_more}
 use Rattle.output.proofs.fill.write_lengths.Goals as goal
 
--- all length bytes; they are the same for every header
-abbrev all : SizeLimits → List ℕ → List Step → List ℕ
-all limits front steps = remaining_lengths limits.list (header_size + length front) empty_list_size (entries_of limits.entry steps)
+module _ (steps : GoodSteps) (form : RequestForm) (some : steps.steps.count ≡ 0 → ⊥) where
+  -- all length bytes; they are the same for every header
+  abbrev all : List ℕ
+  all = remaining_lengths form.limits.list (header_size + length form.front.now) empty_list_size (entries_of form.limits.entry (steps_of steps.steps))
 
-abbrev any_header : Frame
-any_header = frame 0 0 0 0
-
-module _ (limits : SizeLimits) (front body : List ℕ) (count : ℕ) (l : Limits limits.entry limits.list front) (good : AllStepsGood body count) (some : 0 < count) where
-  all_is : (f : Frame) → lengths (requests_with limits f front (steps_in count body)) ≡ all limits front (steps_in count body)
+  all_is : (f : Frame) → lengths (requests_with form.limits f form.front.now (steps_of steps.steps)) ≡ all
   all_is f =
-      let n : length (header_bytes f ++ front) ≡ header_size + length front = omega arith in
-      requests_lengths l (header_bytes f ++ front) f.hwpid (steps_in count body) (good_steps count body good) (omega (arith, steps_length count body))
-      ∙ ap (λ (k : ℕ). remaining_lengths limits.list k empty_list_size (entries_of limits.entry (steps_in count body))) n
+      let s = steps.steps in
+      let n : length (header_bytes f ++ form.front.now) ≡ header_size + length form.front.now = omega arith in
+      requests_lengths form.fits (header_bytes f ++ form.front.now) f.hwpid (steps_of s) (good_steps s.count s.body.now steps.good) (omega (arith, steps_length s.count s.body.now))
+      ∙ ap (λ (k : ℕ). remaining_lengths form.limits.list k empty_list_size (entries_of form.limits.entry (steps_of s))) n
 
   -- they have room
-  room : (at : ℕ) (out : List ℕ) → ((f : Frame) → at + length (requests_with limits f front (steps_in count body)) ≤ length out)
-      → at + length (all limits front (steps_in count body)) ≤ length out
-  room at out r =
-      omega (arith, r any_header, ap length (all_is any_header), lengths_length (requests_with limits any_header front (steps_in count body)))
+  room : (out : Writer) → ((f : Frame) → HasRoom out (length (requests_with form.limits f form.front.now (steps_of steps.steps)))) → HasRoom out (length all)
+  room out r =
+      let f = frame 0 0 0 0 in
+      omega (arith, r f, ap length (all_is f), lengths_length (requests_with form.limits f form.front.now (steps_of steps.steps)))
 
--- no steps, no requests
-pub returns-then-count-eq0 : goal.returns-then-count-eq0
-returns-then-count-eq0 c = rw c.if-count-eq0.true ((λ f. (omega arith, refl)), record { unused = c.args.spans.now; starts = refl })
+pub push-requires : goal.push-requires
+push-requires c =
+    let s = c.args.steps.steps in
+    omega (arith, span_room c.first_entry-span.ensures c.loop-rest.invariant.1, steps_length s.count s.body.now, s.few)
 
--- ---- an entry: its steps are within the scene, and its span has room
+pub next_length-size-requires : goal.next_length-size-requires
+next_length-size-requires c =
+    let form = c.args.form in
+    let entry = c.first_entry-span.ensures in
+    let o = c.loop-rest.invariant.0 in
+    rw c.from.ensures
+    (o.size_max, omega (arith, entry.size_max, (entry_limit_lem form.fits).frame), lengths_room form.fits entry _ o (room c.args.steps form c.if-steps-eq0.false c.args.out.now c.requires))
 
-pub overflow_cast-spans : goal.overflow_cast-spans
-overflow_cast-spans c =
-    let steps : List Step = steps_in c.args.count c.args.body.now in
-    omega (arith, c.entry_from-span.ensures.within, length-drop c.loop-step.step steps, steps_length c.args.count c.args.body.now, c.requires.1)
+pub after-rest-requires : goal.after-rest-requires
+after-rest-requires c =
+    let s = c.loop-rest.rest.steps in
+    omega (arith, c.from-in-loop-rest.ensures, c.first_entry-span.ensures.within, steps_length s.count s.body.now)
 
-pub bounds-spans-index : goal.bounds-spans-index
-bounds-spans-index c =
-    let l = c.loop-step in
-    let steps : List Step = steps_in c.args.count c.args.body.now in
-    omega (
-      arith,
-      span_room c.args.limits.entry steps c.args.spans.now l.step l.spans l.index l.invariant.1 _ _ c.entry_from-span.ensures,
-      steps_length c.args.count c.args.body.now,
-      c.requires.1,
-      l.invariant.1.same_size,
-      c.requires.4,
-    )
-
-pub overflow_add-spans : goal.overflow_add-spans
-overflow_add-spans c =
-    let l = c.loop-step in
-    let steps : List Step = steps_in c.args.count c.args.body.now in
-    omega (
-      arith,
-      span_room c.args.limits.entry steps c.args.spans.now l.step l.spans l.index l.invariant.1 _ _ c.entry_from-span.ensures,
-      steps_length c.args.count c.args.body.now,
-      c.requires.1,
-    )
-
-pub bounds-spans-index-in-loop-step : goal.bounds-spans-index-in-loop-step
-bounds-spans-index-in-loop-step c =
-    let l = c.loop-step in
-    let steps : List Step = steps_in c.args.count c.args.body.now in
-    rw length-set
-    (omega (
-      arith,
-      span_room c.args.limits.entry steps c.args.spans.now l.step l.spans l.index l.invariant.1 _ _ c.entry_from-span.ensures,
-      steps_length c.args.count c.args.body.now,
-      c.requires.1,
-      l.invariant.1.same_size,
-      c.requires.4,
-    ))
-
-pub overflow_add-index : goal.overflow_add-index
-overflow_add-index c =
-    let l = c.loop-step in
-    let steps : List Step = steps_in c.args.count c.args.body.now in
-    omega (
-      arith,
-      span_room c.args.limits.entry steps c.args.spans.now l.step l.spans l.index l.invariant.1 _ _ c.entry_from-span.ensures,
-      steps_length c.args.count c.args.body.now,
-      c.requires.1,
-    )
-
-pub next_length-list-requires : goal.next_length-list-requires
-next_length-list-requires c =
-    let l = c.loop-step in
-    let limits : Limits c.args.limits.entry c.args.limits.list c.args.front.now = c.requires.3 in
-    let room : c.args.at + length (all c.args.limits c.args.front.now (steps_in c.args.count c.args.body.now)) ≤ length c.args.out.now =
-    room c.args.limits c.args.front.now c.args.body.now c.args.count limits c.requires.2 (omega (arith, c.if-count-eq0.false)) _ _ c.requires.5 in (
-      l.invariant.0.size_max,
-      omega (arith, c.entry_from-span.ensures.size_max, (entry_limit_lem limits).frame),
-      omega (arith, limits.frame),
-      lengths_room limits _ _ _ _ _ _ _ _ _ c.entry_from-span.ensures _ l.invariant.0 room,
-    )
-
-pub overflow_add-step : goal.overflow_add-step
-overflow_add-step c =
-    let steps : List Step = steps_in c.args.count c.args.body.now in
-    omega (
-      arith,
-      c.entry_from-span.ensures.within,
-      length-drop c.loop-step.step steps,
-      steps_length c.args.count c.args.body.now,
-      c.requires.1,
-      c.loop-step-test.true,
-    )
-
-pub loop-step-preserved : goal.loop-step-preserved
-loop-step-preserved c =
-    let p = c.next_length-list.ensures in
-    let l = c.loop-step in (
-      lengths_more c.requires.3 _ _ _ _ _ _ _ _ _ c.entry_from-span.ensures _ l.invariant.0 _ _ _ p.2 p.0 p.1,
-      spans_more c.args.limits.entry _ _ _ _ _ l.invariant.1 _ _ c.entry_from-span.ensures,
-    )
+pub loop-rest-preserved : goal.loop-rest-preserved
+loop-rest-preserved c =
+    let s = c.loop-rest.rest.steps in
+    let entry = c.first_entry-span.ensures in
+    let k = c.from-in-loop-rest in
+    let within : k.result ≤ s.count = omega (arith, k.ensures, entry.within, steps_length s.count s.body.now) in
+    let e : steps_of c.after-rest.result.steps ≡ drop c.first_entry-span.result.steps (steps_of s) =
+    rest_steps s c.after-rest.result.steps k.result within c.after-rest.ensures ∙ ap (λ (n : ℕ). drop n (steps_of s)) k.ensures in
+    let w = c.next_length-size.ensures in
+    rw (e, c.push.ensures)
+    (lengths_more c.args.form.fits entry _ c.loop-rest.invariant.0 (rw c.from.ensures at w.written) (rw c.from.ensures at w.size), spans_more entry c.loop-rest.invariant.1)
 
 -- ---- after the last entry only the last length byte remains
 
-pub bounds-out-end : goal.bounds-out-end
-bounds-out-end c =
-    let limits : Limits c.args.limits.entry c.args.limits.list c.args.front.now = c.requires.3 in
-    let steps : List Step = steps_in c.args.count c.args.body.now in
-    let last = progress_end limits (remaining_lengths c.args.limits.list (header_size + length c.args.front.now)) steps c.args.out.now c.args.at _ _ _ _
-    c.loop-step.invariant.0 (omega (arith, steps_length c.args.count c.args.body.now, c.loop-step-test.false)) in
-    omega (
-      arith,
-      last.end,
-      last.same_size,
-      room c.args.limits c.args.front.now c.args.body.now c.args.count limits c.requires.2 (omega (arith, c.if-count-eq0.false)) _ _ c.requires.5,
-    )
+pub write_byte-requires : goal.write_byte-requires
+write_byte-requires c =
+    let last = rw (no_steps c.loop-rest.rest.steps c.loop-rest-test.false) at c.loop-rest.invariant.0.bytes in
+    let form = c.args.form in
+    remaining_room last ((c.loop-rest.size + (header_size + length form.front.now)) ∷ []) [] refl (room c.args.steps c.args.form c.if-steps-eq0.false c.args.out.now c.requires)
 
-pub overflow_add-result : goal.overflow_add-result
-overflow_add-result c =
-    let limits : Limits c.args.limits.entry c.args.limits.list c.args.front.now = c.requires.3 in
-    let steps : List Step = steps_in c.args.count c.args.body.now in
-    let last = progress_end limits (remaining_lengths c.args.limits.list (header_size + length c.args.front.now)) steps c.args.out.now c.args.at _ _ _ _
-    c.loop-step.invariant.0 (omega (arith, steps_length c.args.count c.args.body.now, c.loop-step-test.false)) in
-    omega (
-      arith,
-      last.end,
-      last.same_size,
-      room c.args.limits c.args.front.now c.args.body.now c.args.count limits c.requires.2 (omega (arith, c.if-count-eq0.false)) _ _ c.requires.5,
-    )
-
-pub returns : goal.returns
-returns c =
-    let limits : Limits c.args.limits.entry c.args.limits.list c.args.front.now = c.requires.3 in
-    let steps : List Step = steps_in c.args.count c.args.body.now in
-    let done : length steps ≤ c.loop-step.step = omega (arith, steps_length c.args.count c.args.body.now, c.loop-step-test.false) in
-    let last = progress_end limits (remaining_lengths c.args.limits.list (header_size + length c.args.front.now)) steps c.args.out.now c.args.at _ _ _ _
-    c.loop-step.invariant.0 done in
-    let x = remaining_end c.args.out.now c.args.at _ _ _ _ last _ _ refl refl in (
-      λ f. let e = all_is c.args.limits c.args.front.now c.args.body.now c.args.count limits c.requires.2 (omega (arith, c.if-count-eq0.false)) f in
-          rw e (omega (arith, x.0, ap length e, lengths_length (requests_with c.args.limits f c.args.front.now steps)), x.1),
-      spans_end c.args.limits.entry steps _ _ _ _ c.loop-step.invariant.1 done (omega (arith, c.requires.4, c.requires.1, steps_length c.args.count c.args.body.now)),
-    )
+pub returns-clause-lengths : goal.returns-clause-lengths
+returns-clause-lengths c =
+    let last = rw (no_steps c.loop-rest.rest.steps c.loop-rest-test.false) at c.loop-rest.invariant.0.bytes in
+    λ f. rw (all_is c.args.steps c.args.form c.if-steps-eq0.false f) (remaining_end last (rw c.length_byte.ensures at c.write_byte.ensures))

@@ -1,208 +1,130 @@
 -- `request::write_requests`: each iteration writes the entry of one span, and what separates it from the entry before.
-use mathlib.Core.List.{List, ◌++◌}
+use mathlib.Core.List.{List, [], ◌∷◌, ◌++◌}
 use mathlib.Core.Path.{◌≡◌, refl, sym, ap, ◌∙◌}
 use Prim.Native.Nat.{ℕ, ◌+◌, ◌≤◌, ◌<◌}
 use native.Mathlib.Omega.{arith}
-use lib.ListN.{length, drop, length-append, length-drop}
-use lib.Seq.{sets, drop-drop}
-use Rattle.dpa.specs.declared.frame.Frame.{Frame}
+use lib.ListN.{length, get_or, drop, length-append, drop_of_length-le}
 use Rattle.dpa.specs.Frame.{header_bytes}
-use Rattle.dpa.proofs.All.{all_drop}
-use Rattle.batch.specs.Batch.{entry_bytes}
+use Rattle.batch.specs.Batch.{closing_zero}
 use Rattle.book.specs.declared.step.Step.{Step}
-use Rattle.book.specs.Book.{steps_in}
-use Rattle.book.proofs.Positions.{steps_length, steps_slice}
-use Rattle.step.specs.Step.{AllStepsGood}
-use Rattle.step.proofs.Faults.{Good}
+use Rattle.book.specs.Steps.{steps_of}
+use Rattle.book.proofs.Positions.{steps_length}
 use Rattle.step.proofs.GoodSteps.{good_steps}
+use Rattle.entries.specs.declared.join.EntrySpan.{EntrySpan}
+use Rattle.entries.specs.declared.write.Writer.{Writer}
 use Rattle.entries.specs.Group.{concat}
-use Rattle.entries.specs.Entry.{group_data, joined_entry}
+use Rattle.entries.specs.Entry.{group_data}
 use Rattle.entries.specs.Join.{entries_of}
-use Rattle.entries.specs.EntrySize.{one_step_max, FirstEntry}
-use Rattle.entries.proofs.Writing.{two_writes}
+use Rattle.entries.specs.Writer.{HasRoom}
+use Rattle.entries.proofs.Writers.{writes_append, writes_length, remaining_room, remaining_end}
 use Rattle.entries.proofs.EntryWritable.{entry_writable}
-use Rattle.output.specs.declared.fill.SizeLimits.{SizeLimits}
-use Rattle.output.specs.Requests.{Limits, empty_list_size}
-use Rattle.output.specs.Fill.{requests_with, StartsWithSpans}
+use Rattle.output.specs.declared.form.GoodSteps.{GoodSteps}
+use Rattle.output.specs.declared.form.RequestForm.{RequestForm}
+use Rattle.output.specs.Requests.{empty_list_size}
+use Rattle.output.specs.Fill.{spans_of}
+use Rattle.output.specs.Form.{requests_for}
 use Rattle.output.proofs.Batches.{entry_limit_lem}
 use Rattle.output.proofs.Remaining.{remaining_bytes, requests_bytes}
-use Rattle.output.proofs.Progress.{progress_start, progress_end, remaining_end, separator_room, entry_room, bytes_more}
-use Rattle.output.proofs.Spans.{NextSpan, next_span}
+use Rattle.output.proofs.RestSteps.{rest_steps, first_steps}
+use Rattle.output.proofs.Progress.{separator_room, entry_room, bytes_more}
+use Rattle.output.proofs.EntrySpans.{no_span, NextSpan, next_span, no_spans}
 use Rattle.output.proofs.request.write_requests.Goals as goal
 
 -- what each request starts with
-abbrev prefix : Frame → List ℕ → List ℕ
-prefix header front = header_bytes header ++ front
+abbrev prefix : RequestForm → List ℕ
+prefix form = header_bytes form.header ++ form.front.now
 
--- all bytes after the first prefix
-abbrev all : SizeLimits → Frame → List ℕ → List Step → List ℕ
-all limits header front steps = remaining_bytes limits.list (prefix header front) header.hwpid empty_list_size (entries_of limits.entry steps)
+module _ (steps : GoodSteps) (form : RequestForm) (some : steps.steps.count ≡ 0 → ⊥) where
+  -- all bytes after the first prefix
+  abbrev all : List ℕ
+  all = remaining_bytes form.limits.list (prefix form) form.header.hwpid empty_list_size (entries_of form.limits.entry (steps_of steps.steps))
 
-module _ (limits : SizeLimits) (header : Frame) (front body : List ℕ) (count : ℕ) (l : Limits limits.entry limits.list front) (good : AllStepsGood body count) (some : 0 < count) where
-  all_is : concat (requests_with limits header front (steps_in count body)) ≡ prefix header front ++ all limits header front (steps_in count body)
+  all_is : concat (requests_for form (steps_of steps.steps)) ≡ prefix form ++ all
   all_is =
-      requests_bytes l (prefix header front) header.hwpid (steps_in count body) (good_steps count body good) (omega (arith, steps_length count body))
+      let s = steps.steps in
+      requests_bytes form.fits (prefix form) form.header.hwpid (steps_of s) (good_steps s.count s.body.now steps.good) (omega (arith, steps_length s.count s.body.now))
 
   -- the first prefix has room, and all bytes after it
-  room : (at : ℕ) (out : List ℕ) → at + length (concat (requests_with limits header front (steps_in count body))) ≤ length out
-      → at + length (prefix header front) + length (all limits header front (steps_in count body)) ≤ length out
-  room at out r =
-      omega (arith, ap length all_is, length-append (prefix header front) (all limits header front (steps_in count body)))
+  room : (out : Writer) → HasRoom out (length (concat (requests_for form (steps_of steps.steps))))
+      → HasRoom out (length (prefix form) + length all)
+  room out r = omega (arith, r, ap length all_is, length-append (prefix form) all)
 
--- the span of the next entry
-the_span : (entry_max : ℕ) (spans body : List ℕ) (count step index : ℕ) → one_step_max ≤ entry_max → AllStepsGood body count → step < count
-    → StartsWithSpans entry_max (drop step (steps_in count body)) (drop index spans) → NextSpan entry_max (drop step (steps_in count body)) spans index
-the_span entry_max spans body count step index l good h s =
-    let steps : List Step = steps_in count body in
-    next_span entry_max l (drop step steps) (all_drop Good steps step (good_steps count body good)) spans index
-    (omega (arith, length-drop step steps, steps_length count body)) s
+-- the next entry, as its span gives it
+entry_of : (form : RequestForm) (rest : GoodSteps) (spans : List EntrySpan) (i : ℕ) {k sz : ℕ} → i < length spans
+    → drop i spans ≡ spans_of (entries_of form.limits.entry (steps_of rest.steps)) → k ≡ (get_or spans i no_span).steps → sz ≡ (get_or spans i no_span).size
+    → NextSpan form.limits.entry (steps_of rest.steps) spans i k sz
+entry_of form rest = let s = rest.steps in next_span form.limits.entry form.fits.entry (steps_of s) (good_steps s.count s.body.now rest.good)
 
--- no steps, no requests
-pub returns-then-count-eq0 : goal.returns-then-count-eq0
-returns-then-count-eq0 c = rw c.if-count-eq0.true (omega arith, refl)
+pub write_prefix-requires : goal.write_prefix-requires
+write_prefix-requires c = omega (arith, room c.args.steps c.args.form c.if-steps-eq0.false c.args.out.now c.requires.1)
 
-pub write_prefix-end-requires : goal.write_prefix-end-requires
-write_prefix-end-requires c =
-    let a = c.args in
-    omega (
-      arith,
-      room a.limits a.header a.front.now a.body.now a.count c.requires.3 c.requires.2 (omega (arith, c.if-count-eq0.false)) a.at a.out.now c.requires.5,
+pub next_list-size-requires : goal.next_list-size-requires
+next_list-size-requires c =
+    let form = c.args.form in
+    let l = c.loop-span in
+    let o = l.invariant.0 in
+    let entry = (entry_of form l.rest c.args.spans.now l.span-index c.loop-span-test.true l.invariant.1 c.from-count.ensures c.from-pdata.ensures).entry in
+    let w = c.write_prefix.ensures in (
+      o.size_max,
+      omega (arith, entry.size_max, (entry_limit_lem form.fits).frame),
+      separator_room form.fits entry _ _ o (omega (arith, room c.args.steps form c.if-steps-eq0.false c.args.out.now c.requires.1, w.end, writes_length w)),
     )
 
-pub loop-step-init : goal.loop-step-init
-loop-step-init c = (progress_start c.requires.3 _ _ _ _, c.requires.4)
+pub part-requires : goal.part-requires
+part-requires c =
+    let l = c.loop-span in
+    let entry = (entry_of c.args.form l.rest c.args.spans.now l.span-index c.loop-span-test.true l.invariant.1 c.from-count.ensures c.from-pdata.ensures).entry in
+    omega (arith, entry.within, steps_length l.rest.steps.count l.rest.steps.body.now)
 
--- ---- an entry, as its span gives it
-
-pub bounds-spans-index : goal.bounds-spans-index
-bounds-spans-index c =
-    let a = c.args in
-    let l = c.loop-step in
-    let span = the_span a.limits.entry a.spans.now a.body.now a.count l.step l.index c.requires.3.entry c.requires.2 (omega (arith, c.loop-step-test.true)) l.invariant.1 in
-    omega (arith, span.in_range)
-
-pub overflow_add-index : goal.overflow_add-index
-overflow_add-index c =
-    let a = c.args in
-    let l = c.loop-step in
-    let span = the_span a.limits.entry a.spans.now a.body.now a.count l.step l.index c.requires.3.entry c.requires.2 (omega (arith, c.loop-step-test.true)) l.invariant.1 in
-    omega (arith, span.in_range)
-
-pub bounds-spans-index-in-loop-step : goal.bounds-spans-index-in-loop-step
-bounds-spans-index-in-loop-step c =
-    let a = c.args in
-    let l = c.loop-step in
-    let span = the_span a.limits.entry a.spans.now a.body.now a.count l.step l.index c.requires.3.entry c.requires.2 (omega (arith, c.loop-step-test.true)) l.invariant.1 in
-    span.in_range
-
-pub overflow_add-index-in-loop-step : goal.overflow_add-index-in-loop-step
-overflow_add-index-in-loop-step c =
-    let a = c.args in
-    let l = c.loop-step in
-    let span = the_span a.limits.entry a.spans.now a.body.now a.count l.step l.index c.requires.3.entry c.requires.2 (omega (arith, c.loop-step-test.true)) l.invariant.1 in
-    omega (arith, span.in_range)
-
-pub next_list-list-requires : goal.next_list-list-requires
-next_list-list-requires c =
-    let a = c.args in
-    let l = c.loop-step in
-    let limits : Limits a.limits.entry a.limits.list a.front.now = c.requires.3 in
-    let span = the_span a.limits.entry a.spans.now a.body.now a.count l.step l.index limits.entry c.requires.2 (omega (arith, c.loop-step-test.true)) l.invariant.1 in
-    let entry : FirstEntry a.limits.entry (drop l.step (steps_in a.count a.body.now)) c.wide-steps.result c.wide-pdata.result =
-    rw (c.wide-steps.ensures.0, c.wide-pdata.ensures.0) span.entry in
-    let r = room a.limits a.header a.front.now a.body.now a.count limits c.requires.2 (omega (arith, c.if-count-eq0.false)) a.at a.out.now c.requires.5 in (
-      l.invariant.0.size_max,
-      omega (arith, entry.size_max, (entry_limit_lem limits).frame),
-      omega (arith, limits.frame),
-      separator_room limits _ _ _ _ _ _ _ _ _ entry _ _ l.invariant.0 (omega (arith, r, c.write_prefix-end.ensures.0, c.write_prefix-end.auto.out)),
+pub write_entry-requires : goal.write_entry-requires
+write_entry-requires c =
+    let form = c.args.form in
+    let l = c.loop-span in
+    let s = l.rest.steps in
+    let entry = (entry_of form l.rest c.args.spans.now l.span-index c.loop-span-test.true l.invariant.1 c.from-count.ensures c.from-pdata.ensures).entry in
+    let within : c.from-count.result ≤ s.count = omega (arith, entry.within, steps_length s.count s.body.now) in
+    let p = c.part in
+    let w = c.write_prefix.ensures in (
+      omega (arith, entry.some, p.ensures.1),
+      omega (arith, entry.size_max, (entry_limit_lem form.fits).frame),
+      entry.size_is ∙ ap (λ (ss : List Step). length (group_data ss)) (sym (first_steps s p.result c.from-count.result within p.ensures)),
+      entry_room form.fits entry _ _ l.invariant.0 c.next_list-size.ensures.written
+          (omega (arith, room c.args.steps form c.if-steps-eq0.false c.args.out.now c.requires.1, w.end, writes_length w)),
+      rw (p.ensures.0, p.ensures.1) (entry_writable form.limits.entry form.fits.entry _ _ _ s.body.now l.rest.good entry),
     )
 
-pub write_entry_at-end-requires : goal.write_entry_at-end-requires
-write_entry_at-end-requires c =
-    let a = c.args in
-    let l = c.loop-step in
-    let limits : Limits a.limits.entry a.limits.list a.front.now = c.requires.3 in
-    let steps : List Step = steps_in a.count a.body.now in
-    let span = the_span a.limits.entry a.spans.now a.body.now a.count l.step l.index limits.entry c.requires.2 (omega (arith, c.loop-step-test.true)) l.invariant.1 in
-    let entry : FirstEntry a.limits.entry (drop l.step steps) c.wide-steps.result c.wide-pdata.result =
-    rw (c.wide-steps.ensures.0, c.wide-pdata.ensures.0) span.entry in
-    let slice : l.step + c.wide-steps.result ≤ a.count =
-    omega (arith, entry.within, length-drop l.step steps, steps_length a.count a.body.now, c.loop-step-test.true) in
-    let r = room a.limits a.header a.front.now a.body.now a.count limits c.requires.2 (omega (arith, c.if-count-eq0.false)) a.at a.out.now c.requires.5 in
-    let t = c.next_list-list.ensures in (
-      omega (arith, slice, c.requires.0),
-      entry.some,
-      omega (arith, slice, c.requires.1),
-      omega (arith, entry.size_max, (entry_limit_lem limits).frame),
-      entry.size_is ∙ ap (λ (t : List Step). length (group_data t)) (steps_slice a.count l.step c.wide-steps.result a.body.now slice),
-      entry_room limits _ _ _ _ _ _ _ _ _ entry _ _ l.invariant.0 _ _ t.2 t.0
-          (omega (arith, r, c.write_prefix-end.ensures.0, c.write_prefix-end.auto.out)),
-      entry_writable a.limits.entry limits.entry _ _ _ _ _ c.requires.2 slice entry,
-    )
+pub after-rest-requires : goal.after-rest-requires
+after-rest-requires c =
+    let l = c.loop-span in
+    let entry = (entry_of c.args.form l.rest c.args.spans.now l.span-index c.loop-span-test.true l.invariant.1 c.from-count.ensures c.from-pdata.ensures).entry in
+    omega (arith, entry.within, steps_length l.rest.steps.count l.rest.steps.body.now)
 
-pub overflow_add-step : goal.overflow_add-step
-overflow_add-step c =
-    let a = c.args in
-    let l = c.loop-step in
-    let span = the_span a.limits.entry a.spans.now a.body.now a.count l.step l.index c.requires.3.entry c.requires.2 (omega (arith, c.loop-step-test.true)) l.invariant.1 in
-    let entry : FirstEntry a.limits.entry (drop l.step (steps_in a.count a.body.now)) c.wide-steps.result c.wide-pdata.result =
-    rw (c.wide-steps.ensures.0, c.wide-pdata.ensures.0) span.entry in
-    omega (arith, entry.within, length-drop l.step (steps_in a.count a.body.now), steps_length a.count a.body.now, c.requires.1, c.loop-step-test.true)
-
-pub loop-step-smaller : goal.loop-step-smaller
-loop-step-smaller c =
-    let a = c.args in
-    let l = c.loop-step in
-    let span = the_span a.limits.entry a.spans.now a.body.now a.count l.step l.index c.requires.3.entry c.requires.2 (omega (arith, c.loop-step-test.true)) l.invariant.1 in
-    let entry : FirstEntry a.limits.entry (drop l.step (steps_in a.count a.body.now)) c.wide-steps.result c.wide-pdata.result =
-    rw (c.wide-steps.ensures.0, c.wide-pdata.ensures.0) span.entry in
-    omega (arith, entry.some, c.loop-step-test.true)
-
-pub loop-step-preserved : goal.loop-step-preserved
-loop-step-preserved c =
-    let a = c.args in
-    let l = c.loop-step in
-    let steps : List Step = steps_in a.count a.body.now in
-    let span = the_span a.limits.entry a.spans.now a.body.now a.count l.step l.index c.requires.3.entry c.requires.2 (omega (arith, c.loop-step-test.true)) l.invariant.1 in
-    let entry : FirstEntry a.limits.entry (drop l.step steps) c.wide-steps.result c.wide-pdata.result =
-    rw (c.wide-steps.ensures.0, c.wide-pdata.ensures.0) span.entry in
-    let slice : l.step + c.wide-steps.result ≤ a.count =
-    omega (arith, entry.within, length-drop l.step steps, steps_length a.count a.body.now, c.loop-step-test.true) in
-    let w = c.write_entry_at-end.ensures in
-    let t = c.next_list-list in
-    let k = c.wide-steps.result in (
-      bytes_more c.requires.3 _ _ _ _ _ _ _ _ _ entry _ _ l.invariant.0 _ _ t.ensures.2 t.ensures.0 _ _ _
-          (w.1 ∙ ap (λ (x : List Step). sets t.new.out t.result.at (entry_bytes (joined_entry a.header.hwpid x))) (sym (steps_slice a.count l.step k a.body.now slice)))
-          w.0 t.ensures.1,
-      rw (← c.wide-steps.ensures.0, drop-drop k l.step steps) at span.rest,
+pub loop-span-preserved : goal.loop-span-preserved
+loop-span-preserved c =
+    let form = c.args.form in
+    let l = c.loop-span in
+    let s = l.rest.steps in
+    let next = entry_of form l.rest c.args.spans.now l.span-index c.loop-span-test.true l.invariant.1 c.from-count.ensures c.from-pdata.ensures in
+    let within : c.from-count.result ≤ s.count = omega (arith, next.entry.within, steps_length s.count s.body.now) in
+    let t = c.next_list-size.ensures in
+    rw (rest_steps s c.after-rest.result.steps c.from-count.result within c.after-rest.ensures) (
+      bytes_more form.fits next.entry _ _ l.invariant.0 t.written (rw (first_steps s c.part.result c.from-count.result within c.part.ensures) at c.write_entry.ensures) t.size,
+      next.rest,
     )
 
 -- ---- after the last entry only the closing zero remains
 
+pub write_byte-requires : goal.write_byte-requires
+write_byte-requires c =
+    let l = c.loop-span in
+    let none = no_spans _ (sym (drop_of_length-le c.args.spans.now {i = l.span-index} c.loop-span-test.false) ∙ l.invariant.1) in
+    let last = rw none at l.invariant.0.bytes in
+    let w = c.write_prefix.ensures in
+    remaining_room last (closing_zero ∷ []) [] refl (omega (arith, room c.args.steps c.args.form c.if-steps-eq0.false c.args.out.now c.requires.1, w.end, writes_length w))
+
 pub returns : goal.returns
 returns c =
-    let a = c.args in
-    let w = c.write_prefix-end in
-    let last = progress_end c.requires.3 (remaining_bytes a.limits.list (prefix a.header a.front.now) a.header.hwpid) (steps_in a.count a.body.now) w.new.out w.result _ _ _ _
-    c.loop-step.invariant.0 (omega (arith, steps_length a.count a.body.now, c.loop-step-test.false)) in
-    let x = remaining_end w.new.out w.result (all a.limits a.header a.front.now (steps_in a.count a.body.now)) _ _ _ last _ _ refl refl in
-    two_writes a.out.now w.new.out _ (prefix a.header a.front.now) (all a.limits a.header a.front.now (steps_in a.count a.body.now)) _ a.at w.result _ w.ensures.1 w.ensures.0 x.1 x.0
-    (all_is a.limits a.header a.front.now a.body.now a.count c.requires.3 c.requires.2 (omega (arith, c.if-count-eq0.false)))
-
-pub bounds-out-end : goal.bounds-out-end
-bounds-out-end c =
-    let a = c.args in
-    let w = c.write_prefix-end in
-    let r = room a.limits a.header a.front.now a.body.now a.count c.requires.3 c.requires.2 (omega (arith, c.if-count-eq0.false)) a.at a.out.now c.requires.5 in
-    let last = progress_end c.requires.3 (remaining_bytes a.limits.list (prefix a.header a.front.now) a.header.hwpid) (steps_in a.count a.body.now) w.new.out w.result _ _ _ _
-    c.loop-step.invariant.0 (omega (arith, steps_length a.count a.body.now, c.loop-step-test.false)) in
-    omega (arith, last.end, last.same_size, r, w.ensures.0, w.auto.out)
-
-pub overflow_add-result : goal.overflow_add-result
-overflow_add-result c =
-    let a = c.args in
-    let w = c.write_prefix-end in
-    let r = room a.limits a.header a.front.now a.body.now a.count c.requires.3 c.requires.2 (omega (arith, c.if-count-eq0.false)) a.at a.out.now c.requires.5 in
-    let last = progress_end c.requires.3 (remaining_bytes a.limits.list (prefix a.header a.front.now) a.header.hwpid) (steps_in a.count a.body.now) w.new.out w.result _ _ _ _
-    c.loop-step.invariant.0 (omega (arith, steps_length a.count a.body.now, c.loop-step-test.false)) in
-    omega (arith, last.end, last.same_size, r, w.ensures.0, w.auto.out)
+    let l = c.loop-span in
+    let none = no_spans _ (sym (drop_of_length-le c.args.spans.now {i = l.span-index} c.loop-span-test.false) ∙ l.invariant.1) in
+    let last = rw none at l.invariant.0.bytes in
+    rw (all_is c.args.steps c.args.form c.if-steps-eq0.false) (writes_append c.write_prefix.ensures (remaining_end last c.write_byte.ensures))

@@ -1,39 +1,29 @@
 -- `places::place_ok`: the widths are those of the types.
 use mathlib.Core.Path.{◌≡◌, ap, ◌∙◌}
-use Prim.Native.Nat.{ℕ, ◌<◌}
 use mathlib.Core.Bool.{true}
+use Prim.Native.Nat.{ℕ, min}
 use lib.ListN.{length, drop}
 use borrow.Author.Rules.{rules}
-use borrow.Author.Tests.{eq-eqb, lt-ltb}
 use Rattle.dpa.specs.declared.frame.Frame.{Frame}
 use Rattle.dpa.specs.Frame.{longest_frame, frame_fits}
 use Rattle.dpa.specs.Settings.{address_ok}
-use Rattle.dpa.proofs.Bool.{both}
 use Rattle.queue.specs.Queue.{all_zero, widths_ok}
-use Rattle.queue.proofs.PlaceTests.{filled_tested, empty_tested}
+use Rattle.queue.proofs.PlaceTests.{widths_given, rest_read, filled_tested, empty_tested}
 use Rattle.queue.proofs.places.place_ok.Goals as goal
 
-pub returns-then-filled : goal.returns-then-filled
-unfolding widths_ok
-returns-then-filled c =
-    let w = c.args.waiting in
+pub returns-then-k-count : goal.returns-then-k-count
+returns-then-k-count c =
+    let w = c.args.waiting.now in
     let size : length w.frame ≡ longest_frame = search rules in
-    let hops : w.hops < 256 = search rules in
-    let back : w.response_hops < 256 = search rules in
-    let delay : w.delay < 65536 = search rules in
-    let widths : widths_ok w ≡ true = both (both (both (eq-eqb _ _ size) (lt-ltb w.hops 256 hops)) (lt-ltb w.response_hops 256 back)) (lt-ltb w.delay 65536 delay) in
-    let zeros : c.zeros_from-zeros.result ≡ all_zero (drop w.length w.frame) = c.zeros_from-zeros.ensures ∙ ap (λ (n : ℕ). all_zero (drop n w.frame)) c.wide-size.ensures.0 in
-    filled_tested w widths c.zeros_from-zeros.result zeros _ _ _ c.if-filled.true
-    (c.fits.ensures ∙ ap frame_fits c.wide-size.ensures.0) (c.address_ok.ensures ∙ ap (λ (f : Frame). address_ok f.nadr) c.read-header.ensures)
+    let widths : widths_ok w ≡ true = widths_given w size (search rules) (search rules) (search rules) in
+    let zeros : c.all_zero-zeros.result ≡ all_zero (drop w.length w.frame) = c.all_zero-zeros.ensures ∙ ap all_zero (rest_read w.frame w.length _ size (c.min.ensures ∙ ap (λ (n : ℕ). min n longest_frame) c.from-size.ensures)) in
+    filled_tested c.args.count c.args.k w widths _ zeros _ _ c.if-k-count.true
+    (c.fits.ensures ∙ ap frame_fits c.from-size.ensures) (c.address_ok.ensures ∙ ap (λ (f : Frame). address_ok f.nadr) c.read-header.ensures)
 
 pub returns : goal.returns
-unfolding widths_ok
 returns c =
-    let w = c.args.waiting in
+    let w = c.args.waiting.now in
     let size : length w.frame ≡ longest_frame = search rules in
-    let hops : w.hops < 256 = search rules in
-    let back : w.response_hops < 256 = search rules in
-    let delay : w.delay < 65536 = search rules in
-    let widths : widths_ok w ≡ true = both (both (both (eq-eqb _ _ size) (lt-ltb w.hops 256 hops)) (lt-ltb w.response_hops 256 back)) (lt-ltb w.delay 65536 delay) in
-    let zeros : c.zeros_from-zeros.result ≡ all_zero (drop w.length w.frame) = c.zeros_from-zeros.ensures ∙ ap (λ (n : ℕ). all_zero (drop n w.frame)) c.wide-size.ensures.0 in
-    empty_tested w widths c.zeros_from-zeros.result zeros _ _ c.if-filled.false c.wide-size.ensures.0
+    let widths : widths_ok w ≡ true = widths_given w size (search rules) (search rules) (search rules) in
+    let zeros : c.all_zero-zeros.result ≡ all_zero (drop w.length w.frame) = c.all_zero-zeros.ensures ∙ ap all_zero (rest_read w.frame w.length _ size (c.min.ensures ∙ ap (λ (n : ℕ). min n longest_frame) c.from-size.ensures)) in
+    empty_tested c.args.count c.args.k w widths _ zeros _ c.if-k-count.false c.from-size.ensures

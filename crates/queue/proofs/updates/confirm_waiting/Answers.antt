@@ -1,19 +1,18 @@
 -- `updates::confirm_waiting`: the confirmation of `timing`.
-use mathlib.Core.Path.{ap, ◌∙◌}
-use lib.ListN.{take}
-use Rattle.timing.specs.declared.slot.Network.{Network}
-use Rattle.timing.specs.Confirm.{confirm_of}
-use Rattle.timing.specs.Slot.{network_of}
-use Rattle.queue.proofs.Changes.{waiting_confirmed}
+use Rattle.std.proofs.Common.{ℕ, ap, sym, ◌∙◌}
+use Rattle.std.specs.Prelude.{Result}
+use Rattle.dpa.specs.declared.refusal.Refusal.{Refusal}
+use Rattle.dpa.specs.Answer.{length_answer, length_result}
+use Rattle.queue.proofs.Changes.{waiting_confirmed, confirmation_ok}
 use Rattle.queue.proofs.updates.confirm_waiting.Goals as goal
+
+pub unwrap-requires : goal.unwrap-requires
+unwrap-requires c =
+    let a = c.args in
+    confirmation_ok a.waiting.now c.requires.0 _ _ _ _ _ a.out.now _ _ c.from.ensures c.requires.1 c.confirm.ensures
 
 pub returns : goal.returns
 returns c =
     let a = c.args in
-    let w = a.waiting in
-    let n = c.wide-size.result in
-    let z =
-    c.confirm-answer.ensures
-    ∙ ap (λ (net : Network). confirm_of (take n w.frame) a.dpa_value w.hops w.response_hops net a.out.now) c.network_of.ensures
-    ∙ waiting_confirmed w c.requires.0 (network_of a.lp) a.dpa_value n a.out.now c.wide-size.ensures.0 c.requires.1 in
-    λ i. record { refusal = 0; length = (z i).length; out = (z i).out }
+    ap (λ (s : Result ℕ Refusal). length_result (length_answer s) c.confirm.new.out) (sym c.unwrap.ensures)
+    ∙ c.confirm.ensures ∙ waiting_confirmed a.waiting.now c.requires.0 a.network a.dpa_value _ a.out.now c.from.ensures c.requires.1

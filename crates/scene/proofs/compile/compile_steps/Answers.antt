@@ -1,34 +1,29 @@
--- `compile::compile_steps`: a bad step, a short buffer, or the output.
-use mathlib.Core.Path.{◌≡◌, sym, ◌∙◌}
+-- `compile::compile_steps`: no step is bad, and the buffer has room for the output.
+use mathlib.Core.Path.{◌≡◌, sym}
 use native.Mathlib.Omega.{arith}
 use lib.ListN.{length}
 use borrow.Author.Tests.{le-ltb}
-use Rattle.book.specs.Book.{steps_in}
-use Rattle.step.specs.declared.fault.StepsCheck.TheVariants.{AllGood}
-use Rattle.step.specs.Step.{first_bad_from, AllStepsGood}
+use Rattle.book.specs.Steps.{steps_of}
+use Rattle.step.specs.Step.{AllGood, first_bad_from}
 use Rattle.step.proofs.GoodSteps.{good_index}
 use Rattle.output.specs.Output.{output, min_output}
 use Rattle.output.specs.Fill.{requests_with}
 use Rattle.output.proofs.Progress.{steps_fit}
-use Rattle.scene.proofs.Calls.{result_written}
+use Rattle.scene.proofs.Calls.{bad_named, step_named, result_written}
 use Rattle.scene.proofs.compile.compile_steps.Goals as goal
 
-pub write_output-length-requires : goal.write_output-length-requires
-write_output-length-requires c =
-    let all-good : first_bad_from 0 (steps_in c.args.count c.args.body.now) ≡ AllGood = sym c.check_steps.ensures ∙ c.in_default.is in
-    let good : AllStepsGood c.args.body.now c.args.count = good_index c.args.count c.args.body.now all-good in
-    (c.requires.0, c.requires.1, good, c.requires.2, c.if-out-lt-MIN_OUTPUT.false)
-
-pub returns : goal.returns
-returns c =
-    let all-good : first_bad_from 0 (steps_in c.args.count c.args.body.now) ≡ AllGood = sym c.check_steps.ensures ∙ c.in_default.is in
-    let good : AllStepsGood c.args.body.now c.args.count = good_index c.args.count c.args.body.now all-good in
+pub returns-clause-answer : goal.returns-clause-answer
+returns-clause-answer c =
+    let steps = c.args.steps in
+    let form = c.args.form in
+    let none : first_bad_from 0 (steps_of steps) ≡ AllGood = sym c.in_ok-check_steps.ensures in
+    let good = good_index steps.count steps.body.now none in
     let room = c.if-out-lt-MIN_OUTPUT.false in
-    let p = c.write_output-length.ensures in
-    rw (all-good, le-ltb (length c.args.out.now) min_output room)
-    (result_written (output (requests_with c.args.limits c.args.header c.args.front.now (steps_in c.args.count c.args.body.now))) c.args.out.now
-    _ _ p.0 p.1 (omega (
-      arith,
-      steps_fit c.args.limits c.args.header c.args.front.now c.requires.2 c.args.count c.args.body.now good c.requires.1,
-      room,
-    )))
+    let p = c.write_output.ensures in
+    rw (none, le-ltb (length c.args.out.now) min_output room)
+    (result_written (output (requests_with form.limits form.header form.front.now (steps_of steps))) c.args.out.now
+    _ _ p.length p.written (omega (arith, steps_fit form.limits form.header form.front.now form.fits steps.count steps.body.now good steps.few, room)))
+
+pub returns-in_err-check_steps-clause-error : goal.returns-in_err-check_steps-clause-error
+returns-in_err-check_steps-clause-error c =
+    step_named c.from_residual.result c.in_err-check_steps.field-0.0 c.from_residual.ensures.1 (bad_named 0 _ _ _ c.in_err-check_steps.ensures)

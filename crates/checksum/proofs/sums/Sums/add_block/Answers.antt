@@ -1,6 +1,5 @@
--- `sums::Sums::add_block` meets its contract: the law `block_sums_lem`.
-use mathlib.Core.Path.{sym, ap, ◌∙◌}
-use native.Mathlib.Omega.{arith}
+-- The law `block_sums_lem`.
+use Rattle.std.proofs.Common.{sym, ap, ◌∙◌, arith}
 use Rattle.checksum.specs.Blocks.{reduce_sums}
 use Rattle.checksum.proofs.Blocks.{block_sums_lem}
 use Rattle.checksum.proofs.sums.Sums.add_block.Goals as goal

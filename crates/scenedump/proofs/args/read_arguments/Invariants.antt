@@ -1,9 +1,0 @@
--- `args::read_arguments`: the measure is the number of arguments that are left.
-use Rattle.std.proofs.Common.{◌-◌, ◌≤◌}
-use Rattle.scenedump.proofs.args.read_arguments.Given as goal
-
-abbrev pub invariant-loop-i : goal.invariant-loop-i
-invariant-loop-i g l = 1 ≤ l.i
-
-abbrev pub decreases-loop-i : goal.decreases-loop-i
-decreases-loop-i g l = l.count - l.i

@@ -1,9 +1,0 @@
--- `requests::print_scenes`: the measure is the number of arguments that are left.
-use Rattle.std.proofs.Common.{◌-◌, ◌≤◌}
-use Rattle.scenedump.proofs.requests.print_scenes.Given as goal
-
-abbrev pub invariant-loop-i : goal.invariant-loop-i
-invariant-loop-i g l = l.i ≤ l.count
-
-abbrev pub decreases-loop-i : goal.decreases-loop-i
-decreases-loop-i g l = l.count - l.i
