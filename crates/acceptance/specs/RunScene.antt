@@ -11,6 +11,7 @@ use Rattle.step.specs.Machine.{machine}
 use Rattle.scene.specs.Call.{CompileResult, compile_for}
 use Rattle.scene.specs.Answer.{compile_answer}
 use Rattle.scene.specs.declared.compile.CompileError.{CompileError}
+use Rattle.acceptance.specs.declared.run.SceneAnswer.{SceneAnswer}
 
 -- the response buffer of each call: a scratch buffer of zeros
 abbrev pub zero_buffer : List ℕ
@@ -31,6 +32,10 @@ result refusal step st out = record { refusal = refusal; step = step; after = st
 abbrev pub scene_result : Node → Result Node CompileError → (e x o : List ℕ) → SceneResult
 scene_result node (Ok after) e x o = result 0 0 (state after e x) o
 scene_result node (Err error) e x o = let refused = compile_answer (Err error) in result refused.refusal refused.step (state node e x) o
+
+-- the result of a call that gave this answer and left these memories and this output buffer
+abbrev pub answer_result : SceneAnswer → (e x o : List ℕ) → SceneResult
+answer_result r e x o = result r.refusal r.step (state r.node e x) o
 
 -- after compiling: a refusal of the compiler leaves the state unchanged, otherwise it is `done`
 unfoldable pub after_compile : CompileResult → State → State → SceneResult

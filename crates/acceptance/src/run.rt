@@ -1,18 +1,50 @@
 // Runs a scene on a node: compiles it into the caller's buffer, then handles its requests in order.
-ghost use Rattle.std.specs.Prelude.{◌≡◌, ◌≤◌, length, IfErr};
+ghost use Rattle.std.specs.Prelude.{◌≡◌, ◌≤◌, ℕ, List, length, IfErr};
 ghost use Rattle.node.specs.State.{state};
 ghost use Rattle.outcome.specs.Request.{handle_request};
 ghost use Rattle.output.specs.Output.{split_by, requests_in, total_length, CompleteOutput};
 ghost use Rattle.acceptance.specs.SceneTheorem.{after_calls};
 ghost use Rattle.scene.specs.Answer.{NamesStep};
-ghost use Rattle.acceptance.specs.RunScene.{zero_buffer, run_scene, scene_result};
+ghost use Rattle.acceptance.specs.RunScene.{zero_buffer, run_scene, scene_result, answer_result};
 
 use dpa::frame::Frame;
-use dpa::refusal::Refusal;
+use dpa::refusal::{NONE, Refusal};
 use handler::request::handle_request;
 use memory::block::Memory;
 use node::record::{Node, node_ok};
-use scene::compile::{CompileError, compile};
+use scene::compile::{CompileAnswer, CompileError, compile};
+
+// The result in a form that can cross to C: the refusal, the number of the bad step with refusals 81 to 84, and the node afterwards.
+#[repr(C)]
+#[derive(Clone, Copy)]
+pub struct SceneAnswer {
+    pub refusal: u8,
+    pub step: u8,
+    pub node: Node,
+}
+
+impl SceneAnswer {
+    // The answer to a call for this node, which a refused call leaves as it was.
+    pub fn after(node: Node, outcome: Result<Node, CompileError>) -> SceneAnswer
+        ensures { (e x o : List ℕ) → answer_result result e x o ≡ scene_result node outcome e x o }
+    {
+        match outcome {
+            Ok(node) => SceneAnswer {
+                refusal: NONE,
+                step: 0,
+                node,
+            },
+            Err(error) => {
+                let refused = CompileAnswer::from(Err(error));
+                SceneAnswer {
+                    refusal: refused.refusal,
+                    step: refused.step,
+                    node,
+                }
+            }
+        }
+    }
+}
 
 // Handles one request; its response goes to a scratch buffer. Here and below node and memories are parameters of their own: in a struct each
 // function would have to promise, besides, that the same memories stay lent.
@@ -83,4 +115,20 @@ pub fn run_scene(
     let compiled = compile(book, scene, settings.address, settings.hwpid, out);
     let end = compiled?;
     Ok(handle_output(node, &out[..end], eeprom, external))
+}
+
+// `run_scene` with an answer that can cross to C.
+pub fn scene_answer(
+    node: Node,
+    book: &[u8],
+    scene: usize,
+    eeprom: &mut [u8],
+    external: &mut [u8],
+    out: &mut [u8],
+) -> SceneAnswer
+    ensures { answer_result result eeprom.new external.new out.new
+        ≡ run_scene book.now scene (state node eeprom.old external.old) out.old }
+{
+    let outcome = run_scene(node, book, scene, eeprom, external, out);
+    SceneAnswer::after(node, outcome)
 }
