@@ -31,7 +31,7 @@ mod steps;
 use args::{Job, Task, USAGE, read_arguments, refuse_argument};
 use book::check::check_book;
 use book::locations::LONGEST_BOOK;
-use console::failure::tell_failure;
+use console::failure::Reason;
 use console::input::read_input;
 use fault::{Fault, print_not_a_book};
 use requests::print_scenes;
@@ -76,6 +76,8 @@ fn main(rt: HostRuntime) {
         }
     };
     if let Err(error) = written {
-        tell_failure(&errors, b"standard output", error);
+        // In one write, so that nothing else on standard error comes between name and reason. A failure to write there cannot be told.
+        let reason = Reason(error);
+        let _ = println!(errors; "standard output: {reason}");
     }
 }

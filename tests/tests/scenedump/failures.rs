@@ -3,6 +3,8 @@ use crate::formatter::{dump_of, Options};
 use crate::program::{command, end_of, file_of, folder, program, run, run_with, Written};
 use crate::{longest, EXAMPLE, LISTED};
 use std::fs::{self, File};
+use std::os::fd::OwnedFd;
+use std::os::unix::net::UnixDatagram;
 use std::os::unix::process::ExitStatusExt;
 use std::process::Command;
 
@@ -57,6 +59,25 @@ fn standard_output_that_cannot_be_written() {
     assert_eq!(run_with(&["missing.book"], |c| _ = c.stdout(full())), missing);
     assert_eq!(run_with(&["-x"], |c| _ = c.stderr(full())), Written::output(""));
     assert_eq!(run_with(&[book], |c| _ = c.stderr(full())), Written::output(LISTED));
+}
+
+/// Several programs may share standard error, so the message about standard output is one write. Each write to this socket is a message of
+/// its own.
+#[test]
+fn failed_output_is_reported_in_one_write() {
+    let book = file_of("h.book", &EXAMPLE);
+    for arguments in [&[book][..], &[book, "0"], &["-h"]] {
+        let (ours, theirs) = UnixDatagram::pair().expect("a pair");
+        let full = File::options().write(true).open("/dev/full").expect("opened");
+        let status = command(arguments).stdout(full).stderr(OwnedFd::from(theirs)).status().expect("run");
+        assert!(status.success(), "{status}");
+        ours.set_nonblocking(true).expect("set");
+        let mut message = [0; 128];
+        let length = ours.recv(&mut message).expect("a message");
+        assert_eq!(String::from_utf8_lossy(&message[..length]), "standard output: No space left on device\n", "{arguments:?}");
+        let next = ours.recv(&mut message);
+        assert!(!matches!(next, Ok(length) if length > 0), "{arguments:?}: a second write of {next:?} bytes");
+    }
 }
 
 /// A file that may not grow past a limit gets what fits, and the rest is not lost silently.
