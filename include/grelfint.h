@@ -37,10 +37,10 @@
  * has 184 bytes, a gateway 600, and the largest answer 688 (grelfint_release).
  *
  *     start                       192      confirm            24
- *     tick                        806      uart_receiver       8
- *     tick_in_place               422      uart_receive      480
+ *     tick                        272      uart_receiver       8
+ *     tick_in_place               150      uart_receive      480
  *     actual_levels               144      uart_frame         80
- *     handle_request            1,936      gateway_start      16
+ *     handle_request            1,744      gateway_start      16
  *     frc                         245      bond            2,056
  *     view_status                   8      unbond          2,056
  *     compile                     368      clear_bonds       744

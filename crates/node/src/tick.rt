@@ -1,10 +1,10 @@
 // The tick, which the main loop calls once a second.
 ghost use Rattle.std.specs.Prelude.{◌≡◌};
 ghost use Rattle.dpa.specs.Refusal.{refusal_of};
-ghost use Rattle.node.specs.Node.{tick_lamps, tick_of, node_seen};
+ghost use Rattle.node.specs.Node.{tick_lamps, tick_node, tick_of, node_seen};
 
 use crate::record::{Node, NodeAnswer, node_ok};
-use dpa::refusal::{Refusal, status_of};
+use dpa::refusal::{NONE, Refusal};
 use lights::lamp::{LAMPS, Lamp, tick_lamp};
 
 // A loop: `lamps.map(tick_lamp)` is not vectorized and takes three times as long.
@@ -19,18 +19,26 @@ fn tick_lamps(lamps: [Lamp; LAMPS]) -> [Lamp; LAMPS]
     next
 }
 
+// A sound node one second later.
+#[tactic(auto, unfolding(crate::specs::Node::tick_node))]
+fn tick_node(node: Node) -> Node
+    ensures { result ≡ tick_node node }
+{
+    Node {
+        lamps: tick_lamps(node.lamps),
+        ..node
+    }
+}
+
 // Returns the node one second later.
-#[tactic(auto, unfolding(crate::specs::Node::tick_of, crate::specs::Node::tick_node))]
+#[tactic(auto, unfolding(crate::specs::Node::tick_of))]
 pub fn tick(node: Node) -> Result<Node, Refusal>
     ensures { node_seen node result ≡ tick_of node }
 {
     if !node_ok(node) {
         return Err(Refusal::Node);
     }
-    Ok(Node {
-        lamps: tick_lamps(node.lamps),
-        ..node
-    })
+    Ok(tick_node(node))
 }
 
 // Ticks the caller's node record in place.
@@ -41,15 +49,20 @@ pub fn tick_in_place(node: &mut Node) -> Result<(), Refusal>
     Ok(())
 }
 
-// What C gets: the node one second later, or as it was if it breaks the node rule. The copy ticks in place, because a `Result` with the node
+// What C gets: the node one second later, or as it was if it breaks the node rule. It does not call `tick`, because a `Result` with the node
 // would be copied once more.
+#[tactic(auto, unfolding(crate::specs::Node::tick_of))]
 pub fn tick_answer(node: Node) -> NodeAnswer
     ensures { result ≡ tick_of node }
 {
-    let mut next = node;
-    let outcome = tick_in_place(&mut next);
+    if !node_ok(node) {
+        return NodeAnswer {
+            refusal: u8::from(Refusal::Node),
+            node,
+        };
+    }
     NodeAnswer {
-        refusal: status_of(outcome),
-        node: next,
+        refusal: NONE,
+        node: tick_node(node),
     }
 }

@@ -1,15 +1,10 @@
 -- `check_list` recurses on the rest of the list, which gets shorter by each entry.
 use native.Mathlib.Omega.{arith}
-use mathlib.Core.Path.{sym, ap, ◌∙◌}
-use borrow.Author.Rules.{rules}
-use Prim.Native.Nat.{◌+◌, ◌<◌}
-use Rattle.std.proofs.Common.{◌^◌}
+use mathlib.Core.Path.{sym, ◌∙◌}
 use lib.ListN.{length-drop, length-take}
-use Rattle.batch.specs.Seen.{check_seen}
 use Rattle.batch.proofs.Entries.{entry_sized}
 use Rattle.batch.proofs.Lists.{check_end, check_fault, check_entry}
 use Rattle.batch.proofs.Places.{place_in_list}
-use Rattle.batch.proofs.CheckResults.{check_moved}
 use Rattle.batch.proofs.list.+check_list.Goals as goal
 
 pub returns-then-at_end : goal.returns-then-at_end
@@ -29,16 +24,15 @@ check_list-requires t c =
     let z = entry_sized c.args.rest.now (sym c.in-Ok.ensures) in
     (simp (length-take, length-drop) (omega arith), tt)
 
-pub map_err-requires : goal.map_err-requires
-map_err-requires t c =
-    λ f was.
+pub after-requires : goal.after-requires
+after-requires t c =
     let s = c.args.rest.now in
     let l = c.in-Ok.field-0.len in
     let inside = entry_sized s (sym c.in-Ok.ensures) in
-    let fits : l + f.at < 2 ^ 64 = omega (arith, place_in_list s l inside.1 (sym (ap check_seen was) ∙ c.check_list.ensures)) in
-    search rules
+    omega (arith, place_in_list s l inside.1 c.in-Err.ensures)
+
+pub returns-in-Err : goal.returns-in-Err
+returns-in-Err t c = rw (c.after.ensures) (check_entry c.args.rest.now (sym c.in-Ok.ensures) c.in-Err.ensures)
 
 pub returns : goal.returns
-returns t c =
-    check_moved _ _ (λ f g e. search rules) _ _ c.map_err.ensures.cases
-    ∙ check_entry c.args.rest.now (sym c.in-Ok.ensures) c.check_list.ensures
+returns t c = check_entry c.args.rest.now (sym c.in-Ok.ensures) c.in_default-check_list.ensures
