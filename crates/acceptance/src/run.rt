@@ -14,7 +14,8 @@ use memory::block::Memory;
 use node::record::{Node, node_ok};
 use scene::compile::{CompileAnswer, CompileError, compile};
 
-// The result in a form that can cross to C: the refusal, the number of the bad step with refusals 81 to 84, and the node afterwards.
+// The result in a form that can cross to C: the refusal, the number of the bad step with refusals 81 to 84 and 0 otherwise, and the node
+// afterwards.
 #[repr(C)]
 #[derive(Clone, Copy)]
 pub struct SceneAnswer {
