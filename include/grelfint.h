@@ -40,7 +40,7 @@
  *     tick                        272      uart_receiver       8
  *     tick_in_place               150      uart_receive      480
  *     actual_levels               144      uart_frame         80
- *     handle_request            1,744      gateway_start      16
+ *     handle_request            1,600      gateway_start      16
  *     frc                         245      bond            2,056
  *     view_status                   8      unbond          2,056
  *     compile                     368      clear_bonds       744

@@ -6,8 +6,8 @@ ghost use Rattle.outcome.specs.Request.{execute, handle_frame, handle_request};
 ghost use Rattle.outcome.specs.Effect.{request_effect};
 ghost use Rattle.outcome.specs.Seen.{state_from_parts, request_seen, response_seen, addressed_result, answer_in_response, call_result};
 
-use dpa::error::errn_of;
 use dpa::frame::{Frame, write_response_header};
+use dpa::refusal::NONE;
 use effects::apply::apply;
 use lights::lamp::{LAMPS, Lamp};
 use node::record::{Node, ReadOnly};
@@ -45,21 +45,17 @@ fn respond(
     }
     let data = &mut response[Frame::RESPONSE_HEADER..];
     let reply = answer(fixed, lamps, request, ram, eeprom, external, data);
-    let Some(RequestReply { outcome, .. }) = reply else {
+    let Some(RequestReply { error, length, .. }) = reply else {
         return Response {
             reply: None,
             length: 0,
         };
     };
-    write_response_header(
-        response,
-        fixed.settings,
-        header.pnum,
-        header.pcmd,
-        errn_of(outcome),
-    );
-    let length = Frame::RESPONSE_HEADER + outcome.unwrap_or(0);
-    Response { reply, length }
+    write_response_header(response, fixed.settings, header.pnum, header.pcmd, error);
+    Response {
+        reply,
+        length: Frame::RESPONSE_HEADER + length,
+    }
 }
 
 // Whether a frame is for all nodes or for the one with this address.
@@ -85,7 +81,7 @@ fn handle_frame(
 {
     let request = Request::read(frame);
     if !addressed(request.header.nadr, node.settings.address) {
-        return answer_unhandled(node, Ok(()));
+        return answer_unhandled(node, NONE);
     }
     let fixed = ReadOnly::from(node);
     let lamps = node.lamps;
@@ -97,7 +93,7 @@ fn handle_frame(
         external,
     };
     let after = apply(fixed, lamps, done.effect(), request, &mut memories);
-    answer_handled(fixed.node(after, ram), done)
+    answer_handled(fixed.node(after, ram), done.length, done.report())
 }
 
 // Handles a request. A refused call changes nothing. Node, memories and buffers come one by one, as C passes them (grelfint_handle_request).
@@ -121,6 +117,6 @@ pub fn handle_request(
     );
     match accepted {
         Ok(()) => handle_frame(node, frame, eeprom, external, response),
-        Err(_) => answer_unhandled(node, accepted),
+        Err(refusal) => answer_unhandled(node, u8::from(refusal)),
     }
 }

@@ -19,6 +19,7 @@ use Rattle.batch.specs.Selective.{Selection, TooShort, NotSelected, Selected, se
 use Rattle.node.specs.declared.record.Node.{Node}
 use Rattle.node.specs.Node.{node_ok, with_lamps}
 use Rattle.node.specs.State.{State, with_node, memory_of, with_memory}
+use Rattle.outcome.specs.declared.reply.Report.{Report}
 
 -- ---- peripherals
 
@@ -62,11 +63,6 @@ entry_error i st = (execute_entry i st).error
 
 -- what a request reports to the caller besides the response: the load mark of the code check, or the reason and the place in PData
 -- of the first fault of a list
-pub record Report : Type 0 where
-  pub load : Bool
-  pub reason : ℕ
-  pub place : ℕ
-
 abbrev pub load_report : Bool → Report
 load_report mark = record { load = mark; reason = 0; place = 0 }
 

@@ -5,23 +5,21 @@ use Rattle.dpa.specs.declared.frame.Frame.{Frame}
 use Rattle.dpa.specs.declared.settings.Settings.{Settings}
 use Rattle.dpa.specs.Lists.{overwrite_front}
 use Rattle.dpa.specs.Frame.{broadcast_nadr}
-use Rattle.dpa.specs.Error.{error_of}
 use Rattle.dpa.specs.Pnum.{lights_pnum}
-use Rattle.dpa.specs.Reply.{length_of}
 use Rattle.memory.specs.declared.block.Memory.TheVariants.{Eeprom, Ram, External}
 use Rattle.memory.specs.Block.{memory_pnum, size_of}
 use Rattle.memory.specs.Request.{memory_request}
 use Rattle.lights.specs.declared.lamp.Lamp.{Lamp}
 use Rattle.lights.specs.Lights.{lights_request}
-use Rattle.batch.specs.declared.fault.ListFault.{ListFault}
-use Rattle.batch.specs.Batch.{Request, reading, run_entries}
-use Rattle.batch.specs.Seen.{reason_number}
+use Rattle.batch.specs.Batch.{ListCheck, Sound, Broken, Request, reading, run_entries}
 use Rattle.node.specs.declared.record.Node.{Node}
 use Rattle.node.specs.declared.record.ReadOnly.{ReadOnly}
 use Rattle.node.specs.Node.{node_from_parts}
 use Rattle.outcome.specs.declared.memories.Memories as lent
 use Rattle.outcome.specs.declared.request.Request as read
-use Rattle.outcome.specs.declared.reply.Report as made_report
+use Rattle.outcome.specs.declared.reply.ListCheck as made_check
+use Rattle.outcome.specs.declared.reply.ListCheck.TheVariants as variant
+use Rattle.outcome.specs.declared.reply.Report.{Report}
 use Rattle.outcome.specs.declared.reply.RequestReply as made_reply
 use Rattle.outcome.specs.declared.reply.Response.{Response}
 use Rattle.outcome.specs.declared.answer.RequestAnswer.{RequestAnswer}
@@ -29,7 +27,7 @@ use Rattle.node.specs.State.{State, state}
 use Rattle.outcome.specs.declared.reply.Effect.{Effect}
 use Rattle.outcome.specs.declared.reply.Effect.TheVariants.{Nothing}
 use Rattle.outcome.specs.Effect.{on_success}
-use Rattle.outcome.specs.Request.{hwpid_matches, header_request, Report, load_report, no_report, Outcome, CallResult, unanswered_result, unicast_result}
+use Rattle.outcome.specs.Request.{hwpid_matches, header_request, no_report, Outcome, CallResult, unanswered_result, unicast_result}
 
 -- ---- the effect of a request: the node is split into parts, and the lamps change apart from the memories
 
@@ -132,19 +130,15 @@ pub record SeenAnswer : Type 0 where
 abbrev pub reply_and_buffer : RequestReply → List ℕ → SeenAnswer
 reply_and_buffer reply out = record { reply = reply; out = out }
 
--- the report that the code has: 0 and 0 without a fault
-abbrev pub report_with : Bool → Option ListFault → Report
-report_with load None = load_report load
-report_with load (Some f) = record { load = load; reason = reason_number f.reason; place = f.at }
-
-abbrev pub report_of : made_report.Report → Report
-report_of report = report_with report.load report.fault
+-- the check of a list that the code has
+abbrev pub check_of : made_check.ListCheck → ListCheck
+check_of variant.Sound = Sound
+check_of (variant.Broken r a) = Broken r a
 
 -- the reply that the code has; None is no answer
 abbrev pub reply_of : Option made_reply.RequestReply → RequestReply
 reply_of None = unanswered_only
-reply_of (Some r) =
-    record { answered = true; error = error_of r.outcome; report = report_of r.report; length = length_of r.outcome; effect = r.effect }
+reply_of (Some r) = record { answered = true; error = r.error; report = r.report; length = r.length; effect = r.effect }
 
 -- as the code has it
 abbrev pub answer_seen : Option made_reply.RequestReply → List ℕ → SeenAnswer

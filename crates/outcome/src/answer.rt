@@ -1,13 +1,12 @@
 // What `handle_request` returns.
 ghost use Rattle.std.specs.Prelude.{◌≡◌, true, false, ◌≤◌};
 ghost use Rattle.dpa.specs.Frame.{pdata_max};
-ghost use Rattle.dpa.specs.Refusal.{refusal_of};
 ghost use Rattle.outcome.specs.Request.{no_report};
-ghost use Rattle.outcome.specs.Seen.{reply_of, request_answer};
+ghost use Rattle.outcome.specs.Seen.{request_answer};
 
-use crate::reply::Response;
+use crate::reply::Report;
 use batch::fault;
-use dpa::refusal::{NONE, Refusal, status_of};
+use dpa::refusal::NONE;
 use node::record::Node;
 
 // The refusal, the length of the response, the load mark, whether the frame was addressed to this node or to all, why and at which
@@ -26,11 +25,11 @@ pub struct RequestAnswer {
 }
 
 // Refused, or addressed to another node: nothing was done.
-pub fn answer_unhandled(node: Node, accepted: Result<(), Refusal>) -> RequestAnswer
-    ensures { result ≡ request_answer (refusal_of accepted) 0 no_report false node }
+pub fn answer_unhandled(node: Node, refusal: u8) -> RequestAnswer
+    ensures { result ≡ request_answer refusal 0 no_report false node }
 {
     RequestAnswer {
-        refusal: status_of(accepted),
+        refusal,
         length: 0,
         load: false,
         addressed: false,
@@ -40,24 +39,19 @@ pub fn answer_unhandled(node: Node, accepted: Result<(), Refusal>) -> RequestAns
     }
 }
 
-// Handled, with the node after the request. `RequestAnswer` has the fields of the report among its own. A place is at most the length of
-// PData, so it fits a byte.
-pub fn answer_handled(node: Node, done: Response) -> RequestAnswer
-    requires { (reply_of done.reply).report.place ≤ pdata_max }
-    ensures { result ≡ request_answer 0 done.length (reply_of done.reply).report true node }
+// Handled, with the node after the request and what the request reports. `RequestAnswer` has the fields of the report among its own. A place
+// is at most the length of PData, so it fits a byte.
+pub fn answer_handled(node: Node, length: usize, report: Report) -> RequestAnswer
+    requires { report.place ≤ pdata_max }
+    ensures { result ≡ request_answer 0 length report true node }
 {
-    let report = done.report();
-    let (reason, place) = match report.fault {
-        Some(fault) => (u8::from(fault.reason), fault.at as u8),
-        None => (fault::NONE, 0),
-    };
     RequestAnswer {
         refusal: NONE,
-        length: done.length,
+        length,
         load: report.load,
         addressed: true,
-        reason,
-        place,
+        reason: report.reason,
+        place: report.place as u8,
         node,
     }
 }

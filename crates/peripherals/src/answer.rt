@@ -13,7 +13,7 @@ use lights::lamp::{LAMPS, Lamp};
 use memory::block::Memory;
 use node::record::ReadOnly;
 use outcome::hwpid::hwpid_matches;
-use outcome::reply::{Effect, RequestReply, error_reply, peripheral_reply};
+use outcome::reply::{Effect, Reply, RequestReply, error_reply, peripheral_reply};
 use outcome::request::Request;
 
 // Tests the HWPID, then asks the peripheral of the PNUM. The response data goes to the front of `out`. That it has room is a `requires`, here
@@ -37,7 +37,7 @@ pub fn answer(
 {
     let Request { header, pdata } = request;
     if !hwpid_matches(fixed.settings, header.hwpid) {
-        return Some(error_reply(Err(ErrN::Hwpid)));
+        return Some(error_reply(u8::from(ErrN::Hwpid)));
     }
     let pcmd = header.pcmd;
     let (outcome, effect) = match header.pnum {
@@ -60,5 +60,5 @@ pub fn answer(
         ),
         _ => (Err(ErrN::Pnum), Effect::Alone),
     };
-    Some(peripheral_reply(outcome, effect))
+    Some(peripheral_reply(Reply::from(outcome), effect))
 }

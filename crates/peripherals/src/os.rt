@@ -12,7 +12,7 @@ use batch::list::{BATCH, check_list};
 use batch::selective::{SELECTIVE_BATCH, Selection, select};
 use checksum::check::{CODE_CHECK, code_check};
 use dpa::error::ErrN;
-use outcome::reply::{Effect, Report, RequestReply, error_reply, list_reply};
+use outcome::reply::{Effect, ListCheck, Reply, Report, RequestReply, error_reply, list_reply};
 
 // Checks the whole list of a batch.
 #[tactic(auto, unfolding(outcome::specs::Request::batch_request, outcome::specs::Effect::on_success))]
@@ -20,9 +20,9 @@ fn batch_answer(pdata: &[u8]) -> RequestReply
     ensures { (st : State) (o : List ℕ) → answer_seen (Some result) o ≡ answer_in_buffer (batch_request pdata.now st) Effect.Batch o }
 {
     if pdata.is_empty() {
-        return error_reply(Err(ErrN::DataLen));
+        return error_reply(u8::from(ErrN::DataLen));
     }
-    list_reply(check_list(pdata), Effect::Batch)
+    list_reply(ListCheck::from(check_list(pdata)), Effect::Batch)
 }
 
 // PData that is too short is an error for every node. A node that the set does not name gives no answer, not even to a broken list.
@@ -32,9 +32,11 @@ fn selective_answer(address: u16, pdata: &[u8]) -> Option<RequestReply>
         → answer_seen result o ≡ answer_in_buffer (selective_request pdata.now st) Effect.Selective o }
 {
     match select(pdata, address) {
-        Selection::TooShort => Some(error_reply(Err(ErrN::DataLen))),
+        Selection::TooShort => Some(error_reply(u8::from(ErrN::DataLen))),
         Selection::NotSelected => None,
-        Selection::Selected(check) => Some(list_reply(check, Effect::Selective)),
+        Selection::Selected(check) => {
+            Some(list_reply(ListCheck::from(check), Effect::Selective))
+        }
     }
 }
 
@@ -55,16 +57,18 @@ pub fn os_answer(
         BATCH => Some(batch_answer(pdata)),
         CODE_CHECK => {
             let checked = code_check(external, pdata, out);
+            let Reply { error, length } = Reply::from(checked.and(Ok(1)));
             Some(RequestReply {
-                outcome: checked.and(Ok(1)),
+                error,
                 report: Report {
                     load: checked == Ok(true),
-                    fault: None,
+                    ..Report::NONE
                 },
+                length,
                 effect: Effect::Nothing,
             })
         }
         SELECTIVE_BATCH => selective_answer(address, pdata),
-        _ => Some(error_reply(Err(ErrN::Pcmd))),
+        _ => Some(error_reply(u8::from(ErrN::Pcmd))),
     }
 }
