@@ -7,7 +7,7 @@ ghost use Rattle.outcome.specs.Effect.{request_effect};
 ghost use Rattle.outcome.specs.Seen.{state_from_parts, request_seen, response_seen, addressed_result, answer_in_response, call_result};
 
 use dpa::frame::{Frame, write_response_header};
-use dpa::refusal::NONE;
+use dpa::refusal;
 use effects::apply::apply;
 use lights::lamp::{LAMPS, Lamp};
 use node::record::{Node, ReadOnly};
@@ -81,7 +81,7 @@ fn handle_frame(
 {
     let request = Request::read(frame);
     if !addressed(request.header.nadr, node.settings.address) {
-        return answer_unhandled(node, NONE);
+        return answer_unhandled(node, refusal::NONE);
     }
     let fixed = ReadOnly::from(node);
     let lamps = node.lamps;

@@ -82,7 +82,7 @@ impl From<Result<(), ListFault>> for ListCheck {
 }
 
 // ErrN, the report, the length of the data, and what is still to be changed. ErrN and the reason are numbers, as in the response and in the
-// record for C, and any number can stand there. A request that is not answered has no reply.
+// record for C. Any number can stand there. A request that is not answered has no reply.
 #[derive(Clone, Copy, Debug, PartialEq, Eq)]
 pub struct RequestReply {
     pub error: u8,
