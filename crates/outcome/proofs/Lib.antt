@@ -5,6 +5,7 @@ pub mod Calls
 pub mod Soundness
 pub mod Sizes
 pub mod Errors
+pub mod Named
 pub mod Reports
 pub mod SelectiveBatches
 pub mod Parts
